@@ -1,6 +1,6 @@
 -- One value taken in before a list that begins no earlier.
-use Rattle.std.proofs.Common.{◌≡◌, ◌⊎◌, ℕ, zero, suc, ◌<◌, ◌≤◌, Bool, true, List, [], ◌∷◌, ◌++◌, length}
-use Rattle.std.proofs.Common.{Contains, inl, inr, refl, sym, ◌∙◌, subst, arith}
+use Rattle.std.proofs.Common.{◌≡◌, ◌⊎◌, ℕ, zero, suc, ◌<◌, ◌≤◌, Bool, true, false, List, [], ◌∷◌, ◌++◌, length}
+use Rattle.std.proofs.Common.{Contains, inl, inr, refl, sym, ◌∙◌, ap, subst, arith}
 use Rattle.std.proofs.lemmas.List.Elements.{Contains-push, Contains-push_cases}
 use Rattle.reasoning.proofs.ListLemmas.{not_in_nil}
 use Rattle.criteria.specs.Laws.{Rules, Laws, Admits, IsSecs}
@@ -24,6 +24,14 @@ read_low rules entries met items met_items m v w test met_is items_are worth is 
     let read = betters_some rules (front met met_items m) v (sym is ∙ low) in
     subst (λ es. Betters rules (front es items m) w) met_is (subst (λ ps. Betters rules (front met ps m) w) items_are
     (subst (λ z. Betters rules (front met met_items m) z) worth read))
+
+-- or betters it not
+pub read_fresh : {V : Type 0} (rules : Rules V) (entries met : List (FrontEntry V)) (items met_items : List (Item V)) (m : ℕ) (v : V) (test : Bool)
+    → met ≡ entries → met_items ≡ items → test ≡ betters rules (front met met_items m) v → test ≡ false
+    → betters rules (front entries items m) v ≡ false
+read_fresh rules entries met items met_items m v test met_is items_are is fresh =
+    sym (ap (λ es. betters rules (front es met_items m) v) met_is ∙ ap (λ ps. betters rules (front entries ps m) v) items_are)
+    ∙ sym is ∙ fresh
 
 module _ {V : Type 0} (rules : Rules V) (ride : RiddenLabel V) where
   fair_one : Admits rules ride.value → (r : RiddenLabel V) → Contains (ride ∷ []) r → Admits rules r.value
@@ -51,6 +59,8 @@ module _ {V : Type 0} (rules : Rules V) (ride : RiddenLabel V) where
         are = are;
         late = late;
         boarded = boardings_none rules departure first walk secs (ride ∷ []) steps [] refl;
+        fresh = λ p h. absurd (not_in_nil p h);
+        alone = λ says. omega arith;
         all = one_walked secs (front entries items after) [] (inr low);
       } in
       takes_none rules laws entries items head departure first walk secs after (ride ∷ []) steps [] known refl
@@ -69,7 +79,8 @@ module _ {V : Type 0} (rules : Rules V) (laws : Laws rules) (entries : List (Fro
   ahead_none steps low = late_none rules ride laws entries items are head departure first walk secs head late_here short fair steps low
 
   module _ (steps new : List Step) (tag : ℕ) (v : V) (worth : v ≡ rules.walk secs ride.value)
-      (pushed : new ≡ steps ++ record { first = first; label = ride.label; walk = walk } ∷ []) (numbered : tag ≡ length steps) where
+      (pushed : new ≡ steps ++ record { first = first; label = ride.label; walk = walk } ∷ []) (numbered : tag ≡ length steps)
+      (fresh : betters rules (front entries items head) v ≡ false) where
     -- the value, with its step's index
     value_kept : ℕ → List (Item V)
     value_kept n = record { departure = departure; value = v; tag = n } ∷ []
@@ -87,6 +98,11 @@ module _ {V : Type 0} (rules : Rules V) (laws : Laws rules) (entries : List (Fro
           are = are;
           late = late_here;
           boarded = m.0;
+          fresh = λ p h. elim (Contains-push_cases [] (record { departure = departure; value = v; tag = length steps }) p h) [
+            | inl n ↦ absurd (not_in_nil p n)
+            | inr e ↦ subst (λ (z : Item V). betters rules (front entries items head) z.value ≡ false) e fresh
+          ];
+          alone = λ says. omega arith;
           all = one_walked rules ride secs (front entries items head) (value_kept (length steps))
               (inl (subst (Betters rules (value_kept (length steps))) worth m.2));
         }
@@ -98,7 +114,7 @@ module _ {V : Type 0} (rules : Rules V) (laws : Laws rules) (entries : List (Fro
         (sym numbered) known_at
 
     -- it may be put
-    pub ahead_may : MayPut rules entries departure head (record { departure = departure; value = v; tag = tag } ∷ [])
+    pub ahead_may : MayPut rules entries items departure head (record { departure = departure; value = v; tag = tag } ∷ [])
     ahead_may = takes_may rules laws entries items head departure first walk secs head (ride ∷ []) new
         (record { departure = departure; value = v; tag = tag } ∷ []) known_one (omega arith)
 

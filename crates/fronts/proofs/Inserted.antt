@@ -1,5 +1,5 @@
 -- An insertion as a whole.
-use Rattle.std.proofs.Common.{◌≡◌, ◌⊎◌, ℕ, ◌<◌, ◌≤◌, List, [], ◌∷◌, length, get_or, Contains, inl, inr, sym, subst, arith}
+use Rattle.std.proofs.Common.{◌≡◌, ◌⊎◌, ℕ, ◌<◌, ◌≤◌, List, [], ◌∷◌, length, get_or, Contains, false, inl, inr, ap, sym, ◌∙◌, subst, arith}
 use Rattle.std.proofs.lemmas.List.Elements.{Contains-append_cases, Contains-push_cases}
 use Rattle.reasoning.proofs.ListLemmas.{not_in_nil}
 use Rattle.criteria.specs.Laws.{Rules, Laws, Admits, IsSecs}
@@ -9,7 +9,8 @@ use Rattle.fronts.specs.declared.entry.RiddenLabel.{RiddenLabel}
 use Rattle.fronts.specs.declared.entry.Step.{Step}
 use Rattle.fronts.specs.Front.{front, next_of, departure_of, points_from, Betters, Covers, Extends}
 use Rattle.fronts.specs.Entries.{AreEntries}
-use Rattle.fronts.specs.Putting.{IsLate, IsPath, DepartBefore, CoversAll, MayPut, IsUnion}
+use Rattle.fronts.specs.Putting.{betters, IsLate, IsPath, DepartBefore, CoversAll, MayPut, IsUnion}
+use Rattle.fronts.specs.Labels.{SaysTotal}
 use Rattle.fronts.specs.Walking.{AreBoardings, AllWalked, TakesBoardings}
 use Rattle.fronts.proofs.Growth.{extends_long, same_points, same_departure, same_next}
 use Rattle.fronts.proofs.Points.{of_front}
@@ -57,6 +58,8 @@ pub record AreWalked {V : Type 0} (rules : Rules V) (entries : List (FrontEntry 
   pub are : AreEntries rules entries items
   pub late : IsLate entries items head departure after
   pub boarded : AreBoardings rules steps departure first walk secs ridden kept
+  pub fresh : (p : Item V) → Contains kept p → betters rules (front entries items after) p.value ≡ false
+  pub alone : SaysTotal rules → length kept ≤ 1
   pub all : AllWalked rules (front entries items after) secs ridden (length ridden) kept
 
 -- the same, where the list was passed and the values were walked in what was read of it
@@ -67,15 +70,20 @@ pub walked : {V : Type 0} (rules : Rules V) (entries : List (FrontEntry V)) (ite
     → ((r : RiddenLabel V) → Contains ridden r → Admits rules r.value) → AreEntries rules entries items
     → IsLate passed passed_items head departure after
     → AreBoardings rules steps departure first walk secs ridden kept
+    → ((p : Item V) → Contains kept p → betters rules (front met met_items after) p.value ≡ false)
+    → (SaysTotal rules → length kept ≤ 1)
     → AllWalked rules (front met met_items after) secs ridden (length ridden) kept
     → AreWalked rules entries items head departure first walk secs after ridden steps kept
 walked {V} rules entries items head departure first walk secs after ridden steps kept passed met passed_items met_items
-    passed_is passed_items_is met_is met_items_is short fair are late boarded all = record {
+    passed_is passed_items_is met_is met_items_is short fair are late boarded fresh alone all = record {
       short = short;
       fair = fair;
       are = are;
       late = subst (λ es. IsLate es items head departure after) passed_is (subst (λ ps. IsLate passed ps head departure after) passed_items_is late);
       boarded = boarded;
+      fresh = λ p h. sym (ap (λ es. betters rules (front es met_items after) p.value) met_is
+          ∙ ap (λ ps. betters rules (front entries ps after) p.value) met_items_is) ∙ fresh p h;
+      alone = alone;
       all = subst (λ es. AllWalked rules (front es items after) secs ridden (length ridden) kept) met_is
           (subst (λ ps. AllWalked rules (front met ps after) secs ridden (length ridden) kept) met_items_is all);
     }
@@ -109,13 +117,15 @@ module _ {V : Type 0} (rules : Rules V) (laws : Laws rules) (entries : List (Fro
     ];
   }
 
-  pub takes_may : 0 < length kept → MayPut rules entries departure after kept
+  pub takes_may : 0 < length kept → MayPut rules entries items departure after kept
   takes_may some = record {
     within = are.late.within;
     early = are.late.late;
     some = some;
     departs = λ p h. (are.boarded p h).departs;
     admitted = kept_admitted;
+    fresh = are.fresh;
+    alone = are.alone;
   }
 
   pub takes_covers : (two : List (FrontEntry V)) (two_items : List (Item V)) (put : List (Item V)) → Extends entries two

@@ -1,5 +1,6 @@
 -- Two lists joined.
-use Rattle.std.proofs.Common.{◌≡◌, ◌⊎◌, ℕ, ◌<◌, true, false, not, List, length, Contains, inl, inr, sym, ◌∙◌, ap, subst, arith}
+use Rattle.std.proofs.Common.{◌≡◌, ◌⊎◌, ℕ, ◌<◌, ◌≤◌, Bool, cond, filter, true, false, not, List, [], ◌∷◌}
+use Rattle.std.proofs.Common.{length, Contains, inl, inr, sym, ◌∙◌, ap, subst, arith}
 use Rattle.std.proofs.lemmas.Bool.{cases_Bool, true≢false, not-true}
 use Rattle.std.proofs.lemmas.List.Folds.{list_any-from_Any}
 use Rattle.reasoning.proofs.ListLemmas.{from_filter, into_filter}
@@ -10,11 +11,20 @@ use Rattle.fronts.specs.Front.{front, next_of, departure_of, points_from, Better
 use Rattle.fronts.specs.Entries.{AreEntries}
 use Rattle.fronts.specs.Putting.{betters, left_by, CoversAll, MayPut, IsUnion}
 use Rattle.fronts.proofs.Growth.{same_points, same_next}
-use Rattle.fronts.proofs.Points.{of_front, of_next, front_or_next, front_betters_all, points_admitted}
+use Rattle.fronts.proofs.Points.{of_front, of_next, front_or_next, front_betters_all, front_few, points_admitted}
 use Rattle.fronts.proofs.OnePut.{betters_some}
 
 betters_from : {V : Type 0} (rules : Rules V) (points : List (Item V)) (v : V) → Betters rules points v → betters rules points v ≡ true
 betters_from {V} rules points v (p, h, w) = list_any-from_Any (λ (q : Item V). rules.no_worse q.value v) points (h.0, p, h.1, h.2, w)
+
+-- of at most one, at most one passes
+few_pass : {X : Type 0} (test : X → Bool) (xs : List X) → length xs ≤ 1 → length (filter test xs) ≤ 1
+few_pass test [] few = omega arith
+few_pass {X} test (x ∷ []) few = elim (cases_Bool (test x)) [
+  | inl t ↦ subst (λ b. length {A = X} (cond b (x ∷ []) []) ≤ 1) (sym t) (omega arith)
+  | inr f ↦ subst (λ b. length {A = X} (cond b (x ∷ []) []) ≤ 1) (sym f) (omega arith)
+]
+few_pass test (x ∷ y ∷ xs) few = absurd (omega arith)
 
 module _ {V : Type 0} (rules : Rules V) (laws : Laws rules) (entries : List (FrontEntry V)) (items : List (Item V))
     (are : AreEntries rules entries items) (from index : ℕ)
@@ -45,6 +55,11 @@ module _ {V : Type 0} (rules : Rules V) (laws : Laws rules) (entries : List (Fro
               (next_bettered p (of_front rules entries items are (next_of entries from) p n))) ∙ no))
         ],
       )
+
+  kept_fresh : (p : Item V) → Contains kept p → betters rules (front entries items index) p.value ≡ false
+  kept_fresh p h = not-true (betters rules (front entries items index) p.value)
+      (from_filter (λ (q : Item V). not (betters rules (front entries items index) q.value)) (front entries items from) p
+      (subst (λ ps. Contains ps p) is h)).1
 
   kept_or_bettered : (p : Item V) → Contains (front entries items from) p → Contains kept p ⊎ Betters rules (front entries items index) p.value
   kept_or_bettered p h = elim (cases_Bool (betters rules (front entries items index) p.value)) [
@@ -84,13 +99,17 @@ module _ {V : Type 0} (rules : Rules V) (laws : Laws rules) (entries : List (Fro
     kept_second = λ d v a c. c;
   }
 
-  pub joined_may : 0 < length kept → index < length entries → MayPut rules entries (departure_of entries from) index kept
+  pub joined_may : 0 < length kept → index < length entries → MayPut rules entries items (departure_of entries from) index kept
   joined_may some lt = record {
     within = lt;
     early = omega arith;
     some = some;
     departs = λ p h. (kept_is p h).1;
     admitted = λ p h. (are.each from).admitted p (kept_is p h).0;
+    fresh = kept_fresh;
+    alone = λ says. subst (λ ps. length ps ≤ 1) (sym is)
+        (few_pass (λ (q : Item V). not (betters rules (front entries items index) q.value)) (front entries items from)
+        (front_few rules entries items are says from));
   }
 
   -- what is kept is put before the list

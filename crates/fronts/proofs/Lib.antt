@@ -8,6 +8,7 @@ pub mod OnePut
 pub mod Joining
 pub mod Walks
 pub mod Inserted
+pub mod Each
 pub mod Mapped
 pub mod Runs
 pub mod Slots

@@ -1,6 +1,7 @@
 -- Items as points.
-use Rattle.std.proofs.Common.{◌≡◌, ℕ, ◌≤◌, true, List, [], ◌∷◌, map, Contains, inl, inr, sym, subst}
+use Rattle.std.proofs.Common.{◌≡◌, ℕ, ◌<◌, ◌≤◌, true, List, [], ◌∷◌, length, take, drop, map, Contains, inl, inr, sym, ◌∙◌, ap, subst, arith}
 use Rattle.std.proofs.lemmas.List.Elements.{Contains-append_cases, Contains-append_left, Contains-append_right, Contains-push, Contains-push_cases}
+use Rattle.std.proofs.lemmas.Option.{slice_get_cases}
 use Rattle.reasoning.proofs.ListLemmas.{not_in_nil}
 use Rattle.criteria.specs.Laws.{Rules, Laws, Admits}
 use Rattle.bags.specs.declared.point.Point.{Point}
@@ -9,12 +10,13 @@ use Rattle.fronts.specs.declared.entry.Item.{Item}
 use Rattle.fronts.specs.declared.entry.FrontEntry.{FrontEntry}
 use Rattle.fronts.specs.declared.entry.RiddenLabel.{RiddenLabel}
 use Rattle.fronts.specs.declared.entry.Step.{Step}
-use Rattle.fronts.specs.Front.{front, points_from, Covers}
+use Rattle.fronts.specs.Front.{own, front, points_from, Covers}
 use Rattle.fronts.specs.Entries.{AreEntries}
+use Rattle.fronts.specs.Labels.{SaysTotal}
 use Rattle.fronts.specs.Putting.{IsLate}
 use Rattle.fronts.specs.Walking.{TakesBoardings}
 use Rattle.fronts.specs.Lists.{point_of, IsBettered, TakesRidden}
-use Rattle.fronts.proofs.Points.{front_from, points_admitted}
+use Rattle.fronts.proofs.Points.{front_at, front_from, points_admitted}
 
 module _ {V : Type 0} where
   pub into_points : (xs : List (Item V)) (x : Item V) → Contains xs x → Contains (map point_of xs) (point_of x)
@@ -59,6 +61,18 @@ module _ {V : Type 0} where
     kept = λ d v a c. covered_points rules new d v (takes.kept d v a (covered_items rules old d v c));
     covered = λ r h. covered_points rules new departure (rules.walk secs r.value) (takes.covered r h);
   }
+
+  -- under a total order a front is one point
+  pub one_point : (rules : Rules V) (entries : List (FrontEntry V)) (items : List (Item V))
+      → AreEntries rules entries items → SaysTotal rules → (m : ℕ) → 0 < m → m < length entries
+      → 1 ≡ length (map point_of (front entries items m))
+  one_point rules entries items are says m some lt = elim (slice_get_cases entries m).1 [
+    | inl s ↦
+        let e = s.0 in
+        ap (λ n. length (map point_of (own e ∷ take n (drop e.rest items)))) (sym (are.alone says m e s.2))
+        ∙ sym (ap (λ ps. length (map point_of ps)) (front_at entries items m e some lt (sym s.3)))
+    | inr o ↦ (let past = o.0 in absurd (omega arith))
+  ]
 
   pub points_made_of : (rules : Rules V) (laws : Laws rules) (entries : List (FrontEntry V)) (items : List (Item V))
       → AreEntries rules entries items → (head time m : ℕ) → IsLate entries items head time m

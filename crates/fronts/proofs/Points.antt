@@ -1,6 +1,6 @@
 -- The points along a list, and the front of its first entry.
 use Rattle.std.proofs.Common.{◌≡◌, ◌⊎◌, ℕ, zero, suc, ◌+◌, ◌<◌, ◌≤◌, List, [], ◌∷◌, ◌++◌, length, Contains, inl, inr}
-use Rattle.std.proofs.Common.{get_or, Some, true, false, ◌||◌, take, drop, refl, sym, ◌∙◌, ap, subst, arith, length-drop}
+use Rattle.std.proofs.Common.{get_or, Option, None, slice_get, Some, true, false, ◌||◌, take, drop, refl, sym, ◌∙◌, ap, subst, arith, length-drop}
 use Rattle.std.proofs.lemmas.List.{length-take-le}
 use Rattle.std.proofs.lemmas.List.Elements.{Contains-append_left, Contains-append_right, Contains-append_cases}
 use Rattle.std.proofs.lemmas.Option.{slice_get-get_or}
@@ -10,6 +10,7 @@ use Rattle.fronts.specs.declared.entry.Item.{Item}
 use Rattle.fronts.specs.declared.entry.FrontEntry.{FrontEntry}
 use Rattle.fronts.specs.Front.{own, front_of, front, next_in, departure_in, next_of, departure_of, points_to, points_from, Betters}
 use Rattle.fronts.specs.Entries.{AreEntries}
+use Rattle.fronts.specs.Labels.{SaysTotal}
 use Rattle.fronts.specs.Putting.{IsLate, betters, outdoes_alone}
 
 -- on the way to the first late entry
@@ -152,6 +153,16 @@ module _ {V : Type 0} (rules : Rules V) (entries : List (FrontEntry V)) (items :
     λ p h late. front_betters_all laws m p (is.all p h late),
   )
 
+  -- under a total order a front is at most one point
+  pub front_few : SaysTotal rules → (m : ℕ) → length (front entries items m) ≤ 1
+  front_few says zero = omega arith
+  front_few says (suc m) = few_of (slice_get entries (suc m)) refl
+    where
+      few_of : (o : Option (FrontEntry V)) → slice_get entries (suc m) ≡ o → length (front_of items o) ≤ 1
+      few_of None at = omega arith
+      few_of (Some e) at =
+          subst (λ n. length (own e ∷ take n (drop e.rest items)) ≤ 1) (sym (are.alone says (suc m) e at)) (omega arith)
+
 -- an entry that is read, read once more
 pub read_again : {V : Type 0} (entries : List (FrontEntry V)) (m : ℕ) (e : FrontEntry V)
     → e ≡ get_or entries m e → get_or entries m e ≡ get_or entries m (get_or entries m e)
@@ -170,6 +181,14 @@ first_betters rules points rest p v e t = ap (λ ps. betters rules ps v) e ∙ a
 pub rest_betters : {V : Type 0} (rules : Rules V) (points rest : List (Item V)) (p : Item V) (v : V) → points ≡ p ∷ rest
     → rules.no_worse p.value v ≡ false → betters rules points v ≡ betters rules rest v
 rest_betters rules points rest p v e t = ap (λ ps. betters rules ps v) e ∙ ap (λ b. b || betters rules rest v) t
+
+-- a front of one point
+pub one_betters : {V : Type 0} (rules : Rules V) (points items : List (Item V)) (e : FrontEntry V) (v : V)
+    → points ≡ own e ∷ take e.count (drop e.rest items) → e.count ≡ 0 → rules.no_worse e.value v ≡ false
+    → betters rules points v ≡ false
+one_betters rules points items e v is none t =
+    rest_betters rules points (take e.count (drop e.rest items)) (own e) v is t
+    ∙ ap (λ n. betters rules (take n (drop e.rest items)) v) none
 
 -- whether a front is outdone, by what its entry has
 pub one_outdone : {V : Type 0} (rules : Rules V) (v : V) (points items : List (Item V)) (e : FrontEntry V)
@@ -194,6 +213,11 @@ pub entry_part : {V : Type 0} (rules : Rules V) (entries : List (FrontEntry V)) 
     → AreEntries rules entries items → (m : ℕ) (e : FrontEntry V) → m < length entries → e ≡ get_or entries m e
     → e.rest + e.count ≤ length items
 entry_part rules entries items are m e lt is = are.within m e (slice_get-get_or entries m e lt ∙ ap Some (sym is))
+
+pub entry_alone : {V : Type 0} (rules : Rules V) (entries : List (FrontEntry V)) (items : List (Item V))
+    → AreEntries rules entries items → SaysTotal rules → (m : ℕ) (e : FrontEntry V) → m < length entries
+    → e ≡ get_or entries m e → e.count ≡ 0
+entry_alone rules entries items are says m e lt is = are.alone says m e (slice_get-get_or entries m e lt ∙ ap Some (sym is))
 
 pub entry_admitted : {V : Type 0} (rules : Rules V) (entries : List (FrontEntry V)) (items : List (Item V))
     → AreEntries rules entries items → (m : ℕ) (e : FrontEntry V) → 0 < m → m < length entries → e ≡ get_or entries m e

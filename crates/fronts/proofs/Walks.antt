@@ -13,12 +13,13 @@ use Rattle.fronts.specs.declared.entry.RiddenLabel.{RiddenLabel}
 use Rattle.fronts.specs.declared.entry.Step.{Step}
 use Rattle.fronts.specs.Front.{Betters, Extends}
 use Rattle.fronts.specs.Entries.{IsEntry, AreEntries}
+use Rattle.fronts.specs.Labels.{SaysTotal}
 use Rattle.fronts.specs.Walking.{IsKept, IsBoarding, AreBoardings, AllWalked}
 use Rattle.fronts.proofs.Growth.{same_at}
 use Rattle.fronts.proofs.Pushing.{linked_none}
 
 module _ {V : Type 0} (rules : Rules V) (departure first walk secs : ℕ) (ridden : List (RiddenLabel V)) where
-  boarding_stays : (steps new : List Step) (p : Item V) → Extends steps new
+  pub boarding_stays : (steps new : List Step) (p : Item V) → Extends steps new
       → IsBoarding rules steps departure first walk secs ridden p
       → IsBoarding rules new departure first walk secs ridden p
   boarding_stays steps new p ext b = record {
@@ -84,12 +85,17 @@ only_end {V} rules v = record {
   never = refl;
   back = λ m. omega arith;
   within = within;
+  alone = alone;
   each = each;
 }
   where
     within : (m : ℕ) (e : FrontEntry V) → slice_get (ending v ∷ []) m ≡ Some e → e.rest + e.count ≤ length {A = Item V} []
     within zero e at = (let same : ending v ≡ e = cc in subst (λ (z : FrontEntry V). z.rest + z.count ≤ 0) same (omega arith))
     within (suc m) e at = absurd cc
+
+    alone : SaysTotal rules → (m : ℕ) (e : FrontEntry V) → slice_get (ending v ∷ []) m ≡ Some e → e.count ≡ 0
+    alone says zero e at = (let same : ending v ≡ e = cc in subst (λ (z : FrontEntry V). z.count ≡ 0) same refl)
+    alone says (suc m) e at = absurd cc
 
     each : (m : ℕ) → IsEntry rules (ending v ∷ []) [] m
     each zero = linked_none rules 4294967295 4294967295

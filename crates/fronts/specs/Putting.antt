@@ -5,7 +5,8 @@ use Rattle.std.specs.List.{list_any}
 use Rattle.criteria.specs.Laws.{Rules, Admits}
 use Rattle.fronts.specs.declared.entry.Item.{Item}
 use Rattle.fronts.specs.declared.entry.FrontEntry.{FrontEntry}
-use Rattle.fronts.specs.Front.{next_of, departure_of, points_from, Covers}
+use Rattle.fronts.specs.Front.{front, next_of, departure_of, points_from, Covers}
+use Rattle.fronts.specs.Labels.{SaysTotal}
 
 -- whether a point of a list is no worse than v (an equal one counts)
 abbrev pub betters : {V : Type 0} → Rules V → List (Item V) → V → Bool
@@ -43,14 +44,17 @@ abbrev pub CoversAll : {V : Type 0} → Rules V → List (Item V) → List (Item
 CoversAll {V} rules old new =
     (departure : ℕ) (v : V) → Admits rules v → Covers rules old departure v → Covers rules new departure v
 
--- points of one departure that may be put before the list from entry m on
-pub record MayPut {V : Type 0} (rules : Rules V) (entries : List (FrontEntry V)) (departure m : ℕ)
-    (points : List (Item V)) : Type 0 where
+-- points of one departure that may be put before the list from entry m on, whose front betters none of them
+pub record MayPut {V : Type 0} (rules : Rules V) (entries : List (FrontEntry V)) (items : List (Item V))
+    (departure m : ℕ) (points : List (Item V)) : Type 0 where
   pub within : m < length entries
   pub early : departure ≤ departure_of entries m
   pub some : 0 < length points
   pub departs : (p : Item V) → Contains points p → p.departure ≡ departure
   pub admitted : (p : Item V) → Contains points p → Admits rules p.value
+  pub fresh : (p : Item V) → Contains points p → betters rules (front entries items m) p.value ≡ false
+  -- under a total order there is only one
+  pub alone : SaysTotal rules → length points ≤ 1
 
 -- a list is made of two sets of points: each of its points is in one of them, and it covers all that they cover
 pub record IsUnion {V : Type 0} (rules : Rules V) (a b new : List (Item V)) : Type 0 where

@@ -91,6 +91,9 @@ impl<C: Criterion> FrontLists<C> {
         if index == 0 {
             return 0;
         }
+        if self.criterion.is_total() {
+            return 1;
+        }
         let entry = self.entries[index as usize];
         with_own(entry.count)
     }
@@ -153,6 +156,9 @@ impl<C: Criterion> FrontLists<C> {
             walk,
             secs,
         };
+        if self.criterion.is_total() {
+            return self.take_each(head, boarding, ridden);
+        }
         insert(
             &self.criterion,
             &mut self.entries,
@@ -199,6 +205,37 @@ impl<C: Criterion> FrontLists<C> {
             secs,
         };
         self.take_one(head, boarding, ride)
+    }
+
+    // Takes the ridden values in, one after the other. Under a total criterion a trip has at most one, so this is rare.
+    #[inline(never)]
+    fn take_each(
+        &mut self,
+        head: u32,
+        boarding: Boarding,
+        ridden: &[RiddenLabel<C::V>],
+    ) -> Result<u32, AllocError>
+        requires sound { IsSound C.rules self.old }
+        requires head { head < length (entries_of self.old) }
+        requires secs { IsSecs boarding.secs }
+        requires ridden { (r : _) → Contains ridden.now r → Admits (C.rules (lists_criterion self.old)) r.value }
+        ensures sound { IsSound C.rules self.new }
+        ensures criterion { lists_criterion self.new ≡ lists_criterion self.old }
+        ensures more_entries { Extends (entries_of self.old) (entries_of self.new) }
+        ensures more_items { Extends (items_of self.old) (items_of self.new) }
+        ensures more_steps { Extends (steps_of self.old) (steps_of self.new) }
+        ensures within { IfOk result (λ new. new < length (entries_of self.new)) }
+        ensures takes { IfOk result (λ new. TakesBoardings (C.rules (lists_criterion self.old)) (steps_of self.new)
+            boarding.departure boarding.first boarding.walk boarding.secs ridden.now
+            (points_from (entries_of self.old) (items_of self.old) head)
+            (points_from (entries_of self.new) (items_of self.new) new)) }
+    {
+        let mut new = head;
+        for k in 0..ridden.len() {
+            let ride = ridden[k];
+            new = self.take_one(new, boarding, ride)?;
+        }
+        Ok(new)
     }
 
     // Takes one ridden value in. In most insertions the list begins no earlier, so that is tested first. If it begins
@@ -347,7 +384,7 @@ impl<C: Criterion> FrontLists<C> {
     #[inline(always)]
     fn put_one(&mut self, head: u32, point: Item<C::V>) -> Result<u32, AllocError>
         requires sound { IsSound C.rules self.old }
-        requires may { MayPut (C.rules (lists_criterion self.old)) (entries_of self.old) point.departure head
+        requires may { MayPut (C.rules (lists_criterion self.old)) (entries_of self.old) (items_of self.old) point.departure head
             (point ∷ []) }
         ensures sound { IsSound C.rules self.new }
         ensures criterion { lists_criterion self.new ≡ lists_criterion self.old }

@@ -6,6 +6,7 @@ ghost use Rattle.fronts.specs.Front.{next_of, departure_of, points_from, Extends
 ghost use Rattle.fronts.specs.Entries.{AreEntries};
 ghost use Rattle.fronts.specs.Putting.{IsPath, DepartBefore, CoversAll, IsUnion};
 ghost use Rattle.fronts.specs.Walking.{TakesBoardings};
+ghost use Rattle.fronts.specs.Labels.{SaysTotal};
 
 use crate::entry::{Arena, Boarding, FrontEntry, Item, RiddenLabel, Step};
 use crate::keeping::{keep_front, keep_walked};
@@ -104,6 +105,7 @@ pub fn insert<C: Criterion>(
     requires head { head < length entries.old.items }
     requires secs { IsSecs boarding.secs }
     requires ridden { (r : _) → Contains ridden.now r → Admits (C.rules criterion.now) r.value }
+    requires few { SaysTotal (C.rules criterion.now) → length ridden.now ≤ 1 }
     ensures entries { AreEntries (C.rules criterion.now) entries.new.items items.new.items }
     ensures more_entries { Extends entries.old.items entries.new.items }
     ensures more_items { Extends items.old.items items.new.items }

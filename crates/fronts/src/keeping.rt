@@ -1,10 +1,10 @@
 //! Points kept for a front that is to be put before a list.
 
-ghost use Rattle.std.specs.Prelude.{◌≡◌, ◌⊎◌, ◌+◌, ◌++◌, ◌∷◌, [], ℕ, ◌<◌, ◌≤◌, length, Contains, IfOk, OnOk};
+ghost use Rattle.std.specs.Prelude.{◌≡◌, ◌⊎◌, ◌+◌, ◌++◌, ◌∷◌, [], ℕ, ◌<◌, ◌≤◌, length, Contains, IfOk, OnOk, false};
 ghost use Rattle.criteria.specs.Laws.{Admits, IsSecs};
 ghost use Rattle.fronts.specs.Front.{front, Extends};
 ghost use Rattle.fronts.specs.Entries.{AreEntries};
-ghost use Rattle.fronts.specs.Putting.{left_by};
+ghost use Rattle.fronts.specs.Putting.{betters, left_by};
 ghost use Rattle.fronts.specs.Walking.{IsKept, AreBoardings, AllWalked};
 
 use crate::entry::{Arena, Boarding, Item, RiddenLabel, Step};
@@ -129,6 +129,10 @@ pub fn keep_walked<C: Criterion>(
     ensures more { Extends steps.old.items steps.new.items }
     ensures boarded { OnOk result (AreBoardings (C.rules criterion.now) steps.new.items boarding.departure
         boarding.first boarding.walk boarding.secs ridden.now kept.new.items) }
+    ensures few { OnOk result (length kept.new.items ≤ length ridden.now) }
+    ensures fresh { OnOk result ((p : _) → Contains kept.new.items p
+        → betters (C.rules criterion.now) (front arena.entry.entries.now arena.entry.items.now index) p.value
+        ≡ false) }
     ensures all { OnOk result (AllWalked (C.rules criterion.now)
         (front arena.entry.entries.now arena.entry.items.now index) boarding.secs ridden.now (length ridden.now)
         kept.new.items) }

@@ -136,7 +136,7 @@ pub fn put<C: Criterion>(
     departure: u32,
 ) -> Result<u32, AllocError>
     requires entries { AreEntries (C.rules criterion.now) entries.old.items items.old.items }
-    requires may { MayPut (C.rules criterion.now) entries.old.items departure index points.now }
+    requires may { MayPut (C.rules criterion.now) entries.old.items items.old.items departure index points.now }
     ensures entries { AreEntries (C.rules criterion.now) entries.new.items items.new.items }
     ensures more_entries { Extends entries.old.items entries.new.items }
     ensures more_items { Extends items.old.items items.new.items }
@@ -175,7 +175,7 @@ pub fn put_alone<C: Criterion>(
     index: u32,
 ) -> Result<u32, AllocError>
     requires entries { AreEntries (C.rules criterion.now) entries.old.items items.now }
-    requires may { MayPut (C.rules criterion.now) entries.old.items point.departure index (point ∷ []) }
+    requires may { MayPut (C.rules criterion.now) entries.old.items items.now point.departure index (point ∷ []) }
     requires outdone { outdoes_alone (C.rules criterion.now) point.value (front entries.old.items items.now index)
         ≡ true }
     ensures entries { AreEntries (C.rules criterion.now) entries.new.items items.now }

@@ -47,7 +47,7 @@ pub fn departures_between<C: Criterion>(
 /// targets, each with a journey that counts, departs when the point does, and is worth the point's value. So journeys
 /// are made stop by stop, and needn't be in memory all at once.
 ///
-/// The source has to be one of the timetable that was scanned. The only error is that memory runs out.
+/// `source` has to read the timetable that was scanned. The only error is that memory runs out.
 pub fn departures_from<S: ConnSource, C: Criterion>(
     alloc: Global,
     source: &S,

@@ -16,29 +16,29 @@ use Rattle.timetable.specs.Legal.{IsLegal}
 use Rattle.timetable.specs.Journeys.{connection_at}
 use Rattle.timetable.proofs.LegalLemmas.{departures_rise, Contains-At}
 use Rattle.profile_scan.specs.Steps.{AreUnpruned}
-use Rattle.profile_scan.specs.Bound.{has_no_worse, unpruned, AreBounds, IsLateValue, TakesPoints, TakesValue}
+use Rattle.profile_scan.specs.Bound.{any_no_worse, survivors, AreBounds, IsLateValue, TakesPoints, TakesValue}
 use Rattle.profile_scan.proofs.Admitted.{AreAdmitted}
 use Rattle.profile_scan.proofs.Outdone.{KeepsCovers, outdone_worse, outdone_on}
 
 module _ {V : Type 0} (rules : Rules V) (values : List V) where
-  pub from_unpruned : (points : List (Point V)) (p : Point V) → Contains (unpruned rules values points) p
-      → Contains points p × (has_no_worse rules values (rules.ride p.value) ≡ false)
-  from_unpruned points p h =
-      let f = from_filter (λ (x : Point V). not (has_no_worse rules values (rules.ride x.value))) points p h in
-      (f.0, not-true (has_no_worse rules values (rules.ride p.value)) f.1)
+  pub from_survivors : (points : List (Point V)) (p : Point V) → Contains (survivors rules values points) p
+      → Contains points p × (any_no_worse rules values (rules.ride p.value) ≡ false)
+  from_survivors points p h =
+      let f = from_filter (λ (x : Point V). not (any_no_worse rules values (rules.ride x.value))) points p h in
+      (f.0, not-true (any_no_worse rules values (rules.ride p.value)) f.1)
 
-  pub into_unpruned : (points : List (Point V)) (p : Point V) → Contains points p
-      → has_no_worse rules values (rules.ride p.value) ≡ false → Contains (unpruned rules values points) p
-  into_unpruned points p h free = into_filter (λ (x : Point V). not (has_no_worse rules values (rules.ride x.value)))
-      points p h (not_from_false (has_no_worse rules values (rules.ride p.value)) free)
+  pub into_survivors : (points : List (Point V)) (p : Point V) → Contains points p
+      → any_no_worse rules values (rules.ride p.value) ≡ false → Contains (survivors rules values points) p
+  into_survivors points p h free = into_filter (λ (x : Point V). not (any_no_worse rules values (rules.ride x.value)))
+      points p h (not_from_false (any_no_worse rules values (rules.ride p.value)) free)
 
-  pub some_betters : (v : V) → has_no_worse rules values v ≡ true → (b : V) × Contains values b × NoWorse rules b v
+  pub some_betters : (v : V) → any_no_worse rules values v ≡ true → (b : V) × Contains values b × NoWorse rules b v
   some_betters v h = one_passes (λ b. rules.no_worse b v) values h
 
 module _ {V : Type 0} (rules : Rules V) (laws : Laws rules) (values : List V) (admitted : (b : V) → Contains values b → Admits rules b) where
   -- what betters a value betters what is worse
-  pub bettered_on : (v w : V) → Admits rules v → Admits rules w → NoWorse rules v w → has_no_worse rules values w ≡ false → has_no_worse rules values v ≡ false
-  bettered_on v w a b h free = elim (cases_Bool (has_no_worse rules values v)) [
+  pub bettered_on : (v w : V) → Admits rules v → Admits rules w → NoWorse rules v w → any_no_worse rules values w ≡ false → any_no_worse rules values v ≡ false
+  bettered_on v w a b h free = elim (cases_Bool (any_no_worse rules values v)) [
     | inl bettered ↦
         let by = some_betters rules values v bettered in
         let betters : NoWorse rules by.0 w = laws.transitive by.0 v w (admitted by.0 by.1) a b by.2 h in
@@ -53,15 +53,15 @@ module _ {V : Type 0} (rules : Rules V) (laws : Laws rules) (t : TimetableValue)
     (found_admitted : AreAdmitted rules found) (i : ℕ) (values : List V)
     (bounds : AreBounds rules t found (i + 1) values) where
   -- what a bound leaves out is outdone
-  pub unpruned_by_bounds : (points : List (Point V)) → AreAdmitted rules points → AreUnpruned rules t found i points (unpruned rules values points)
-  unpruned_by_bounds points admitted = record {
-    only = λ p h. (from_unpruned rules values points p h).0;
-    all = λ p h. elim (cases_Bool (has_no_worse rules values (rules.ride p.value))) [
+  pub survivors_by_bounds : (points : List (Point V)) → AreAdmitted rules points → AreUnpruned rules t found i points (survivors rules values points)
+  survivors_by_bounds points admitted = record {
+    only = λ p h. (from_survivors rules values points p h).0;
+    all = λ p h. elim (cases_Bool (any_no_worse rules values (rules.ride p.value))) [
       | inl bettered ↦
           let by = some_betters rules values (rules.ride p.value) bettered in
           inr (outdone_worse rules laws t found found_admitted (i + 1) by.0 (rules.ride p.value)
           (bounds.admitted by.0 by.1) (laws.ride_admits p.value (admitted p h)) by.2 (bounds.outdone by.0 by.1))
-      | inr free ↦ inl (into_unpruned rules values points p h free)
+      | inr free ↦ inl (into_survivors rules values points p h free)
     ];
   }
 
@@ -101,10 +101,10 @@ bounds_renewed {V} rules laws t legal found found_admitted i time in_i is_time o
 
 -- values that are taken
 module _ {V : Type 0} (rules : Rules V) where
-  some_bettered : (values : List V) (b v : V) → Contains values b → NoWorse rules b v → has_no_worse rules values v ≡ true
+  some_bettered : (values : List V) (b v : V) → Contains values b → NoWorse rules b v → any_no_worse rules values v ≡ true
   some_bettered values b v is h = list_any_at (λ c. rules.no_worse c v) values is.0 b is.1 (ap (λ c. rules.no_worse c v) is.2 ∙ h)
 
-  pub value_stays : (value : V) (values : List V) → has_no_worse rules values value ≡ true → TakesValue rules value values values
+  pub value_stays : (value : V) (values : List V) → any_no_worse rules values value ≡ true → TakesValue rules value values values
   value_stays value values bettered = record { only = λ b h. inl h; kept = λ v a h. h; taken = bettered }
 
   pub value_comes : (laws : Laws rules) (value : V) (old new : List V) → ((b : V) → Contains old b → Admits rules b) → Admits rules value
@@ -154,7 +154,7 @@ module _ {V : Type 0} (rules : Rules V) where
       | inr ge ↦
           let same : k ≡ place = omega arith in
           let is : p ≡ q = same_Some p q (sym at ∙ ap (λ (n : ℕ). slice_get points n) (sym same) ∙ there) in
-          subst (λ (x : Point V). has_no_worse rules new x.value ≡ true) is one.taken
+          subst (λ (x : Point V). any_no_worse rules new x.value ≡ true) is one.taken
     ];
   }
 
@@ -177,7 +177,7 @@ module _ {V : Type 0} (rules : Rules V) where
 
   pub late_each : (points : List (Point V)) (from until time : ℕ) (old new : List V)
       → ((k : ℕ) (p : Point V) → until ≤ k → slice_get points k ≡ Some p → p.departure < time) → TakesPoints rules points from until old new
-      → (k : ℕ) (p : Point V) → from ≤ k → slice_get points k ≡ Some p → time ≤ p.departure → has_no_worse rules new p.value ≡ true
+      → (k : ℕ) (p : Point V) → from ≤ k → slice_get points k ≡ Some p → time ≤ p.departure → any_no_worse rules new p.value ≡ true
   late_each points from until time old new rest takes k p low at late = elim (cases_lt k until) [
     | inl lt ↦ takes.each k p low lt at
     | inr ge ↦ (let early = rest k p (omega arith) at in absurd (omega arith))

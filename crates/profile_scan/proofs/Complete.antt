@@ -92,18 +92,18 @@ module _ {V : Type 0} (rules : Rules V) (laws : Laws rules) (t : TimetableValue)
   InLabels found labels v = Covers rules labels 0 v ⊎ IsOutdone rules t found (i + 1) (rules.ride v)
 
   -- leaving it there, in whatever way
-  leaving_covered : (found bag unpruned labels : List (Point V)) (found_admitted : AreAdmitted rules found)
+  leaving_covered : (found bag survivors labels : List (Point V)) (found_admitted : AreAdmitted rules found)
       (admitted : AreAdmitted rules labels) (bag_admitted : AreAdmitted rules bag)
-      (carries : AreUnpruned rules t found i bag unpruned)
-      (open_covered : (way : Leaving V) → MayLeave t q i unpruned way → Covers rules labels 0 (leaving_value rules t i way))
+      (carries : AreUnpruned rules t found i bag survivors)
+      (open_covered : (way : Leaving V) → MayLeave t q i survivors way → Covers rules labels 0 (leaving_value rules t i way))
       (onward : (time : ℕ) (x : Onward) → IsOnward t q (i + 1) (connection_at t i).to time x
       → Covers rules bag time (onward_value rules t x) ⊎ IsOutdone rules t found (i + 1) (onward_value rules t x))
       (walk : List Footpath) (rides : List RideValue) → i < length t.connections
       → IsAboard t q i (connection_at t i).trip (record { last = i; walk = walk; rides = rides })
       → InLabels found labels (aboard_value rules t (record { last = i; walk = walk; rides = rides }))
-  leaving_covered found bag unpruned labels found_admitted admitted bag_admitted carries open_covered onward walk [] in_i
-      a = inl (ending_covered unpruned labels admitted open_covered walk a.is_walk (subst (Contains q.targets) (sym a.leads) a.is_goal) a.arrives)
-  leaving_covered found bag unpruned labels found_admitted admitted bag_admitted carries open_covered onward walk (ride ∷ rides) in_i a =
+  leaving_covered found bag survivors labels found_admitted admitted bag_admitted carries open_covered onward walk [] in_i
+      a = inl (ending_covered survivors labels admitted open_covered walk a.is_walk (subst (Contains q.targets) (sym a.leads) a.is_goal) a.arrives)
+  leaving_covered found bag survivors labels found_admitted admitted bag_admitted carries open_covered onward walk (ride ∷ rides) in_i a =
       let x : Aboard = record { last = i; walk = walk; rides = ride ∷ rides } in
       let v : V = aboard_value rules t x in
       let value_admitted : Admits rules v = aboard_admits rules laws t q can i (connection_at t i).trip x a in
@@ -119,15 +119,16 @@ module _ {V : Type 0} (rules : Rules V) (laws : Laws rules) (t : TimetableValue)
       ]
 
   -- labels that cover what follows in the trip later, and each open way to leave it at place i, cover all that follows from place i on, but for what is outdone
-  pub labels_cover : (found bag unpruned labels : List (Point V)) (found_admitted : AreAdmitted rules found)
+  pub labels_cover : (found bag survivors labels : List (Point V)) (found_admitted : AreAdmitted rules found)
       (admitted : AreAdmitted rules labels) (bag_admitted : AreAdmitted rules bag)
-      (carries : AreUnpruned rules t found i bag unpruned)
+      (carries : AreUnpruned rules t found i bag survivors)
       (later : (x : Aboard) → IsAboard t q (i + 1) (connection_at t i).trip x → InLabels found labels (aboard_value rules t x))
-      (open_covered : (way : Leaving V) → (connection_at t i).alight ≡ true → MayLeave t q i unpruned way → Covers rules labels 0 (leaving_value rules t i way))
+      (open_covered : (way : Leaving V) → (connection_at t i).alight ≡ true → MayLeave t q i survivors way
+        → Covers rules labels 0 (leaving_value rules t i way))
       (onward : (time : ℕ) (x : Onward) → IsOnward t q (i + 1) (connection_at t i).to time x
       → Covers rules bag time (onward_value rules t x) ⊎ IsOutdone rules t found (i + 1) (onward_value rules t x))
       (x : Aboard) → i < length t.connections → IsAboard t q i (connection_at t i).trip x → InLabels found labels (aboard_value rules t x)
-  labels_cover found bag unpruned labels found_admitted admitted bag_admitted carries later open_covered onward x in_i a =
+  labels_cover found bag survivors labels found_admitted admitted bag_admitted carries later open_covered onward x in_i a =
       elim (cases_lt i x.last) [
         | inl lt ↦ later x (record {
           later = omega arith;
@@ -155,7 +156,7 @@ module _ {V : Type 0} (rules : Rules V) (laws : Laws rules) (t : TimetableValue)
               rides =
                   x.rides;
             })) in
-            let here : P i = λ at_i. leaving_covered found bag unpruned labels found_admitted admitted bag_admitted
+            let here : P i = λ at_i. leaving_covered found bag survivors labels found_admitted admitted bag_admitted
             carries (λ way may. open_covered way at_i.alights may) onward x.walk x.rides in_i at_i in
             subst P same here a
       ]
@@ -206,20 +207,20 @@ module _ {V : Type 0} (rules : Rules V) (laws : Laws rules) (t : TimetableValue)
       }
 
   -- rides that are boarded at place i after a chain
-  boarding_covered : (found : List (Point V)) (stop : ℕ) (labels unpruned new : List (Point V))
+  boarding_covered : (found : List (Point V)) (stop : ℕ) (labels survivors new : List (Point V))
       (found_admitted : AreAdmitted rules found) (labels_admitted : AreAdmitted rules labels)
-      (admitted : AreAdmitted rules new) (carries : AreUnpruned rules t found i labels unpruned)
+      (admitted : AreAdmitted rules new) (carries : AreUnpruned rules t found i labels survivors)
       (aboard : (x : Aboard) → IsAboard t q i (connection_at t i).trip x → InLabels found labels (aboard_value rules t x))
-      (open_covered : (way : Boarding V) → MayBoard t i stop unpruned way
+      (open_covered : (way : Boarding V) → MayBoard t i stop survivors way
       → Covers rules new ((connection_at t i).dep - way.walk.secs)
       (rules.walk way.walk.secs (rules.ride way.label.value)))
       (time : ℕ) (walk : List Footpath) (ride : RideValue) (rides : List RideValue)
       → IsOnward t q i stop time (record { walk = walk; rides = ride ∷ rides }) → i ≡ ride.leg.first
       → Covers rules new time (onward_value rules t (record { walk = walk; rides = ride ∷ rides }))
       ⊎ IsOutdone rules t found i (onward_value rules t (record { walk = walk; rides = ride ∷ rides }))
-  boarding_covered found stop labels unpruned new found_admitted labels_admitted admitted carries aboard open_covered
+  boarding_covered found stop labels survivors new found_admitted labels_admitted admitted carries aboard open_covered
       time [] ride rides on e = absurd (on.walks refl)
-  boarding_covered found stop labels unpruned new found_admitted labels_admitted admitted carries aboard open_covered time (f ∷ fs) ride rides on e =
+  boarding_covered found stop labels survivors new found_admitted labels_admitted admitted carries aboard open_covered time (f ∷ fs) ride rides on e =
       let here = boarded_here found (walk_end stop (f ∷ fs)) (time + walk_secs (f ∷ fs)) labels aboard ride rides on.goal on.is_goal on.leads on.arrives e in
       let way = chain_gives_way rules laws t can.limits can.legal stop f fs on.is_walk in
       let h = way.0 in
@@ -263,20 +264,20 @@ module _ {V : Type 0} (rules : Rules V) (laws : Laws rules) (t : TimetableValue)
       ]
 
   -- a bag that covers what follows later, and each boarding of place i, covers all that follows from place i on, but for what is outdone
-  pub bag_covers : (found : List (Point V)) (stop : ℕ) (labels unpruned new : List (Point V))
+  pub bag_covers : (found : List (Point V)) (stop : ℕ) (labels survivors new : List (Point V))
       (found_admitted : AreAdmitted rules found) (labels_admitted : AreAdmitted rules labels)
-      (admitted : AreAdmitted rules new) (carries : AreUnpruned rules t found i labels unpruned)
+      (admitted : AreAdmitted rules new) (carries : AreUnpruned rules t found i labels survivors)
       (aboard : (x : Aboard) → IsAboard t q i (connection_at t i).trip x → InLabels found labels (aboard_value rules t x))
       (later : (time : ℕ) (x : Onward) → IsOnward t q (i + 1) stop time x
       → Covers rules new time (onward_value rules t x) ⊎ IsOutdone rules t found i (onward_value rules t x))
-      (open_covered : (way : Boarding V) → MayBoard t i stop unpruned way
+      (open_covered : (way : Boarding V) → MayBoard t i stop survivors way
       → Covers rules new ((connection_at t i).dep - way.walk.secs)
       (rules.walk way.walk.secs (rules.ride way.label.value)))
       (time : ℕ) (walk : List Footpath) (rides : List RideValue) → IsOnward t q i stop time (record { walk = walk; rides = rides })
       → Covers rules new time (onward_value rules t (record { walk = walk; rides = rides }))
       ⊎ IsOutdone rules t found i (onward_value rules t (record { walk = walk; rides = rides }))
-  bag_covers found stop labels unpruned new found_admitted labels_admitted admitted carries aboard later open_covered time walk [] on = absurd on.boards
-  bag_covers found stop labels unpruned new found_admitted labels_admitted admitted carries aboard later open_covered time walk (ride ∷ rides) on =
+  bag_covers found stop labels survivors new found_admitted labels_admitted admitted carries aboard later open_covered time walk [] on = absurd on.boards
+  bag_covers found stop labels survivors new found_admitted labels_admitted admitted carries aboard later open_covered time walk (ride ∷ rides) on =
       elim (cases_lt i ride.leg.first) [
         | inl lt ↦ later time (record { walk = walk; rides = ride ∷ rides }) (record {
           walks = on.walks;
@@ -288,7 +289,7 @@ module _ {V : Type 0} (rules : Rules V) (laws : Laws rules) (t : TimetableValue)
           leads = on.leads;
           arrives = on.arrives;
         })
-        | inr ge ↦ boarding_covered found stop labels unpruned new found_admitted labels_admitted admitted carries aboard
+        | inr ge ↦ boarding_covered found stop labels survivors new found_admitted labels_admitted admitted carries aboard
             open_covered time walk ride rides on (let from = on.boards in omega arith)
       ]
 

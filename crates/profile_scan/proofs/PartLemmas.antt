@@ -57,7 +57,7 @@ pub hop_within : {V : Type 0} (rules : Rules V) (t : TimetableValue) → IsWithi
 hop_within rules t limits q hop is = record {
   arrival = subst (λ (x : Connection). IsTime x.arr) (sym is.stands.is) (arrival_limit t limits hop.place is.stands.in_range);
   by = is.by;
-  secs = way_within t limits q.targets hop.connection.to hop.way is.way;
+  secs = way_within t limits q.targets hop.connection.to hop.final_walk is.final_walk;
   bound = is.bound;
 }
 

@@ -17,8 +17,8 @@ use Rattle.profile_scan.specs.Steps.{TakesIn}
 use Rattle.profile_scan.specs.Points.{Covers}
 use Rattle.profile_scan.specs.ScanRecords.{ScanRecords, Grows, spelling_of}
 use Rattle.profile_scan.specs.Adding.{StandsBefore, AreRidden, boardings_after, only_if}
-use Rattle.profile_scan.specs.Bound.{has_no_worse, unpruned, RidesLabel}
-use Rattle.profile_scan.proofs.BoundLemmas.{from_unpruned, into_unpruned}
+use Rattle.profile_scan.specs.Bound.{any_no_worse, survivors, RidesLabel}
+use Rattle.profile_scan.proofs.BoundLemmas.{from_survivors, into_survivors}
 use Rattle.profile_scan.proofs.Admitted.{AreAdmitted}
 use Rattle.profile_scan.proofs.Offers.{stands_in, all_stand, stands_split, takes_if, takes_unless}
 use Rattle.profile_scan.proofs.ScanRecordLemmas.{stays, step_spelled}
@@ -26,16 +26,16 @@ use Rattle.profile_scan.proofs.ScanRecordLemmas.{stays, step_spelled}
 -- values are those of labels with the ride, unless one of the bound's values is no worse, and all such labels among the first n are there
 pub record RiddenBefore {V : Type 0} (rules : Rules V) (values : List V) (labels : List (Point V)) (n : ℕ) (ridden : List (RiddenLabel V)) : Type 0 where
   pub of_label : (r : RiddenLabel V) → Contains ridden r
-      → (l : Point V) × Contains (unpruned rules values labels) l × (r.value ≡ rules.ride l.value) × (r.label ≡ l.tag)
-  pub each : (l : Point V) → StandsBefore labels n l → has_no_worse rules values (rules.ride l.value) ≡ false
+      → (l : Point V) × Contains (survivors rules values labels) l × (r.value ≡ rules.ride l.value) × (r.label ≡ l.tag)
+  pub each : (l : Point V) → StandsBefore labels n l → any_no_worse rules values (rules.ride l.value) ≡ false
       → (r : RiddenLabel V) × Contains ridden r × (r.value ≡ rules.ride l.value)
 
 module _ {V : Type 0} (rules : Rules V) (values : List V) where
   -- one label
-  pub rides_one : (x : Point V) (r : RiddenLabel V) (old new : List (RiddenLabel V)) → has_no_worse rules values r.value ≡ false
+  pub rides_one : (x : Point V) (r : RiddenLabel V) (old new : List (RiddenLabel V)) → any_no_worse rules values r.value ≡ false
       → r.value ≡ rules.ride x.value → r.label ≡ x.tag → new ≡ old ++ r ∷ [] → RidesLabel rules values x old new
   rides_one x r old new free worth label pushed =
-      let is_free : has_no_worse rules values (rules.ride x.value) ≡ false = ap (has_no_worse rules values) (sym worth) ∙ free in
+      let is_free : any_no_worse rules values (rules.ride x.value) ≡ false = ap (any_no_worse rules values) (sym worth) ∙ free in
       record {
         only = λ s h. elim (Contains-push_cases old r s (subst (λ rs. Contains rs s) pushed h)) [
           | inl was ↦ inl was
@@ -46,11 +46,11 @@ module _ {V : Type 0} (rules : Rules V) (values : List V) where
       }
 
   pub rides_none : (x : Point V) (v : V) (ridden : List (RiddenLabel V)) → v ≡ rules.ride x.value
-      → has_no_worse rules values v ≡ true → RidesLabel rules values x ridden ridden
+      → any_no_worse rules values v ≡ true → RidesLabel rules values x ridden ridden
   rides_none x v ridden worth bettered = record {
     only = λ s h. inl h;
     kept = λ s h. h;
-    rides = λ free. absurd (true≢false (sym bettered ∙ ap (has_no_worse rules values) worth ∙ free));
+    rides = λ free. absurd (true≢false (sym bettered ∙ ap (any_no_worse rules values) worth ∙ free));
   }
 
 module _ {V : Type 0} (rules : Rules V) (values : List V) (labels : List (Point V)) where
@@ -66,21 +66,21 @@ module _ {V : Type 0} (rules : Rules V) (values : List V) (labels : List (Point 
   ridden_more n x old new at takes is = record {
     of_label = λ s h. elim (takes.only s h) [
       | inl was ↦ is.of_label s was
-      | inr rides ↦ (x, into_unpruned rules values labels x (stands_in labels (n + 1) x (n, omega arith, at)) rides.0, rides.1, rides.2)
+      | inr rides ↦ (x, into_survivors rules values labels x (stands_in labels (n + 1) x (n, omega arith, at)) rides.0, rides.1, rides.2)
     ];
     each = λ l s free. elim (stands_split labels n x l at s) [
       | inl before ↦ (let y = is.each l before free in (y.0, takes.kept y.0 y.1, y.2))
       | inr e ↦
-          let here = takes.rides (ap (λ (z : Point V). has_no_worse rules values (rules.ride z.value)) (sym e) ∙ free) in
+          let here = takes.rides (ap (λ (z : Point V). any_no_worse rules values (rules.ride z.value)) (sym e) ∙ free) in
           (here.0, here.1, here.2 ∙ ap (λ (z : Point V). rules.ride z.value) (sym e))
     ];
   }
 
   pub ridden_all : (n : ℕ) (ridden : List (RiddenLabel V)) → length labels ≤ n → RiddenBefore rules values labels n ridden
-      → AreRidden rules (unpruned rules values labels) ridden
+      → AreRidden rules (survivors rules values labels) ridden
   ridden_all n ridden long is = record {
     of_label = is.of_label;
-    each = λ l h. let in_labels = from_unpruned rules values labels l h in is.each l (all_stand labels n l long in_labels.0) in_labels.1;
+    each = λ l h. let in_labels = from_survivors rules values labels l h in is.each l (all_stand labels n l long in_labels.0) in_labels.1;
   }
 
 -- a list of one element
@@ -91,22 +91,22 @@ one_alone (y ∷ z ∷ zs) x long is = absurd (omega arith)
 
 -- one label alone
 module _ {V : Type 0} (rules : Rules V) (values : List V) (x : Point V) where
-  pub alone_ridden : (r : RiddenLabel V) → has_no_worse rules values r.value ≡ false → r.value ≡ rules.ride x.value
-      → r.label ≡ x.tag → AreRidden rules (unpruned rules values (x ∷ [])) (r ∷ [])
+  pub alone_ridden : (r : RiddenLabel V) → any_no_worse rules values r.value ≡ false → r.value ≡ rules.ride x.value
+      → r.label ≡ x.tag → AreRidden rules (survivors rules values (x ∷ [])) (r ∷ [])
   alone_ridden r free worth label =
       ridden_all rules values (x ∷ []) (0 + 1) (r ∷ []) (omega arith)
       (ridden_more rules values (x ∷ []) 0 x [] (r ∷ []) refl (rides_one rules values x r [] (r ∷ []) free worth label refl)
       (ridden_none rules values (x ∷ []) [] refl))
 
-  pub alone_bettered : (v : V) → v ≡ rules.ride x.value → has_no_worse rules values v ≡ true
-      → AreRidden rules (unpruned rules values (x ∷ [])) []
+  pub alone_bettered : (v : V) → v ≡ rules.ride x.value → any_no_worse rules values v ≡ true
+      → AreRidden rules (survivors rules values (x ∷ [])) []
   alone_bettered v worth bettered =
       ridden_all rules values (x ∷ []) (0 + 1) [] (omega arith)
       (ridden_more rules values (x ∷ []) 0 x [] [] refl (rides_none rules values x v [] worth bettered)
       (ridden_none rules values (x ∷ []) [] refl))
 
-  pub alone_admitted : Admits rules x.value → (p : Point V) → Contains (unpruned rules values (x ∷ [])) p → Admits rules p.value
-  alone_admitted fair p h = elim (Contains-push_cases [] x p (from_unpruned rules values (x ∷ []) p h).0) [
+  pub alone_admitted : Admits rules x.value → (p : Point V) → Contains (survivors rules values (x ∷ [])) p → Admits rules p.value
+  alone_admitted fair p h = elim (Contains-push_cases [] x p (from_survivors rules values (x ∷ []) p h).0) [
     | inl n ↦ absurd (not_in_nil p n)
     | inr e ↦ subst (λ (z : Point V). Admits rules z.value) e fair
   ]

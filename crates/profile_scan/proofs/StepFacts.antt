@@ -69,7 +69,7 @@ step_idle rules t q a i scan way is idle =
       boarding = scan.labels trip;
       boarding_are = all_unpruned rules t scan.found i (scan.labels trip);
       leaves = takes_none rules (leavings rules t q (from_to a a) i (scan.bag stop)) (scan.labels trip)
-          (λ leaving opened. no_leave t q i (scan.bag stop) way is (idle.ends_here opened.0) leaving opened.1);
+          (λ leaving opened. no_leave t q i (scan.bag stop) way is (idle.leads_nowhere opened.0) leaving opened.1);
       other_trips = λ k other. refl;
       boards = λ k lt. takes_none rules (boardings rules t (from_to a a) i k (scan.labels trip)) (scan.bag k)
           (λ boarding opened. none_in (scan.labels trip) idle.no_labels boarding.label opened.is_label);

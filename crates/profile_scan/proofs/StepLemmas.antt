@@ -85,24 +85,24 @@ module _ {V : Type 0} (rules : Rules V) (laws : Laws rules) (t : TimetableValue)
   aboard_ride_admits from trip x a = laws.ride_admits (aboard_value rules t x) (aboard_admits rules laws t q can from trip x a)
 
   -- the labels of the connection's trip
-  pub labels_down : (tags : Spellings) → Keeps tags.earlier tags.later → (found bag unpruned old new : List (Point V))
-      → i < length t.connections → AreAdmitted rules found → AreUnpruned rules t found i bag unpruned
+  pub labels_down : (tags : Spellings) → Keeps tags.earlier tags.later → (found bag survivors old new : List (Point V))
+      → i < length t.connections → AreAdmitted rules found → AreUnpruned rules t found i bag survivors
       → BagMatches tags.earlier found (i + 1) (connection_at t i).to bag
       → LabelsMatch tags.earlier found (i + 1) (i + 1) (connection_at t i).trip old
-      → TakesIn rules (leavings rules t q tags i unpruned) old new
+      → TakesIn rules (leavings rules t q tags i survivors) old new
       → LabelsMatch tags.later found i (i + 1) (connection_at t i).trip new
-  labels_down tags keeps found bag unpruned old new in_i found_adm carries bag_is old_is takes =
+  labels_down tags keeps found bag survivors old new in_i found_adm carries bag_is old_is takes =
       let trip = (connection_at t i).trip in
       let sound : (p : Point V) → Contains new p → InLabels tags.later i trip p = λ p is. elim (takes.only p is) [
         | inl was ↦ label_stays tags.earlier tags.later trip keeps p (old_is.sound p was)
-        | inr offered ↦ leaving_attained rules t q tags i unpruned in_i (λ b h. bag_is.sound b (carries.only b h)) p offered
+        | inr offered ↦ leaving_attained rules t q tags i survivors in_i (λ b h. bag_is.sound b (carries.only b h)) p offered
       ] in
       let admitted = labels_admitted tags.later i trip new sound in
       let bag_adm = bag_admitted tags.earlier (i + 1) (connection_at t i).to bag bag_is.sound in
       record {
         sound = sound;
         complete = λ departure x l.
-            let covered = labels_cover rules laws t q can i found bag unpruned new found_adm admitted bag_adm carries
+            let covered = labels_cover rules laws t q can i found bag survivors new found_adm admitted bag_adm carries
             (λ y a. elim (old_is.complete 0 y (record { departed = refl; aboard = a })) [
               | inl c ↦ inl (takes.kept 0 (aboard_value rules t y) (aboard_admits rules laws t q can (i + 1) trip y a) c)
               | inr o ↦ inr o
@@ -159,22 +159,22 @@ module _ {V : Type 0} (rules : Rules V) (laws : Laws rules) (t : TimetableValue)
 
   -- the bag of a stop, its points having been spelled earlier still, when fewer points were found
   pub bag_down : (first : Spelling) (tags : Spellings) (found now : List (Point V)) (stop : ℕ)
-      (labels unpruned old new : List (Point V)) → Keeps first tags.earlier → Keeps tags.earlier tags.later
-      → KeepsCovers rules found now → AreAdmitted rules now → AreUnpruned rules t now i labels unpruned
+      (labels survivors old new : List (Point V)) → Keeps first tags.earlier → Keeps tags.earlier tags.later
+      → KeepsCovers rules found now → AreAdmitted rules now → AreUnpruned rules t now i labels survivors
       → LabelsMatch tags.earlier now i (i + 1) (connection_at t i).trip labels → BagMatches first found (i + 1) stop old
-      → TakesIn rules (boardings rules t tags i stop unpruned) old new → BagMatches tags.later now i stop new
-  bag_down first tags found now stop labels unpruned old new kept_first kept_then kept now_adm carries labels_are old_is takes =
+      → TakesIn rules (boardings rules t tags i stop survivors) old new → BagMatches tags.later now i stop new
+  bag_down first tags found now stop labels survivors old new kept_first kept_then kept now_adm carries labels_are old_is takes =
       let trip = (connection_at t i).trip in
       let sound : (p : Point V) → Contains new p → InBag tags.later i stop p = λ p is. elim (takes.only p is) [
         | inl was ↦ attained_more first.onward tags.later.onward (IsOnward t q (i + 1) stop) (IsOnward t q i stop)
             (IsPlainOnward t (Contains q.targets)) (onward_value rules t) (onward_more t q i stop) p
             (λ x e. kept_then.onward p.tag x (kept_first.onward p.tag x e)) (old_is.sound p was)
-        | inr offered ↦ boarding_attained rules t q tags i stop unpruned (λ l h. labels_are.sound l (carries.only l h)) p offered
+        | inr offered ↦ boarding_attained rules t q tags i stop survivors (λ l h. labels_are.sound l (carries.only l h)) p offered
       ] in
       record {
         sound = sound;
         complete = λ time x on.
-            bag_covers rules laws t q can i now stop labels unpruned new now_adm
+            bag_covers rules laws t q can i now stop labels survivors new now_adm
             (labels_admitted tags.earlier i trip labels labels_are.sound) (bag_admitted tags.later i stop new sound)
             carries
             (λ y a. labels_are.complete 0 y (record { departed = refl; aboard = a }))

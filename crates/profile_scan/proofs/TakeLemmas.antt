@@ -11,7 +11,7 @@ use Rattle.fronts.specs.Lists.{steps_of}
 use Rattle.profile_scan.specs.SetQuery.{SetQueryValue, asked_from}
 use Rattle.profile_scan.specs.Matching.{Spellings, from_to}
 use Rattle.profile_scan.specs.Steps.{IsStep, Leaving, MayLeave, TakesIn, boardings, changes, ends, ends_after, leavings, settings_out}
-use Rattle.profile_scan.specs.Bound.{AreBounds, unpruned}
+use Rattle.profile_scan.specs.Bound.{AreBounds, survivors}
 use Rattle.profile_scan.specs.ScanRecords.{SourceValue, scan_records, spelling_of}
 use Rattle.profile_scan.specs.Adding.{changes_from, endings, endings_and_changes, label_points, only_if, trip_points}
 use Rattle.profile_scan.specs.ScanState.{scan_value_of, points_at, scan_records_of}
@@ -24,7 +24,7 @@ use Rattle.profile_scan.specs.declared.stops.Stops.{Stops}
 use Rattle.profile_scan.specs.declared.trips.Trips.{Trips}
 use Rattle.reasoning.proofs.ListLemmas.{extends_none}
 use Rattle.profile_scan.proofs.Admitted.{AreAdmitted}
-use Rattle.profile_scan.proofs.BoundLemmas.{bounds_on, unpruned_by_bounds, from_unpruned}
+use Rattle.profile_scan.proofs.BoundLemmas.{bounds_on, survivors_by_bounds, from_survivors}
 use Rattle.profile_scan.proofs.EndLemmas.{end_admits}
 use Rattle.profile_scan.proofs.LabelLemmas.{trip_admitted}
 use Rattle.profile_scan.proofs.LeaveLemmas.{leavings_taken}
@@ -56,33 +56,33 @@ module _ {V : Type 0} (t : TimetableValue) (sources : List ℕ → ℕ → List 
 pub record HasLeft {K V : Type 0} (rules : Rules V) (q : SetQueryValue) (hop : Hop V) (stops : Stops K V) (old new : Trips K V) : Type 0 where
   pub trip : ChangesTrip rules hop.connection.trip old new
   pub takes : TripTakes rules hop.connection.trip
-      (λ tags. only_if (hop.connection.alight ≡ true) (endings_and_changes rules tags hop.place hop.connection q hop.way
-      (unpruned rules hop.bound.now (points_at stops hop.connection.to))))
+      (λ tags. only_if (hop.connection.alight ≡ true) (endings_and_changes rules tags hop.place hop.connection q hop.final_walk
+      (survivors rules hop.bound.now (points_at stops hop.connection.to))))
       old new
 
 module _ {K V : Type 0} (rules : Rules V) (laws : Laws rules) (q : SetQueryValue) (hop : Hop V) (stops : Stops K V) where
   -- to end, and then to change
   pub left_by : IsHop rules q hop → (old mid new : Trips K V) → hop.connection.alight ≡ true
       → ChangesTrip rules hop.connection.trip old mid
-      → TripTakes rules hop.connection.trip (λ tags. endings rules tags hop.place hop.connection q hop.way) old mid
+      → TripTakes rules hop.connection.trip (λ tags. endings rules tags hop.place hop.connection q hop.final_walk) old mid
       → ChangesTrip rules hop.connection.trip mid new
       → TripTakes rules hop.connection.trip (λ tags. changes_from tags hop.place hop.connection.arr
-      (unpruned rules hop.bound.now (points_at stops hop.connection.to))) mid new
+      (survivors rules hop.bound.now (points_at stops hop.connection.to))) mid new
       → HasLeft rules q hop stops old new
   left_by within old mid new alights ended ends_in changed changes_in = record {
     trip = changes_on rules hop.connection.trip old mid new ended changed;
     takes = λ walks steps set_outs before all ext_before ext.
         let cn = hop.connection in
         let tags = from_to (spelling_of walks before) (spelling_of walks all) in
-        let bag = unpruned rules hop.bound.now (points_at stops cn.to) in
+        let bag = survivors rules hop.bound.now (points_at stops cn.to) in
         let first = scan_records old.exits.items steps set_outs in
         let second = scan_records mid.exits.items steps set_outs in
         let third = scan_records new.exits.items steps set_outs in
-        takes_if rules (cn.alight ≡ true) (endings_and_changes rules tags hop.place cn q hop.way bag)
+        takes_if rules (cn.alight ≡ true) (endings_and_changes rules tags hop.place cn q hop.final_walk bag)
         (trip_points old.labels cn.trip) (trip_points new.labels cn.trip) alights
-        (takes_either rules (endings rules tags hop.place cn q hop.way) (changes_from tags hop.place cn.arr bag)
+        (takes_either rules (endings rules tags hop.place cn q hop.final_walk) (changes_from tags hop.place cn.arr bag)
         (trip_points old.labels cn.trip) (trip_points mid.labels cn.trip) (trip_points new.labels cn.trip)
-        (λ walk ending. end_admits rules laws cn q hop.way walk within.arrival within.by within.secs ending)
+        (λ walk ending. end_admits rules laws cn q hop.final_walk walk within.arrival within.by within.secs ending)
         (ends_in walks steps set_outs before all ext_before
         (grows_on second third all (exits_grow mid.exits.items new.exits.items steps set_outs changed.exits) ext))
         (changes_in walks steps set_outs before all
@@ -95,8 +95,8 @@ module _ {K V : Type 0} (rules : Rules V) (laws : Laws rules) (q : SetQueryValue
     trip = changes_none rules hop.connection.trip old has;
     takes = λ walks steps set_outs before all ext_before ext.
         takes_unless rules (hop.connection.alight ≡ true)
-        (endings_and_changes rules (from_to (spelling_of walks before) (spelling_of walks all)) hop.place hop.connection q hop.way
-        (unpruned rules hop.bound.now (points_at stops hop.connection.to))) (trip_points old.labels hop.connection.trip)
+        (endings_and_changes rules (from_to (spelling_of walks before) (spelling_of walks all)) hop.place hop.connection q hop.final_walk
+        (survivors rules hop.bound.now (points_at stops hop.connection.to))) (trip_points old.labels hop.connection.trip)
         (λ alights. true≢false (sym alights ∙ stays));
   }
 
@@ -108,7 +108,7 @@ pub record HasBoarded {K V O : Type 0} (rules : Rules V) (t : TimetableValue) (s
       (λ tags. settings_out rules t (asked_from sources q index) tags hop.place labels) (kept old.origin index) (kept new.origin index)
   pub steps : Extends (steps_of old.stops.lists) (steps_of new.stops.lists)
   pub boards : (stop : ℕ) → StopTakes rules t.footpaths stop
-      (λ tags. boardings rules t tags hop.place stop (unpruned rules hop.bound.now labels)) old.stops new.stops
+      (λ tags. boardings rules t tags hop.place stop (survivors rules hop.bound.now labels)) old.stops new.stops
 
 -- without labels, nothing
 pub boarded_none : {K V O : Type 0} (rules : Rules V) (t : TimetableValue) (sources : List ℕ → ℕ → List ℕ) (kept : O → ℕ → SourceValue V)
@@ -123,8 +123,8 @@ boarded_none rules t sources kept q hop labels state none = record {
   steps = extends_none (steps_of state.stops.lists);
   boards = λ stop exits set_outs before all ext_before ext.
       takes_none rules (boardings rules t (from_to (spelling_of t.footpaths before) (spelling_of t.footpaths all)) hop.place stop
-      (unpruned rules hop.bound.now labels)) (points_at state.stops stop)
-      (λ way may. none way.label (from_unpruned rules hop.bound.now labels way.label may.is_label).0);
+      (survivors rules hop.bound.now labels)) (points_at state.stops stop)
+      (λ way may. none way.label (from_survivors rules hop.bound.now labels way.label may.is_label).0);
 }
 
 -- so a connection's step is made
@@ -159,9 +159,9 @@ module _ {K V O : Type 0} (rules : Rules V) (laws : Laws rules) (t : TimetableVa
       (kept new.origin index).set_outs boarded.steps in
       let first = from_to (spelling_of t.footpaths was) (spelling_of t.footpaths between) in
       let second = from_to (spelling_of t.footpaths between) (spelling_of t.footpaths now) in
-      let here = unpruned rules values (points_at old.stops cn.to) in
+      let here = survivors rules values (points_at old.stops cn.to) in
       let bag = points_at old.stops (connection_at t i).to in
-      let bag_is = ap (λ (x : Connection). unpruned rules values (points_at old.stops x.to)) at in
+      let bag_is = ap (λ (x : Connection). survivors rules values (points_at old.stops x.to)) at in
       let sets_out =
       subst (λ (x : Connection). TakesIn rules (settings_out rules t (asked_from sources q index) second i (labels x.trip))
       (kept old.origin index).found (kept new.origin index).found) at
@@ -172,23 +172,23 @@ module _ {K V O : Type 0} (rules : Rules V) (laws : Laws rules) (t : TimetableVa
         between = spelling_of t.footpaths between;
         kept_first = grows_keeps t.footpaths was between grows_first;
         kept_then = grows_keeps t.footpaths between now (grows_on between set_out now out_grows in_grows);
-        changing = unpruned rules values bag;
-        changing_are = unpruned_by_bounds rules laws t (kept old.origin index).found found_adm i values bounds bag bag_adm;
-        boarding = unpruned rules values (labels trip);
-        boarding_are = unpruned_by_bounds rules laws t (kept new.origin index).found now_adm i values new_bounds (labels trip)
+        changing = survivors rules values bag;
+        changing_are = survivors_by_bounds rules laws t (kept old.origin index).found found_adm i values bounds bag bag_adm;
+        boarding = survivors rules values (labels trip);
+        boarding_are = survivors_by_bounds rules laws t (kept new.origin index).found now_adm i values new_bounds (labels trip)
             (trip_admitted rules new.trips.labels left.trip.labels.labels trip);
         leaves =
-            subst (λ (x : Connection). TakesIn rules (leavings rules t (asked_from sources q index) first i (unpruned rules values bag))
+            subst (λ (x : Connection). TakesIn rules (leavings rules t (asked_from sources q index) first i (survivors rules values bag))
             (was_labels x.trip) (labels x.trip)) at
             (subst (λ (points : List (Point V)). TakesIn rules (leavings rules t (asked_from sources q index) first i points)
             (was_labels cn.trip) (labels cn.trip)) bag_is
             (leavings_from t sources q index i here rules first (was_labels cn.trip) (labels cn.trip)
-            (leavings_taken rules laws t q can first i cn at hop.way is_hop.way here (was_labels cn.trip) (labels cn.trip)
+            (leavings_taken rules laws t q can first i cn at hop.final_walk is_hop.final_walk here (was_labels cn.trip) (labels cn.trip)
             (trip_admitted rules new.trips.labels left.trip.labels.labels cn.trip)
             (left.takes t.footpaths (steps_of old.stops.lists) (kept old.origin index).set_outs was between (grows_none was) (grows_none between)))));
         other_trips = λ k other. ap label_points (left.trip.labels.same k (λ e. other (e ∙ ap (λ (x : Connection). x.trip) at)));
         boards = λ k lt.
-            subst (λ (x : Connection). TakesIn rules (boardings rules t second i k (unpruned rules values (labels x.trip)))
+            subst (λ (x : Connection). TakesIn rules (boardings rules t second i k (survivors rules values (labels x.trip)))
             (points_at old.stops k) (points_at new.stops k)) at
             (boarded.boards k new.trips.exits.items (kept new.origin index).set_outs between now out_grows (grows_none now));
         sets_out = sets_out;

@@ -8,12 +8,12 @@ use Rattle.fronts.specs.declared.entry.RiddenLabel.{RiddenLabel}
 use Rattle.profile_scan.specs.Matching.{IsOutdone}
 
 -- whether one of some values is no worse than v (an equal one counts, unlike in is_bettered_by of bags, which asks for a strictly better one)
-abbrev pub has_no_worse : {V : Type 0} → Rules V → List V → V → Bool
-has_no_worse rules values v = list_any (λ b. rules.no_worse b v) values
+abbrev pub any_no_worse : {V : Type 0} → Rules V → List V → V → Bool
+any_no_worse rules values v = list_any (λ b. rules.no_worse b v) values
 
 -- the points carried on: each, unless one of these values is no worse than its value with the ride
-abbrev pub unpruned : {V : Type 0} → Rules V → List V → List (Point V) → List (Point V)
-unpruned rules values points = filter (λ p. not (has_no_worse rules values (rules.ride p.value))) points
+abbrev pub survivors : {V : Type 0} → Rules V → List V → List (Point V) → List (Point V)
+survivors rules values points = filter (λ p. not (any_no_worse rules values (rules.ride p.value))) points
 
 -- each of these values is outdone by a point found
 pub record AreBounds {V : Type 0} (rules : Rules V) (t : TimetableValue) (found : List (Point V)) (i : ℕ)
@@ -33,15 +33,15 @@ pub record IsLateValue {V : Type 0} (rules : Rules V) (found : List (Point V)) (
 pub record IsRenewed {V : Type 0} (rules : Rules V) (found : List (Point V)) (time : ℕ) (old new : List V)
     : Type 0 where
   pub only : (b : V) → Contains new b → Contains old b ⊎ IsLateValue rules found time b
-  pub kept : (v : V) → Admits rules v → has_no_worse rules old v ≡ true → has_no_worse rules new v ≡ true
+  pub kept : (v : V) → Admits rules v → any_no_worse rules old v ≡ true → any_no_worse rules new v ≡ true
 
 -- the same; and from index `from` on, exactly the points before `until` depart at the time or later, and for each of these one of the new values is no worse
 pub record ReadsLate {V : Type 0} (rules : Rules V) (found : List (Point V)) (from time until : ℕ) (old new : List V)
     : Type 0 where
   pub only : (b : V) → Contains new b → Contains old b ⊎ IsLateValue rules found time b
-  pub kept : (v : V) → Admits rules v → has_no_worse rules old v ≡ true → has_no_worse rules new v ≡ true
+  pub kept : (v : V) → Admits rules v → any_no_worse rules old v ≡ true → any_no_worse rules new v ≡ true
   pub each : (k : ℕ) (p : Point V) → from ≤ k → slice_get found k ≡ Some p → time ≤ p.departure
-      → has_no_worse rules new p.value ≡ true
+      → any_no_worse rules new p.value ≡ true
   pub late : (k : ℕ) (p : Point V) → from ≤ k → k < until → slice_get found k ≡ Some p → time ≤ p.departure
   pub rest : (k : ℕ) (p : Point V) → until ≤ k → slice_get found k ≡ Some p → p.departure < time
 
@@ -49,24 +49,24 @@ pub record ReadsLate {V : Type 0} (rules : Rules V) (found : List (Point V)) (fr
 -- value
 pub record TakesValue {V : Type 0} (rules : Rules V) (value : V) (old new : List V) : Type 0 where
   pub only : (b : V) → Contains new b → Contains old b ⊎ (value ≡ b)
-  pub kept : (v : V) → Admits rules v → has_no_worse rules old v ≡ true → has_no_worse rules new v ≡ true
-  pub taken : has_no_worse rules new value ≡ true
+  pub kept : (v : V) → Admits rules v → any_no_worse rules old v ≡ true → any_no_worse rules new v ≡ true
+  pub taken : any_no_worse rules new value ≡ true
 
 -- the same for the values of the points from index `from` on, before `until`
 pub record TakesPoints {V : Type 0} (rules : Rules V) (points : List (Point V)) (from until : ℕ)
     (old new : List V) : Type 0 where
   pub only : (b : V) → Contains new b → Contains old b
       ⊎ ((k : ℕ) × (p : Point V) × (from ≤ k) × (k < until) × (slice_get points k ≡ Some p) × (p.value ≡ b))
-  pub kept : (v : V) → Admits rules v → has_no_worse rules old v ≡ true → has_no_worse rules new v ≡ true
+  pub kept : (v : V) → Admits rules v → any_no_worse rules old v ≡ true → any_no_worse rules new v ≡ true
   pub each : (k : ℕ) (p : Point V) → from ≤ k → k < until → slice_get points k ≡ Some p
-      → has_no_worse rules new p.value ≡ true
+      → any_no_worse rules new p.value ≡ true
 
 -- a label's value with the ride is added, unless one of these values is no worse
 pub record RidesLabel {V : Type 0} (rules : Rules V) (values : List V) (label : Point V)
     (old new : List (RiddenLabel V)) : Type 0 where
   pub only : (r : RiddenLabel V) → Contains new r → Contains old r
-      ⊎ ((has_no_worse rules values (rules.ride label.value) ≡ false) × (r.value ≡ rules.ride label.value)
+      ⊎ ((any_no_worse rules values (rules.ride label.value) ≡ false) × (r.value ≡ rules.ride label.value)
       × (r.label ≡ label.tag))
   pub kept : (r : RiddenLabel V) → Contains old r → Contains new r
-  pub rides : has_no_worse rules values (rules.ride label.value) ≡ false → (r : RiddenLabel V) × Contains new r
+  pub rides : any_no_worse rules values (rules.ride label.value) ≡ false → (r : RiddenLabel V) × Contains new r
       × (r.value ≡ rules.ride label.value)

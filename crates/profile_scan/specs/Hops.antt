@@ -35,12 +35,12 @@ pub record StandsAt (t : TimetableValue) (place : ℕ) (c : Connection) : Type 0
 pub record IsHop {V : Type 0} (rules : Rules V) (q : SetQueryValue) (hop : Hop V) : Type 0 where
   pub arrival : IsTime hop.connection.arr
   pub by : IsTime q.by
-  pub secs : IfSome hop.way (λ way. IsSecs way.secs)
+  pub secs : IfSome hop.final_walk (λ way. IsSecs way.secs)
   pub bound : (b : V) → Contains hop.bound.now b → Admits rules b
 
--- whether a start is from a source can be looked up: `hop.lead` says it of the stop where the connection begins, `starts` of the stop where a footpath begins
+-- whether a start is from a source can be looked up: `hop.access` says it of the stop where the connection begins, `starts` of the stop where a footpath begins
 pub record KnowsSources {V : Type 0} (sources : List ℕ) (hop : Hop V) (starts : Starts) (start : Option Footpath) : Type 0 where
-  pub here : SaysSource sources hop.connection.from hop.lead.here
+  pub here : SaysSource sources hop.connection.from hop.access.here
   pub within : IfSome start (λ walk. walk.from < length starts.leads.items)
   pub says : (stop : ℕ) (lead : StopAccess) → slice_get starts.leads.items stop ≡ Some lead → SaysSource sources stop lead.here
 
@@ -49,6 +49,6 @@ pub record KnowsSources {V : Type 0} (sources : List ℕ) (hop : Hop V) (starts 
 pub record IsHopOf {V : Type 0} (rules : Rules V) (t : TimetableValue) (q : SetQueryValue) (hop : Hop V) : Type 0 where
   pub stands : StandsAt t hop.place hop.connection
   pub by : IsTime q.by
-  pub lead : IsStopAccess t q.sources hop.connection.from hop.lead
-  pub way : IsFinalWalk t q.targets hop.connection.to hop.way
+  pub access : IsStopAccess t q.sources hop.connection.from hop.access
+  pub final_walk : IsFinalWalk t q.targets hop.connection.to hop.final_walk
   pub bound : (b : V) → Contains hop.bound.now b → Admits rules b

@@ -144,13 +144,13 @@ settings_out rules t q tags i labels = record {
 -- the points carried on: a point may be left out if a point found outdoes its value with the ride. Index i + 1 makes that point depart no earlier than
 -- connection i and those before it
 pub record AreUnpruned {V : Type 0} (rules : Rules V) (t : TimetableValue) (found : List (Point V)) (i : ℕ)
-    (points unpruned : List (Point V)) : Type 0 where
-  pub only : (p : Point V) → Contains unpruned p → Contains points p
-  pub all : (p : Point V) → Contains points p → Contains unpruned p
+    (points survivors : List (Point V)) : Type 0 where
+  pub only : (p : Point V) → Contains survivors p → Contains points p
+  pub all : (p : Point V) → Contains points p → Contains survivors p
       ⊎ IsOutdone rules t found (i + 1) (rules.ride p.value)
 
--- the step of one connection, from what a scan keeps of the later ones. First the labels of its trip take in the ways to leave it where the connection ends;
--- `between` is what tags spell then. Then all of the trip's labels, new and old, are offered to the points found, and those not outdone to every stop
+-- the step of one connection, from what a scan keeps of the later ones. First the labels of its trip take in the ways to leave the trip where the connection
+-- ends; `between` is what tags spell then. Then all of the trip's labels, new and old, are offered to the points found, and those not outdone to every stop
 pub record IsStep {V : Type 0} (rules : Rules V) (t : TimetableValue) (q : SetQueryValue) (tags : Spellings) (i : ℕ)
     (old new : ScanValue V) : Type 0 where
   pub between : Spelling
@@ -172,4 +172,4 @@ pub record IsStep {V : Type 0} (rules : Rules V) (t : TimetableValue) (q : SetQu
 pub record IsIdle {V : Type 0} (c : Connection) (way : Option FinalWalk)
     (labels bag : List (Point V)) : Type 0 where
   pub no_labels : labels ≡ []
-  pub ends_here : c.alight ≡ true → (way ≡ None) × (bag ≡ [])
+  pub leads_nowhere : c.alight ≡ true → (way ≡ None) × (bag ≡ [])

@@ -21,8 +21,8 @@ use sources::ConnSource;
 use std::alloc::{AllocError, Global};
 
 /// What a scan keeps where journeys set out. It may answer several questions at once, which differ in their sources
-/// alone, and keeps the points found for each. `Origin` answers one question, from all sources that the query names; it
-/// has any index. `Origins` answers one from each stop, whose index is the stop.
+/// alone, and keeps the points found for each. `Origin` answers one question, from all sources that the query names,
+/// and every index names it. `Origins` answers one from each stop, whose index is the stop.
 pub trait AtSource<C: Criterion>: Drop {
     // what is kept for the question at an index
     ghost kept: { Self → ℕ → SourceValue C.V };
@@ -46,10 +46,10 @@ pub trait AtSource<C: Criterion>: Drop {
         ensures { OnOk result ((index : ℕ) → IsRenewed (C.rules criterion.now) (kept self.now index).found time
             bound.old.values.items bound.new.values.items) };
 
-    /// Sets out for a connection, if passengers may get on there. For each question the starts are tried: none, if the
-    /// connection begins at one of its sources, and each footpath there from one of them, except a loop. If the
-    /// question allows the departure with a start, then each label of the connection's trip gives a point, which is
-    /// offered to the points found.
+    /// Sets out for a connection, if passengers may get on there. For each question the starts are tried: the empty
+    /// start, if the connection begins at one of its sources, and each footpath there from one of them, except a loop.
+    /// If the question allows the departure with a start, then each label of the connection's trip gives a point, which
+    /// is offered to the points found.
     fn set_out<S: ConnSource>(
         &mut self,
         asked: &ScanQuery<C>,

@@ -5,7 +5,7 @@ ghost use Rattle.std.specs.Prelude.{◌≡◌, ◌⊎◌, ◌<◌, ◌≤◌, �
 ghost use Rattle.std.specs.Prelude.{Contains};
 ghost use Rattle.criteria.specs.Laws.{Admits, RidingWorsens};
 ghost use Rattle.bags.specs.Bag.{criterion_of, points_of};
-ghost use Rattle.profile_scan.specs.Bound.{IsLateValue, TakesPoints, TakesValue, has_no_worse};
+ghost use Rattle.profile_scan.specs.Bound.{IsLateValue, TakesPoints, TakesValue, any_no_worse};
 
 use bags::Bag;
 use criteria::Criterion;
@@ -97,23 +97,23 @@ impl<C: Criterion> Bound<C> {
 /// Whether one of some values is no worse than a value (an equal one counts, unlike in `is_bettered_by` of `bags`,
 /// which asks for a strictly better one). It is `some_no_worse` of bare values, under the name of its definition in
 /// specs/Bound.antt.
-pub fn has_no_worse<C: Criterion>(criterion: &C, values: &[C::V], value: &C::V) -> bool
+pub fn any_no_worse<C: Criterion>(criterion: &C, values: &[C::V], value: &C::V) -> bool
     requires values { (b : _) → Contains values.now b → Admits (C.rules criterion.now) b }
     requires value { Admits (C.rules criterion.now) value.now }
-    ensures { result ≡ has_no_worse (C.rules criterion.now) values.now value.now }
+    ensures { result ≡ any_no_worse (C.rules criterion.now) values.now value.now }
 {
     if criterion.is_total() {
-        return first_has_no_worse(criterion, values, value);
+        return any_no_worse_first(criterion, values, value);
     }
     some_no_worse(criterion, values, value)
 }
 
 // The same, but the first value is asked before the others. Under a total criterion there are hardly ever others.
 #[inline(always)]
-fn first_has_no_worse<C: Criterion>(criterion: &C, values: &[C::V], value: &C::V) -> bool
+fn any_no_worse_first<C: Criterion>(criterion: &C, values: &[C::V], value: &C::V) -> bool
     requires values { (b : _) → Contains values.now b → Admits (C.rules criterion.now) b }
     requires value { Admits (C.rules criterion.now) value.now }
-    ensures { result ≡ has_no_worse (C.rules criterion.now) values.now value.now }
+    ensures { result ≡ any_no_worse (C.rules criterion.now) values.now value.now }
 {
     let Some((first, others)) = values.split_first() else {
         return false;
@@ -160,7 +160,7 @@ fn take_value<C: Criterion>(
     requires value { Admits (C.rules criterion.now) value }
     ensures { OnOk result (TakesValue (C.rules criterion.now) value values.old.items values.new.items) }
 {
-    if has_no_worse(criterion, values, &value) {
+    if any_no_worse(criterion, values, &value) {
         return Ok(());
     }
     drop_no_better(criterion, values, &value);
@@ -168,7 +168,7 @@ fn take_value<C: Criterion>(
     Ok(())
 }
 
-// The least index, at `from` or behind it, such that all points there and behind it depart before a time. A bag's
+// The least index, at `from` or after it, such that all points there and after it depart before a time. A bag's
 // points are in order of falling departure.
 fn late_until<C: Criterion>(found: &Bag<C>, from: usize, time: u32) -> usize
     requires { from ≤ length (points_of found.now) }

@@ -25,11 +25,11 @@ pub struct Hop<'a, V> {
     pub connection: Connection,
     // the connection's index in the timetable
     pub place: u32,
-    // how one may set out for the stop where the connection begins; read only by `Origin::set_out`
-    pub lead: StopAccess,
+    // how one may set out to board the connection; read only by `Origin::set_out`
+    pub access: StopAccess,
     // the footpath from the stop where the connection ends to the nearest target (its loop, if it is one), or `None` if
     // there is none
-    pub way: Option<FinalWalk>,
+    pub final_walk: Option<FinalWalk>,
     // the bound, renewed before this connection is taken in: values of points found that depart no earlier than it. A
     // stop's point isn't offered to labels, nor a label to stops, if a value of the bound is no worse than the point's
     // or label's value with the ride. Empty in a scan for all sources

@@ -19,15 +19,15 @@ use sources::ConnSource;
 use std::alloc::{AllocError, Global};
 use timetable::Footpath;
 
-// How one changes after a label: the index of the connection that one leaves, and the step that boards.
+// The change that a label says: the index of the connection where the passenger gets off, and the step that boards.
 #[derive(Clone, Copy, Drop)]
 struct Change {
     last: u32,
     step: Step,
 }
 
-// How one ends after a label: the index of the connection that one leaves, and the footpath to the target, if there
-// is one.
+// The end that a label says: the index of the connection where the passenger gets off, and the footpath to the target,
+// if there is one.
 #[derive(Clone, Copy, Drop)]
 struct LastAlighting {
     last: u32,
@@ -45,7 +45,7 @@ impl<'a, C: Criterion> ScanView<'a, C> {
     ghost use Rattle.profile_scan.specs.JourneyNodes.{IsLabelSpelled, SaysLabel, IsJourneySpelled};
     ghost use Rattle.profile_scan.specs.JourneyNodes.{SaysJourney, IsSpelledAgain};
 
-    // How one changes after a label, if one does.
+    // The change that a label says, if it says one.
     fn change_after(&self, label: usize) -> Option<Change>
         ensures { result ≡ change (scan_records_seen self.now) label }
     {
@@ -58,7 +58,7 @@ impl<'a, C: Criterion> ScanView<'a, C> {
         }
     }
 
-    // How one ends after a label, if one does.
+    // The end that a label says, if it says one.
     fn end_after(&self, label: usize) -> Option<LastAlighting>
         ensures { result ≡ ending (scan_records_seen self.now) label }
     {

@@ -36,18 +36,18 @@ pub fn together_never_continue()
     ensures { TogetherNeverContinue }
 {}
 
-/// Past the window's end nothing follows: there empty bags, labels and points found match.
+/// Past the window's end no connection follows: there no points, no labels and no points found are what matches.
 pub fn nothing_follows<C: Criterion>(_criterion: &C)
     ensures { NothingFollows (C.rules _criterion.now) }
 {}
 
-/// If bags, labels and points found match every way to go on over the later connections, then after the step of one
-/// connection they match those that begin with this one, too.
+/// If the stops' points, the labels and the points found match every way to go on over the later connections, then
+/// after the step of one connection they also match the ways that begin with it.
 pub fn one_index_down<C: Criterion>(_criterion: &C)
     ensures { OneIndexDown (C.rules _criterion.now) (IsStep (C.rules _criterion.now)) }
 {}
 
-/// What matches goes on matching when more tags spell something.
+/// Points that match still match once further tags have a meaning.
 pub fn more_tags_keep_matches<C: Criterion>(_criterion: &C)
     ensures { TagsMayCome (C.rules _criterion.now) }
 {}

@@ -10,47 +10,49 @@
 //! connection can add nothing; else it renews the bound for the connection's departure, makes a `Hop` and calls
 //! `State::take`:
 //!
-//! 1. Leave the trip, if passengers may get off. The journey may end there, or one footpath on (`hop.way`):
+//! 1. Leave the trip, if passengers may get off. The journey may end there, or one footpath on (`hop.final_walk`):
 //!    `Trips::end` offers that to the labels of the connection's trip, with the value that `value_at_end` makes. Or
-//!    the passenger may change: `Trips::change` offers the stop's points that depart at the arrival or later. Both
-//!    change only those labels, by `fronts::offer_label`, and append to `exits`; they read the stops as they were
-//!    before this connection, and `hop.bound`. Staying on needs no code: the labels that the trip has remain. A stop's
+//!    the passenger may change: `Trips::change` offers the stop's points that depart at the arrival or later; it reads
+//!    the stops as they were before this connection, and `hop.bound`. Both change only those labels, by
+//!    `fronts::offer_label`, and append to `exits`. Staying on needs no code: the labels of the trip remain. A stop's
 //!    point departs when the walk to the next connection begins. That walk is one footpath; to board at the same stop
 //!    it is the stop's loop, whose seconds are the change time. So 1 adds no change time: 3 subtracts it from the
-//!    departure. `Leads` (timetable's specs/Journeys.antt) defines when one may change, and `journeys::check` tests it
-//!    of one journey.
+//!    departure. `Leads` (timetable's specs/Journeys.antt) defines when one may change; `journeys::check` tests one
+//!    journey for it.
 //! 2. Set out: `AtSource::set_out` changes only the points found and appends to `set_outs`; it reads the labels that 1
-//!    left, and not the bound. It sets out without a footpath if the connection begins at a source, and after each
-//!    footpath, loops excepted, from a source to there; `Starts` only marks the sources and the stops that such
-//!    footpaths lead to.
-//! 3. Board: for each footpath into the stop where the connection begins, its loop included, `Stops::board` offers, to
-//!    the stop where that footpath begins, points whose departure is the connection's less the footpath's seconds
-//!    (`board_walk`, and `board_walk_one` for a single value). It appends to the lists and changes `heads`, `offers`
-//!    and the scratch vector `ridden`; it reads the same labels and `hop.bound`, and never the points found.
+//!    left, and not the bound. If passengers may get on, it sets out without a footpath if the connection begins at a
+//!    source, and after each footpath, loops excepted, from a source to there; `Starts` only marks the sources and the
+//!    stops that such footpaths lead to.
+//! 3. Board, if passengers may get on: for each footpath into the stop where the connection begins, its loop included,
+//!    `Stops::board` offers, to the stop where that footpath begins, points whose departure is the connection's less
+//!    the footpath's seconds (`board_walk`, and `board_walk_one` for a single value). It appends to the lists and
+//!    changes `heads`, `offers` and the scratch vector `ridden`; it reads the same labels and `hop.bound`, and never
+//!    the points found.
 //!
-//! A ride is counted where the trip is boarded, in 2 and 3: a label's value doesn't include it.
+//! A leg is counted where its trip is boarded, in 2 and 3: a label's value doesn't include it.
 //!
 //! `AtSource` is where journeys set out. For one query it is `Origin`: one list of points found, from all sources
-//! together. `profiles_to_any` answers from every stop to any of several targets, and `profiles_to` to a single one:
-//! there it is `Origins`, a list for each stop. All else is the same scan, and all is proved for an `index`: any number
-//! for `Origin`, the stop for `Origins`.
+//! together. For `profiles_to_any`, which answers from every stop to any of several targets, and `profiles_to`, to a
+//! single one, it is `Origins`: a list for each stop. All else is the same scan. Clauses speak of the question at an
+//! `index`: for `Origins` that is the stop; `Origin` has one question, and ignores the index.
 //!
 //! `hop.bound` has values of points found that depart no earlier than the connection. 1 leaves out a point of the stop,
 //! and 3 a label, if one of these values is no worse than that point's or label's own value with the ride in this trip.
-//! What remains is `unpruned` (specs/Bound.antt); `AreUnpruned` (specs/Steps.antt) says what a step may leave out. The
-//! bound is renewed before 1, so 3 doesn't see what 2 has just found. It stays empty for `Origins`, and unless the
-//! criterion says `riding_worsens`.
+//! What remains is `survivors` (specs/Bound.antt); `AreUnpruned` (specs/Steps.antt) says what a step may leave out. The
+//! bound is renewed before 1, so 3 doesn't see what 2 has just found. It is always empty for `Origins`, and for a
+//! criterion that doesn't say `riding_worsens`.
 //!
-//! The invariant is `MatchesFrom` (specs/Matching.antt) at the index i that the scan has come down to. At every stop,
-//! in every trip and at the source, each point is attained by what its tag spells, and each way to go on over the
-//! connections from i on is covered: some point departs no earlier and is no worse. At stops and in trips a way may be
-//! left uncovered if its value (in a trip, with the ride in it) is outdone (`IsOutdone`): riding never improves a
-//! value, and some point found is no worse than it and departs no earlier than any connection still to be read (of an
-//! index below i). The loop of `scan_window` carries the invariant (`matched` in
-//! proofs/scan/scan_window/Invariants.antt): the law `nothing_follows` begins it, `one_index_down` keeps it at each
-//! step, and `match_is_the_answer` ends it. `specs/` (Points, Continuations, Matching, Steps, then Parts) says what a
-//! step is; the functions of `laws` prove that it suffices. The invariant holds at each index, so the points found at
-//! any of them match the journeys that board there or later; only `match_is_the_answer` needs the window's start.
+//! The invariant is `MatchesFrom` (specs/Matching.antt) at the index i that the scan has come down to. It is about
+//! every stop, every trip and the source. Soundness: each point's tag spells a way to go on that has the point's
+//! departure and value. Completeness: each way to go on over the connections from i on is covered, so some point
+//! departs no earlier and is no worse. At stops and in trips a way may be left uncovered if its value (in a trip, with
+//! the ride in it) is outdone (`IsOutdone`): riding never improves a value, and some point found is no worse than it
+//! and departs no earlier than any connection still to be read (of an index below i). The loop of `scan_window` carries
+//! the invariant (`matched` in proofs/scan/scan_window/Invariants.antt): the law `nothing_follows` begins it,
+//! `one_index_down` keeps it at each step, and `match_is_the_answer` ends it. `specs/` (Points, Continuations,
+//! Matching, Steps, then Parts) says what a step is; the functions of `laws` prove that it suffices. If the scan
+//! stopped at index i, the points found would be right for all journeys that board connection i or a later one; only
+//! `match_is_the_answer` needs the window's start.
 //!
 //! A tag is an index: of a label, into `Trips::exits`; of a stop's point, into the steps of `Stops::lists`; of a point
 //! found, into `Origin::set_outs`, and once it is in `Found`, into its nodes. An offer's tag is the vector's length

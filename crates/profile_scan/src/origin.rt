@@ -77,8 +77,8 @@ impl<C: Criterion> Origin<C> {
         Ok(())
     }
 
-    /// Offers to the points found, for each label of the connection's trip, the point of departing so and boarding with
-    /// that label.
+    /// For each label of the connection's trip, offers a point to those found: this departure, then the connection,
+    /// then what the label says.
     #[inline(never)]
     pub fn set_out_after(
         &mut self,
@@ -109,8 +109,8 @@ impl<C: Criterion> Origin<C> {
         Ok(())
     }
 
-    // Offers to the points found, for each label of the connection's trip, the point of boarding with it after `start`;
-    // nothing unless `MayStart` (specs/Adding.antt) allows it.
+    // For each label of the connection's trip, offers a point to those found: `start`, then the connection, then what
+    // the label says. Offers nothing unless `MayStart` (specs/Adding.antt) allows it.
     #[inline(always)]
     fn set_out_by(
         &mut self,
@@ -173,7 +173,7 @@ impl<C: Criterion> AtSource<C> for Origin<C> {
             return Ok(());
         }
         self.set_out_by(asked, hop, None, labels)?;
-        if !hop.lead.led {
+        if !hop.access.led {
             return Ok(());
         }
         let (begin, end) = source.walks_into(hop.connection.from as usize);
@@ -207,7 +207,7 @@ fn is_from_source<C: Criterion>(
         (StartsFrom (question asked.now.query) hop.now.connection start → ⊥) }
 {
     match start {
-        None => hop.lead.here,
+        None => hop.access.here,
         Some(walk) => {
             if walk.to == walk.from {
                 return false;

@@ -32,8 +32,8 @@ impl<C: Criterion> Origins<C> {
     ghost use Rattle.profile_scan.specs.Origins.{AreUnder, ChangesOrigins, scan_value_from};
     ghost use Rattle.profile_scan.specs.Origins.{from_stop, starts_at};
 
-    // Offers to the points found from a stop, for each label of the connection's trip, the point of boarding the
-    // connection with it after this departure from there.
+    // For each label of the connection's trip, offers a point to those found from a stop: leave it at this departure,
+    // board the connection, and go on by the label.
     fn set_out_from(
         &mut self,
         asked: &ScanQuery<C>,
@@ -57,9 +57,9 @@ impl<C: Criterion> Origins<C> {
         self.each[stop as usize].set_out_after(asked, hop.place, departure, labels)
     }
 
-    // Offers to the points found from the stop where a start begins, for each label of the connection's trip, the point
-    // of boarding the connection with it after that start; nothing if the start is a loop, or the query doesn't allow
-    // that departure.
+    // For each label of the connection's trip, offers a point to those found from the stop where a start begins: set
+    // out by the start, board the connection, and go on by the label. Offers nothing if the start is a loop, or if the
+    // query doesn't allow that departure.
     fn set_out_by(
         &mut self,
         asked: &ScanQuery<C>,

@@ -15,8 +15,8 @@ use criteria::Criterion;
 use sources::ConnSource;
 use std::alloc::{AllocError, Global};
 
-/// The answers from every stop, for one target, window and criterion. The scan's records of how journeys go is kept as
-/// it is; `found_from` spells those from one stop.
+/// The answers from every stop, for one target, window and criterion. The scan's records of how journeys go are kept
+/// as they are; `found_from` spells those from one stop.
 #[derive(Drop)]
 pub struct Profiles<C: Criterion> {
     destination: Destination,
@@ -58,8 +58,8 @@ impl<C: Criterion> Profiles<C> {
         secs_of(walk)
     }
 
-    /// Returns the answer of the query from one stop, which isn't the target, with its journeys. The source has to be
-    /// one of the timetable that was scanned. The only error is that memory runs out.
+    /// Returns the answer of the query from one stop, which isn't the target, with its journeys. `source` has to read
+    /// the timetable that was scanned. The only error is that memory runs out.
     pub fn found_from<S: ConnSource>(
         &self,
         alloc: Global,

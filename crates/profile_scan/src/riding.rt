@@ -4,9 +4,9 @@ ghost use Rattle.std.specs.Prelude.{◌≡◌, ◌<◌, OnOk, IfOk, Contains, sl
 ghost use Rattle.criteria.specs.Laws.{Admits};
 ghost use Rattle.bags.specs.declared.point.Point.{Point};
 ghost use Rattle.profile_scan.specs.Adding.{label_points, AreRidden};
-ghost use Rattle.profile_scan.specs.Bound.{unpruned, RidesLabel};
+ghost use Rattle.profile_scan.specs.Bound.{survivors, RidesLabel};
 
-use crate::bound::has_no_worse;
+use crate::bound::any_no_worse;
 use bags::Point;
 use criteria::Criterion;
 use fronts::{Label, RiddenLabel};
@@ -55,7 +55,7 @@ fn ride_label<C: Criterion>(
         (RidesLabel (C.rules criterion.now) bound.now label.now ridden.old.items ridden.new.items) }
 {
     let value = criterion.ride(&label.value);
-    if has_no_worse(criterion, bound, &value) {
+    if any_no_worse(criterion, bound, &value) {
         return Ok(());
     }
     let number = number_of(label.tag)?;
@@ -77,7 +77,7 @@ pub fn ride_labels<C: Criterion>(
     requires bound { (b : _) → Contains bound.now b → Admits (C.rules criterion.now) b }
     requires labels { (l : Point _) → Contains (label_points labels.now) l → Admits (C.rules criterion.now) l.value }
     ensures { OnOk result (AreRidden (C.rules criterion.now)
-        (unpruned (C.rules criterion.now) bound.now (label_points labels.now)) ridden.new.items) }
+        (survivors (C.rules criterion.now) bound.now (label_points labels.now)) ridden.new.items) }
 {
     ridden.clear();
     for k in 0..labels.len() {

@@ -67,8 +67,8 @@ impl<C: Criterion, O: AtSource<C>> State<C, O> {
         alighting_leads_nowhere(connection, way, head)
     }
 
-    // Takes one connection in: leaves the trip where it ends; then, by the labels that the trip has now, sets out for
-    // it and boards it.
+    // Takes one connection in: passengers leave the trip where the connection ends; then, by the labels that the trip
+    // has now, they set out for the connection and board it.
     fn take<S: ConnSource>(
         &mut self,
         asked: &ScanQuery<C>,
@@ -171,8 +171,8 @@ impl<C: Criterion, O: AtSource<C>> Scan<C, O> {
         let hop = Hop {
             connection: *connection,
             place,
-            lead: asked.starts.access_to(connection.from),
-            way,
+            access: asked.starts.access_to(connection.from),
+            final_walk: way,
             bound: &self.bound.values,
         };
         self.state.take(asked, source, &hop)?;

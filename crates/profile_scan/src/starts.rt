@@ -8,7 +8,7 @@ use sources::ConnSource;
 use std::alloc::{AllocError, Global};
 use timetable::Footpath;
 
-/// How one may set out for the connections that begin at a stop.
+/// Whether a journey may set out for the connections that begin at a stop.
 #[derive(Clone, Copy, Drop)]
 pub struct StopAccess {
     /// whether the stop is a source
@@ -17,15 +17,15 @@ pub struct StopAccess {
     pub led: bool,
 }
 
-/// For each stop how one may set out for the connections that begin there. To most stops no footpath leads from a
-/// source, so setting out mostly skips the footpaths.
+/// For each stop whether it is a source, or one footpath from one: so whether a journey may set out for the connections
+/// that begin there. Most stops are neither, and their footpaths are skipped.
 #[derive(Drop)]
 pub struct Starts {
     leads: Vec<StopAccess>,
 }
 
 impl Starts {
-    /// How one may set out for the connections that begin at a stop.
+    /// Whether a journey may set out for the connections that begin at a stop.
     pub fn access_to(&self, stop: u32) -> StopAccess
         requires { stop < length self.now.leads.items }
         ensures { slice_get self.now.leads.items stop ≡ Some result }
@@ -72,7 +72,7 @@ fn is_led<S: ConnSource>(source: &S, marked: &[bool], stop: u32) -> bool
     false
 }
 
-// How one may set out for the connections that begin at a stop, from the marked stops.
+// Whether a journey may set out for the connections that begin at a stop, from the marked stops.
 fn access_of<S: ConnSource>(source: &S, marked: &[bool], stop: u32) -> StopAccess
     requires stop { stop < (S.timetable source.now).stops }
     requires long { length marked.now ≡ (S.timetable source.now).stops }
@@ -84,7 +84,7 @@ fn access_of<S: ConnSource>(source: &S, marked: &[bool], stop: u32) -> StopAcces
     }
 }
 
-/// Finds for each stop how one may set out from the sources for the connections that begin there.
+/// Finds for each stop whether a journey may set out from the sources for the connections that begin there.
 pub fn starts_from<S: ConnSource>(
     alloc: Global,
     source: &S,

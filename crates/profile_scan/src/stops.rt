@@ -2,7 +2,7 @@
 
 ghost use Rattle.std.specs.Prelude.{◌≡◌, ℕ, IfOk, replicate};
 
-use crate::bound::has_no_worse;
+use crate::bound::any_no_worse;
 use crate::hop::{Hop, ScanQuery};
 use crate::last_offers::{LastOffer, none_offered};
 use crate::riding::{number_of, ride_labels};
@@ -13,8 +13,8 @@ use std::alloc::{AllocError, Global};
 use std::ops::Range;
 use timetable::Footpath;
 
-/// A list of points for each stop, by its head, and its `LastOffer`. A point's tag is the index in `lists` of its step:
-/// a footpath, the connection boarded after it, and the label by which one rides on.
+/// For each stop the head of its list of points, and its `LastOffer`. A point's tag is the index in `lists` of its
+/// step: a footpath, the connection boarded after it, and the label by which one rides on.
 #[derive(Drop)]
 pub struct Stops<C: Criterion> {
     pub lists: FrontLists<C>,
@@ -30,7 +30,7 @@ impl<C: Criterion> Stops<C> {
     ghost use Rattle.bags.specs.declared.point.Point.{Point};
     ghost use Rattle.bags.specs.Dominance.{IsCovered};
     ghost use Rattle.profile_scan.specs.Adding.{label_points, AreWalksInto};
-    ghost use Rattle.profile_scan.specs.Bound.{unpruned};
+    ghost use Rattle.profile_scan.specs.Bound.{survivors};
     ghost use Rattle.profile_scan.specs.Steps.{boardings};
     ghost use Rattle.profile_scan.specs.ScanState.{AreStops, points_at};
     ghost use Rattle.profile_scan.specs.Hops.{IsHopOf};
@@ -228,11 +228,11 @@ impl<C: Criterion> Stops<C> {
         ensures takes { OnOk result ((stop : ℕ)
             → StopTakes (C.rules asked.now.criterion) (S.timetable source.now).footpaths stop
             (λ tags. boardings (C.rules asked.now.criterion) (S.timetable source.now) tags hop.now.place stop
-            (unpruned (C.rules asked.now.criterion) hop.now.bound.now (label_points (label.now ∷ []))))
+            (survivors (C.rules asked.now.criterion) hop.now.bound.now (label_points (label.now ∷ []))))
             self.old self.new) }
     {
         let value = asked.criterion.ride(&label.value);
-        if has_no_worse(&asked.criterion, hop.bound, &value) {
+        if any_no_worse(&asked.criterion, hop.bound, &value) {
             return Ok(());
         }
         let ride = RiddenLabel {
@@ -264,7 +264,7 @@ impl<C: Criterion> Stops<C> {
         ensures takes { OnOk result ((stop : ℕ)
             → StopTakes (C.rules asked.now.criterion) (S.timetable source.now).footpaths stop
             (λ tags. boardings (C.rules asked.now.criterion) (S.timetable source.now) tags hop.now.place stop
-            (unpruned (C.rules asked.now.criterion) hop.now.bound.now (label_points labels.now)))
+            (survivors (C.rules asked.now.criterion) hop.now.bound.now (label_points labels.now)))
             self.old self.new) }
     {
         if !hop.connection.board {

@@ -26,7 +26,7 @@ use std::alloc::{AllocError, Global};
 use timetable::{Footpath, GhostValue};
 
 /// The answers from every stop to any of several targets, for one window and criterion. The scan's records of how
-/// journeys go is kept as it is; `found_from` spells those from one stop.
+/// journeys go are kept as they are; `found_from` spells those from one stop.
 #[derive(Drop)]
 pub struct ProfilesToAny<C: Criterion> {
     asked: ScanQuery<C>,
@@ -69,7 +69,7 @@ impl<C: Criterion> ProfilesToAny<C> {
     }
 
     /// Returns the answer of the query from one stop, which is no target, to any of the targets, with its journeys.
-    /// The source has to be one of the timetable that was scanned. The only error is that memory runs out.
+    /// `source` has to read the timetable that was scanned. The only error is that memory runs out.
     pub fn found_from<S: ConnSource>(
         &self,
         alloc: Global,
@@ -149,7 +149,7 @@ fn lists_in_order<C: Criterion>(
 /// Answers a query from every stop to any of several targets by one scan: for each stop, of the points of all journeys
 /// from there to one of the targets that count, exactly those that no other dominates, in order.
 ///
-/// A journey that is at a target ends there, and the walk from a stop is the shortest footpath to a target. From a
+/// A journey that reaches a target ends there, and the walk from a stop is the shortest footpath to a target. From a
 /// target, where no query can be asked, the journeys are those that come back to it or go on to another; a caller that
 /// wants only what can be asked leaves the targets out.
 ///

@@ -9,13 +9,13 @@ ghost use Rattle.timetable.specs.declared.network.Footpath.{Footpath};
 ghost use Rattle.timetable.specs.Journeys.{start_secs};
 ghost use Rattle.fronts.specs.Labels.{AreLabels, trips_of};
 ghost use Rattle.profile_scan.specs.Values.{started};
-ghost use Rattle.profile_scan.specs.Bound.{has_no_worse, unpruned};
+ghost use Rattle.profile_scan.specs.Bound.{any_no_worse, survivors};
 ghost use Rattle.profile_scan.specs.ScanRecords.{IsExit};
 ghost use Rattle.profile_scan.specs.declared.scan_records.Exit.TheVariants.{Changes};
 ghost use Rattle.profile_scan.specs.Adding.{IsEnding, trip_points};
 ghost use Rattle.profile_scan.specs.SetQuery.{question};
 
-use crate::bound::has_no_worse;
+use crate::bound::any_no_worse;
 use crate::final_walks::FinalWalk;
 use crate::hop::{Hop, ScanQuery};
 use crate::scan_records::Exit;
@@ -39,7 +39,7 @@ impl<C: Criterion> Trips<C> {
     ghost use Rattle.std.specs.Prelude.{◌≡◌, [], ℕ, true, false, IfOk, OnOk};
     ghost use Rattle.criteria.specs.Laws.{Admits};
     ghost use Rattle.fronts.specs.Labels.{AreLabels, trips_of};
-    ghost use Rattle.profile_scan.specs.Bound.{has_no_worse, unpruned};
+    ghost use Rattle.profile_scan.specs.Bound.{any_no_worse, survivors};
     ghost use Rattle.profile_scan.specs.ScanRecords.{IsExit};
     ghost use Rattle.profile_scan.specs.declared.scan_records.Exit.TheVariants.{Changes};
     ghost use Rattle.profile_scan.specs.Adding.{one_way, only_if, changes_from, endings};
@@ -77,7 +77,7 @@ impl<C: Criterion> Trips<C> {
         Ok(())
     }
 
-    /// Offers the end of the journey to the labels of the connection's trip, if a passenger who gets off reaches a
+    /// Offers a label to the connection's trip for a journey that ends here, if a passenger who gets off reaches a
     /// target by `query.by`, at once or by footpath.
     pub fn end(&mut self, asked: &ScanQuery<C>, hop: &Hop<C::V>) -> Result<(), AllocError>
         requires hop { IsHop (C.rules asked.now.criterion) (question asked.now.query) hop.now }
@@ -86,10 +86,10 @@ impl<C: Criterion> Trips<C> {
             (ChangesTrip (C.rules asked.now.criterion) hop.now.connection.trip self.old self.new) }
         ensures takes { OnOk result (TripTakes (C.rules asked.now.criterion) hop.now.connection.trip
             (λ tags. endings (C.rules asked.now.criterion) tags hop.now.place
-            hop.now.connection (question asked.now.query) hop.now.way)
+            hop.now.connection (question asked.now.query) hop.now.final_walk)
             self.old self.new) }
     {
-        match end_of(&hop.connection, &asked.query, hop.way) {
+        match end_of(&hop.connection, &asked.query, hop.final_walk) {
             None => Ok(()),
             Some(end) => {
                 let value = value_at_end(&asked.criterion, end.walk, end.time);
@@ -102,8 +102,8 @@ impl<C: Criterion> Trips<C> {
         }
     }
 
-    // Offers to the labels of the connection's trip one point of the stop where it ends, unless a value of `hop.bound`
-    // is no worse than the point's value with the ride. The value is compared with the labels first, since one of them
+    // Offers to the labels of the connection's trip one point of its arrival stop, unless a value of `hop.bound` is no
+    // worse than the point's value with the ride. The value is compared with the labels first, since one of them
     // is usually no worse, and then with the bound.
     fn change_by(
         &mut self,
@@ -118,7 +118,7 @@ impl<C: Criterion> Trips<C> {
             (ChangesTrip (C.rules asked.now.criterion) hop.now.connection.trip self.old self.new) }
         ensures takes { OnOk result (TripTakes (C.rules asked.now.criterion) hop.now.connection.trip
             (λ tags. only_if
-            (has_no_worse (C.rules asked.now.criterion) hop.now.bound.now
+            (any_no_worse (C.rules asked.now.criterion) hop.now.bound.now
             ((C.rules asked.now.criterion).ride point.now.value) ≡ false)
             (one_way 0 point.now.value (IsExit tags (Changes hop.now.place point.now.tag))))
             self.old self.new) }
@@ -128,7 +128,7 @@ impl<C: Criterion> Trips<C> {
             return Ok(());
         }
         let ridden = asked.criterion.ride(&point.value);
-        if has_no_worse(&asked.criterion, hop.bound, &ridden) {
+        if any_no_worse(&asked.criterion, hop.bound, &ridden) {
             return Ok(());
         }
         let exit = Exit::Changes {
@@ -138,9 +138,9 @@ impl<C: Criterion> Trips<C> {
         self.offer(&asked.criterion, hop.connection.trip, point.value, exit)
     }
 
-    /// A passenger changes: the labels of the connection's trip come to cover each point of the stop where it ends that
+    /// A passenger changes: the labels of the connection's trip come to cover each point of its arrival stop that
     /// departs at the arrival or later, unless a value of `hop.bound` is no worse than the point's value with the ride.
-    /// It suffices to offer the front at the arrival, which covers all such points. It is kept as an entry: the front's
+    /// It suffices to offer the front at the arrival, which covers all such points. A front is kept as an entry: its
     /// first point stands in the entry itself, and the others are the entry's items.
     #[inline(always)]
     pub fn change(
@@ -156,7 +156,7 @@ impl<C: Criterion> Trips<C> {
             (ChangesTrip (C.rules asked.now.criterion) hop.now.connection.trip self.old self.new) }
         ensures takes { OnOk result (TripTakes (C.rules asked.now.criterion) hop.now.connection.trip
             (λ tags. changes_from tags hop.now.place hop.now.connection.arr
-            (unpruned (C.rules asked.now.criterion) hop.now.bound.now (points_at stops.now hop.now.connection.to)))
+            (survivors (C.rules asked.now.criterion) hop.now.bound.now (points_at stops.now hop.now.connection.to)))
             self.old self.new) }
     {
         let head = stops.head(hop.connection.to);

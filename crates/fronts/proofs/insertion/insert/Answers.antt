@@ -20,6 +20,8 @@ known g c =
     c.deref-3.result.now c.deref-2.result.now c.deref-4.result.now
     c.deref.ensures.value c.deref-2.ensures.value c.deref-3.ensures.value c.deref-4.ensures.value c.requires.secs
     c.requires.ridden c.requires.entries c.in_ok-after.ensures.late c.in_ok-keep_walked.ensures.boarded
+    c.in_ok-keep_walked.ensures.fresh
+    (λ says. let most = c.requires.few says in let few = c.in_ok-keep_walked.ensures.few in omega arith)
     c.in_ok-keep_walked.ensures.all
 
 -- the entries that are passed, as they stand before the put
@@ -49,12 +51,14 @@ returns-then-len-eq0-clause-takes g c =
     c.deref-3.result.now c.deref-2.result.now c.deref-4.result.now
     c.deref.ensures.value c.deref-2.ensures.value c.deref-3.ensures.value c.deref-4.ensures.value c.requires.secs
     c.requires.ridden c.requires.entries c.in_ok-after.ensures.late c.in_ok-keep_walked.ensures.boarded
+    c.in_ok-keep_walked.ensures.fresh
+    (λ says. let most = c.requires.few says in let few = c.in_ok-keep_walked.ensures.few in omega arith)
     c.in_ok-keep_walked.ensures.all)
     (omega arith)
 
 pub put-requires-clause-may : goal.put-requires-clause-may
 put-requires-clause-may g c =
-    subst (λ ps. MayPut (g.C.Criterion.rules c.args.criterion.now) c.args.entries.now.items c.args.boarding.departure
+    subst (λ ps. MayPut (g.C.Criterion.rules c.args.criterion.now) c.args.entries.now.items c.args.items.now.items c.args.boarding.departure
     c.in_ok-after.after ps) (sym c.deref-5.ensures.value)
     (takes_may (g.C.Criterion.rules c.args.criterion.now) (g.met.C.Criterion.laws c.args.criterion.now)
     c.args.entries.now.items c.args.items.now.items c.args.head c.args.boarding.departure c.args.boarding.first

@@ -24,8 +24,9 @@ put-requires-clause-may g c =
     let is = kept_read rules c.deref.result.now entries c.deref-2.result.now c.args.items.now.items
     c.keep_front.new.kept.items c.args.index c.args.from c.deref.ensures.value c.deref-2.ensures.value
     c.in_ok-keep_front.ensures in
-    subst (λ d. MayPut rules entries d c.args.index c.deref-3.result.now) (departs_at entries c.args.from c.index.result.now c.requires.from c.index.ensures)
-    (subst (λ ps. MayPut rules entries (departure_of entries c.args.from) c.args.index ps) (sym c.deref-3.ensures.value)
+    subst (λ d. MayPut rules entries c.args.items.now.items d c.args.index c.deref-3.result.now)
+    (departs_at entries c.args.from c.index.result.now c.requires.from c.index.ensures)
+    (subst (λ ps. MayPut rules entries c.args.items.now.items (departure_of entries c.args.from) c.args.index ps) (sym c.deref-3.ensures.value)
     (joined_may rules (g.met.C.Criterion.laws c.args.criterion.now) entries c.args.items.now.items c.requires.entries
     c.args.from c.args.index c.requires.early c.requires.covers c.keep_front.new.kept.items is (omega arith)
     c.requires.index))

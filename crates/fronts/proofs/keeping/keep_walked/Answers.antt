@@ -1,7 +1,11 @@
-use Rattle.std.proofs.Common.{inl, inr, sym, ◌∙◌, subst, arith}
-use Rattle.reasoning.proofs.ListLemmas.{extends_none, extends_on}
+use Rattle.std.proofs.Common.{◌≡◌, length, Contains, false, inl, inr, ap, sym, ◌∙◌, subst, arith}
+use Rattle.std.proofs.lemmas.List.{length_push}
+use Rattle.std.proofs.lemmas.List.Elements.{Contains-push_cases}
+use Rattle.reasoning.proofs.ListLemmas.{extends_none, extends_on, not_in_nil}
 use Rattle.criteria.specs.Laws.{Admits}
+use Rattle.fronts.specs.declared.entry.Item.{Item}
 use Rattle.fronts.specs.Front.{front, Betters}
+use Rattle.fronts.specs.Putting.{betters}
 use Rattle.fronts.proofs.OnePut.{betters_some}
 use Rattle.fronts.proofs.Walks.{boardings_none, boardings_more, all_more}
 use Rattle.fronts.proofs.keeping.keep_walked.Goals as goal
@@ -13,6 +17,8 @@ loop-i-init g c = record {
   boarded = boardings_none (g.C.Criterion.rules c.args.criterion.now) c.args.boarding.departure c.args.boarding.first
       c.args.boarding.walk c.args.boarding.secs c.args.ridden.now c.args.steps.now.items c.clear.new.self.items
       c.clear.ensures.items;
+  few = let none = ap length c.clear.ensures.items in omega arith;
+  fresh = λ p h. absurd (not_in_nil p (subst (λ ps. Contains ps p) c.clear.ensures.items h));
   all = λ k d lt. absurd (omega arith);
 }
 
@@ -49,6 +55,23 @@ loop-i-preserved g c =
           rw (w.steps-is, w.kept-is) (record {
             more = extends_on c.args.steps.now.items c.loop-i.steps.items w.keep_value.new.steps.items inv.more w.in_ok-keep_value.ensures.more;
             boarded = m.0;
+            few = let more = ap length w.in_ok-keep_value.ensures.keeps.kept_more in
+                let pushed = length_push c.loop-i.kept.items (record {
+                  departure = c.args.boarding.departure;
+                  value = c.walk-value.result;
+                  tag = length c.loop-i.steps.items;
+                }) in
+                let few = inv.few in
+                omega arith;
+            fresh = λ p h. elim (Contains-push_cases c.loop-i.kept.items (record {
+              departure = c.args.boarding.departure;
+              value = c.walk-value.result;
+              tag = length c.loop-i.steps.items;
+            }) p (subst (λ ps. Contains ps p) w.in_ok-keep_value.ensures.keeps.kept_more h)) [
+              | inl was ↦ inv.fresh p was
+              | inr e ↦ subst (λ (z : Item g.row.C-V.Denot). betters rules points z.value ≡ false) e
+                  (sym c.front_betters.ensures ∙ w.if-not-front_betters.true)
+            ];
             all = all_more rules c.args.boarding.departure c.args.boarding.first c.args.boarding.walk
                 c.args.boarding.secs c.args.ridden.now points c.loop-i.kept.items w.keep_value.new.kept.items c.loop-i.i
                 r m.1 (omega arith) c.index-ridden-i.is inv.all
@@ -57,6 +80,8 @@ loop-i-preserved g c =
       | else-not-front_betters w ↦ rw (w.steps-is, w.kept-is) (record {
         more = inv.more;
         boarded = inv.boarded;
+        few = let few = inv.few in omega arith;
+        fresh = inv.fresh;
         all = all_more rules c.args.boarding.departure c.args.boarding.first c.args.boarding.walk c.args.boarding.secs
             c.args.ridden.now points c.loop-i.kept.items c.loop-i.kept.items c.loop-i.i r
             (extends_none c.loop-i.kept.items) (omega arith) c.index-ridden-i.is inv.all

@@ -1,4 +1,7 @@
+use Rattle.std.proofs.Common.{◌≡◌, ◌≤◌, length, Contains, false}
+use Rattle.fronts.specs.declared.entry.Item.{Item}
 use Rattle.fronts.specs.Front.{front, Extends}
+use Rattle.fronts.specs.Putting.{betters}
 use Rattle.fronts.specs.Walking.{AreBoardings, AllWalked}
 use Rattle.fronts.proofs.keeping.keep_walked.Given as goal
 
@@ -7,5 +10,8 @@ invariant-loop-i g l = record {
   more : Extends l.fn.steps.items l.steps.items;
   boarded : AreBoardings (g.C.Criterion.rules l.criterion) l.steps.items l.boarding.departure l.boarding.first
       l.boarding.walk l.boarding.secs l.ridden l.kept.items;
+  few : length l.kept.items ≤ l.i;
+  fresh : (p : Item g.row.C-V.Denot) → Contains l.kept.items p
+      → betters (g.C.Criterion.rules l.criterion) (front l.arena.entries.now l.arena.items.now l.index) p.value ≡ false;
   all : AllWalked (g.C.Criterion.rules l.criterion) (front l.arena.entries.now l.arena.items.now l.index) l.boarding.secs l.ridden l.i l.kept.items;
 }

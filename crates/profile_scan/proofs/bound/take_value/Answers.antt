@@ -1,13 +1,13 @@
 use Rattle.std.proofs.Common.{List, [], ◌∷◌, ◌++◌, sym, ◌∙◌, ap}
-use Rattle.profile_scan.specs.Bound.{has_no_worse}
+use Rattle.profile_scan.specs.Bound.{any_no_worse}
 use Rattle.profile_scan.proofs.BoundLemmas.{value_comes, value_stays}
 use Rattle.profile_scan.proofs.bound.take_value.Goals as goal
 
-pub returns-then-has_no_worse : goal.returns-then-has_no_worse
-returns-then-has_no_worse g c =
+pub returns-then-any_no_worse : goal.returns-then-any_no_worse
+returns-then-any_no_worse g c =
     let rules = g.C.Criterion.rules c.args.criterion.now in
     value_stays rules c.args.value c.args.values.now.items
-    (sym (c.has_no_worse.ensures ∙ ap (λ (xs : List g.row.C-V.Denot). has_no_worse rules xs c.args.value) c.deref.ensures.value) ∙ c.if-has_no_worse.true)
+    (sym (c.any_no_worse.ensures ∙ ap (λ (xs : List g.row.C-V.Denot). any_no_worse rules xs c.args.value) c.deref.ensures.value) ∙ c.if-any_no_worse.true)
 
 pub returns : goal.returns
 returns g c =

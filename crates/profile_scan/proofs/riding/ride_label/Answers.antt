@@ -3,15 +3,15 @@ use Rattle.std.proofs.Common.{sym, ◌∙◌, subst}
 use Rattle.criteria.specs.Laws.{Admits}
 use Rattle.profile_scan.proofs.riding.ride_label.Goals as goal
 
-pub has_no_worse-requires-clause-value : goal.has_no_worse-requires-clause-value
-has_no_worse-requires-clause-value g c =
+pub any_no_worse-requires-clause-value : goal.any_no_worse-requires-clause-value
+any_no_worse-requires-clause-value g c =
     subst (Admits (g.C.Criterion.rules c.args.criterion.now)) (sym c.ride-value.ensures)
     ((g.met.C.Criterion.laws c.args.criterion.now).ride_admits c.args.label.now.value c.requires.label)
 
-pub returns-then-has_no_worse : goal.returns-then-has_no_worse
-returns-then-has_no_worse g c =
+pub returns-then-any_no_worse : goal.returns-then-any_no_worse
+returns-then-any_no_worse g c =
     rides_none (g.C.Criterion.rules c.args.criterion.now) c.args.bound.now c.args.label.now c.ride-value.result
-    c.args.ridden.now.items c.ride-value.ensures (sym c.has_no_worse.ensures ∙ c.if-has_no_worse.true)
+    c.args.ridden.now.items c.ride-value.ensures (sym c.any_no_worse.ensures ∙ c.if-any_no_worse.true)
 
 pub returns : goal.returns
 returns g c =
@@ -20,4 +20,4 @@ returns g c =
           c.ride-value.result;
       label = c.in_ok-number.number;
     }) c.args.ridden.now.items c.push.new.self.items
-    (sym c.has_no_worse.ensures ∙ c.if-has_no_worse.false) c.ride-value.ensures c.in_ok-number.ensures c.in_ok-push.ensures.items
+    (sym c.any_no_worse.ensures ∙ c.if-any_no_worse.false) c.ride-value.ensures c.in_ok-number.ensures c.in_ok-push.ensures.items

@@ -4,7 +4,7 @@ use Rattle.reasoning.proofs.ListLemmas.{extends_none}
 use Rattle.fronts.specs.Front.{Extends, points_from}
 use Rattle.fronts.specs.Lists.{lists_criterion, entries_of, items_of, steps_of}
 use Rattle.fronts.specs.Walking.{TakesBoardings}
-use Rattle.fronts.proofs.Ahead.{read_low, ahead_none, ahead_may, ahead_one}
+use Rattle.fronts.proofs.Ahead.{read_low, read_fresh, ahead_none, ahead_may, ahead_one}
 use Rattle.fronts.proofs.front_lists.FrontLists.insert_ahead.Goals as goal
 
 pub returns-then-front_betters-clause-takes : goal.returns-then-front_betters-clause-takes
@@ -34,6 +34,9 @@ put_one-requires-clause-may g c =
     c.args.head by.departure by.first by.walk by.secs c.args.ride c.requires.head c.requires.ahead c.requires.secs
     c.requires.ride (steps_of lists) c.push.new.self.items c.in_ok-tag.tag c.walk-value.result c.walk-value.ensures
     c.in_ok-push.ensures.items (omega (arith, numbered))
+    (read_fresh rules (entries_of lists) c.deref.result.now (items_of lists) c.deref-2.result.now c.args.head
+    c.walk-value.result c.front_betters.result c.deref.ensures.value c.deref-2.ensures.value c.front_betters.ensures
+    c.if-front_betters.false)
 
 pub returns-clause-takes : goal.returns-clause-takes
 returns-clause-takes g c =
@@ -50,5 +53,8 @@ returns-clause-takes g c =
     c.requires.sound c.args.head by.departure by.first by.walk by.secs c.args.ride c.requires.head c.requires.ahead
     c.requires.secs c.requires.ride (steps_of lists) c.push.new.self.items c.in_ok-tag.tag c.walk-value.result
     c.walk-value.ensures c.in_ok-push.ensures.items numbered
+    (read_fresh rules (entries_of lists) c.deref.result.now (items_of lists) c.deref-2.result.now c.args.head
+    c.walk-value.result c.front_betters.result c.deref.ensures.value c.deref-2.ensures.value c.front_betters.ensures
+    c.if-front_betters.false)
     (points_from (entries_of c.put_one.new.self) (items_of c.put_one.new.self) new) union))
     c.put_one.ensures.union

@@ -82,7 +82,7 @@ returns-then-not-hop-2-clause-takes g c index exits steps before all ext_before 
     alone_taken (g.C.Criterion.rules c.args.asked.now.criterion) t
     (from_to (spelling_of t.footpaths before) (spelling_of t.footpaths all)) hop.place (question c.args.asked.now.query)
     (label_points c.args.labels.now) (points_of c.args.self.now.found) (points_of c.set_out_by.new.self.found)
-    hop.connection c.requires.hop.stands.is c.if-not-hop.false hop.lead.led c.if-not-hop-2.true c.requires.hop.lead.led
+    hop.connection c.requires.hop.stands.is c.if-not-hop.false hop.access.led c.if-not-hop-2.true c.requires.hop.access.led
     (c.in_ok-set_out_by.ensures.takes t.footpaths exits steps before all ext_before ext)
 
 -- the connection begins at a stop
@@ -101,7 +101,7 @@ footpath_into-walk-requires-clause-stop g c = begins g (goal.at.footpath_into-wa
 -- of a start it can be looked up whether it is from a source
 pub set_out_by-requires-clause-lead : goal.set_out_by-requires-clause-lead
 set_out_by-requires-clause-lead g c = record {
-  here = c.requires.hop.lead.here;
+  here = c.requires.hop.access.here;
   within = tt;
   says = λ stop lead at. (c.requires.starts.each stop lead at).here;
 }
@@ -111,7 +111,7 @@ set_out_by-requires-in-loop-walk_index-clause-lead g c =
     let from_in = ((g.met.S.ConnSource.legal c.args.source.now).ends_in_range c.loop-walk_index.walk_index c.footpath_into-walk.result
     c.footpath_into-walk.ensures).0 in
     record {
-      here = c.requires.hop.lead.here;
+      here = c.requires.hop.access.here;
       within = subst (λ (n : ℕ). c.footpath_into-walk.result.from < n) (sym c.requires.starts.long) from_in;
       says = λ stop lead at. (c.requires.starts.each stop lead at).here;
     }

@@ -108,8 +108,8 @@ take-requires-clause-hop g c =
     record {
       stands = c.requires.stands;
       by = c.requires.asked.by;
-      lead = c.requires.asked.starts.each c.args.connection.now.from c.access_to.result c.access_to.ensures;
-      way = way_is g (goal.at.take-requires-clause-hop g c).After-final_walk_from-way;
+      access = c.requires.asked.starts.each c.args.connection.now.from c.access_to.result c.access_to.ensures;
+      final_walk = way_is g (goal.at.take-requires-clause-hop g c).After-final_walk_from-way;
       bound =
           subst (λ (values : List g.row.C-V.Denot). (b : g.row.C-V.Denot) → Contains values b → Admits rules b) (sym c.deref.ensures.value)
           (renewed g (goal.at.take-requires-clause-hop g c).In_ok-renew 0).admitted;

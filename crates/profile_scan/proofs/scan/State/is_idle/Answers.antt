@@ -18,7 +18,7 @@ returns g c is =
     let empty = ap (map point_of) (none_at_end (g.C.Criterion.rules (lists_criterion lists)) (entries_of lists) (items_of lists) c.requires.stop.stops.sound) in
     record {
       no_labels = ap label_points none;
-      ends_here = λ alights.
+      leads_nowhere = λ alights.
           let here = nothing alights in
           let head_is : slice_index stops.heads.items cn.to ≡ 0 = sym c.head-head.ensures ∙ here.1 in
           (here.0, ap (list_points lists) head_is ∙ empty);

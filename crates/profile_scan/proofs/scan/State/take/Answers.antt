@@ -7,7 +7,7 @@ use Rattle.fronts.specs.Lists.{entries_of, items_of, lists_criterion}
 use Rattle.fronts.proofs.Mapped.{list_admitted}
 use Rattle.profile_scan.specs.SetQuery.{asked_from, question}
 use Rattle.profile_scan.specs.Steps.{IsStep, boardings, settings_out}
-use Rattle.profile_scan.specs.Bound.{unpruned}
+use Rattle.profile_scan.specs.Bound.{survivors}
 use Rattle.profile_scan.specs.Adding.{label_points, trip_points}
 use Rattle.profile_scan.specs.Matching.{from_to}
 use Rattle.profile_scan.specs.ScanRecords.{spelling_of}
@@ -211,7 +211,7 @@ returns-clause-step g c =
           (kept mid.origin index) (kept c.set_out.new.self index)) c.labels_of-labels.ensures (c.in_ok-set_out.ensures.takes index);
       steps = c.in_ok-board.ensures.stops.steps;
       boards = λ stop. subst (λ (xs : List (Label g.row.C-V.Denot)). StopTakes rules t.footpaths stop
-          (λ tags. boardings rules t tags hop.place stop (unpruned rules hop.bound.now (label_points xs))) mid.stops c.board.new.self)
+          (λ tags. boardings rules t tags hop.place stop (survivors rules hop.bound.now (label_points xs))) mid.stops c.board.new.self)
           c.labels_of-labels.ensures (c.in_ok-board.ensures.takes stop);
     })
 

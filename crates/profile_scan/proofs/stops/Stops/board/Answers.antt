@@ -6,11 +6,11 @@ use Rattle.profile_scan.specs.Matching.{from_to}
 use Rattle.profile_scan.specs.ScanRecords.{spelling_of}
 use Rattle.profile_scan.specs.Steps.{boardings}
 use Rattle.profile_scan.specs.Adding.{label_points}
-use Rattle.profile_scan.specs.Bound.{unpruned}
+use Rattle.profile_scan.specs.Bound.{survivors}
 use Rattle.profile_scan.specs.ScanState.{points_at}
 use Rattle.profile_scan.specs.Parts.{StopTakes}
 use Rattle.profile_scan.proofs.Offers.{takes_none}
-use Rattle.profile_scan.proofs.BoundLemmas.{from_unpruned}
+use Rattle.profile_scan.proofs.BoundLemmas.{from_survivors}
 use Rattle.profile_scan.proofs.LabelLemmas.{as_point}
 use Rattle.profile_scan.proofs.RideLemmas.{one_alone, ridden_admitted, no_ridden}
 use Rattle.profile_scan.proofs.BoardLemmas.{walks_into_it, boardings_taken}
@@ -51,8 +51,8 @@ board_walks-requires-clause-ready g c =
         many = c.requires.stops.many;
         offered = c.requires.stops.offered;
       };
-      ridden = ridden_admitted rules (unpruned rules values labels) laws
-          (λ p h. c.requires.labels p (from_unpruned rules values labels p h).0) c.ride_labels.new.ridden.items
+      ridden = ridden_admitted rules (survivors rules values labels) laws
+          (λ p h. c.requires.labels p (from_survivors rules values labels p h).0) c.ride_labels.new.ridden.items
           c.in_ok-ride_labels.ensures;
     }
 
@@ -64,10 +64,10 @@ returns-clause-takes g c stop exits set_outs before all ext_before ext =
     let values = c.args.hop.now.bound.now in
     boardings_taken rules t (from_to (spelling_of t.footpaths before) (spelling_of t.footpaths all)) c.args.hop.now.place
     c.args.hop.now.connection c.requires.hop.stands.is c.if-not-hop.false c.walks_into-begin.result.0
-    c.walks_into-begin.result.1 c.walks_into-begin.ensures.exact (unpruned rules values all_labels)
+    c.walks_into-begin.result.1 c.walks_into-begin.ensures.exact (survivors rules values all_labels)
     stop (points_at c.args.self.now stop) (points_at c.board_walks.new.self stop)
-    (c.in_ok-board_walks.ensures.takes (unpruned rules values all_labels) c.in_ok-ride_labels.ensures
-    (λ p h. c.requires.labels p (from_unpruned rules values all_labels p h).0) stop exits set_outs before all
+    (c.in_ok-board_walks.ensures.takes (survivors rules values all_labels) c.in_ok-ride_labels.ensures
+    (λ p h. c.requires.labels p (from_survivors rules values all_labels p h).0) stop exits set_outs before all
     ext_before ext)
 
 -- all labels are bettered
@@ -75,7 +75,7 @@ pub returns-then-len-eq0-clause-takes : goal.returns-then-len-eq0-clause-takes
 returns-then-len-eq0-clause-takes g c stop exits set_outs before all ext_before ext =
     let rules = g.C.Criterion.rules c.args.asked.now.criterion in
     let t = g.S.ConnSource.timetable c.args.source.now in
-    let labels = unpruned rules c.args.hop.now.bound.now (label_points c.args.labels.now) in
+    let labels = survivors rules c.args.hop.now.bound.now (label_points c.args.labels.now) in
     takes_none rules (boardings rules t (from_to (spelling_of t.footpaths before) (spelling_of t.footpaths all)) c.args.hop.now.place
     stop labels) (points_at c.args.self.now stop)
     (λ way may. no_ridden rules labels c.ride_labels.new.ridden.items c.in_ok-ride_labels.ensures (omega arith) way.label may.is_label)
@@ -115,5 +115,5 @@ returns-then-labels-eq1-clause-takes g c =
     let values = c.args.hop.now.bound.now in
     let only = one_alone c.args.labels.now c.index-labels-0.result c.if-labels-eq1.true c.index-labels-0.is in
     subst (λ ls. OnOk c.board_only_label.result ((stop : ℕ) → StopTakes rules t.footpaths stop
-    (λ tags. boardings rules t tags c.args.hop.now.place stop (unpruned rules values (label_points ls)))
+    (λ tags. boardings rules t tags c.args.hop.now.place stop (survivors rules values (label_points ls)))
     c.args.self.now c.board_only_label.new.self)) (sym only) c.board_only_label.ensures.takes

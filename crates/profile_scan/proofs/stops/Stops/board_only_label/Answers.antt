@@ -7,7 +7,7 @@ use Rattle.profile_scan.specs.Matching.{from_to}
 use Rattle.profile_scan.specs.ScanRecords.{spelling_of}
 use Rattle.profile_scan.specs.Steps.{boardings}
 use Rattle.profile_scan.specs.Adding.{label_points}
-use Rattle.profile_scan.specs.Bound.{unpruned}
+use Rattle.profile_scan.specs.Bound.{survivors}
 use Rattle.profile_scan.specs.ScanState.{points_at}
 use Rattle.profile_scan.proofs.Offers.{takes_none}
 use Rattle.profile_scan.proofs.LabelLemmas.{as_point}
@@ -18,8 +18,8 @@ use Rattle.profile_scan.proofs.stops.Stops.board_only_label.Given as given
 use Rattle.profile_scan.proofs.stops.Stops.board_only_label.Goals.{Start}
 use Rattle.profile_scan.proofs.stops.Stops.board_only_label.Goals as goal
 
-pub has_no_worse-requires-clause-value : goal.has_no_worse-requires-clause-value
-has_no_worse-requires-clause-value g c =
+pub any_no_worse-requires-clause-value : goal.any_no_worse-requires-clause-value
+any_no_worse-requires-clause-value g c =
     subst (Admits (g.C.Criterion.rules c.args.asked.now.criterion)) (sym c.ride-value.ensures)
     ((g.met.C.Criterion.laws c.args.asked.now.criterion).ride_admits c.args.label.now.value c.requires.label)
 
@@ -46,17 +46,17 @@ board_walks_one-requires-clause-ride g c =
     ((g.met.C.Criterion.laws c.args.asked.now.criterion).ride_admits c.args.label.now.value c.requires.label)
 
 -- the label is bettered
-pub returns-then-has_no_worse-clause-stops : goal.returns-then-has_no_worse-clause-stops
-returns-then-has_no_worse-clause-stops g c = record { stops = c.requires.stops; steps = extends_none (steps_of c.args.self.now.lists) }
+pub returns-then-any_no_worse-clause-stops : goal.returns-then-any_no_worse-clause-stops
+returns-then-any_no_worse-clause-stops g c = record { stops = c.requires.stops; steps = extends_none (steps_of c.args.self.now.lists) }
 
-pub returns-then-has_no_worse-clause-takes : goal.returns-then-has_no_worse-clause-takes
-returns-then-has_no_worse-clause-takes g c stop exits set_outs before all ext_before ext =
+pub returns-then-any_no_worse-clause-takes : goal.returns-then-any_no_worse-clause-takes
+returns-then-any_no_worse-clause-takes g c stop exits set_outs before all ext_before ext =
     let rules = g.C.Criterion.rules c.args.asked.now.criterion in
     let t = g.S.ConnSource.timetable c.args.source.now in
     let values = c.args.hop.now.bound.now in
-    let labels = unpruned rules values (label_points (c.args.label.now ∷ [])) in
+    let labels = survivors rules values (label_points (c.args.label.now ∷ [])) in
     let none = alone_bettered rules values (as_point c.args.label.now) c.ride-value.result c.ride-value.ensures
-    (sym c.has_no_worse.ensures ∙ c.if-has_no_worse.true) in
+    (sym c.any_no_worse.ensures ∙ c.if-any_no_worse.true) in
     takes_none rules (boardings rules t (from_to (spelling_of t.footpaths before) (spelling_of t.footpaths all)) c.args.hop.now.place
     stop labels) (points_at c.args.self.now stop) (λ way may. no_ridden rules labels [] none refl way.label may.is_label)
 
@@ -71,9 +71,9 @@ returns-clause-takes g c stop exits set_outs before all ext_before ext =
     let t = g.S.ConnSource.timetable c.args.source.now in
     let label = as_point c.args.label.now in
     let values = c.args.hop.now.bound.now in
-    let labels = unpruned rules values (label_points (c.args.label.now ∷ [])) in
+    let labels = survivors rules values (label_points (c.args.label.now ∷ [])) in
     let ride : RiddenLabel g.row.C-V.Denot = record { value = c.ride-value.result; label = c.args.label.now.tag } in
-    let are = alone_ridden rules values label ride (sym c.has_no_worse.ensures ∙ c.if-has_no_worse.false)
+    let are = alone_ridden rules values label ride (sym c.any_no_worse.ensures ∙ c.if-any_no_worse.false)
     c.ride-value.ensures refl in
     let boards = c.in_ok-board_walks_one.ensures.takes in
     boardings_taken rules t (from_to (spelling_of t.footpaths before) (spelling_of t.footpaths all)) c.args.hop.now.place

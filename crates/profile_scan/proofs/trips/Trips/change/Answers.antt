@@ -5,7 +5,7 @@ use Rattle.fronts.proofs.Mapped.{list_admitted}
 use Rattle.profile_scan.specs.Matching.{from_to}
 use Rattle.profile_scan.specs.ScanRecords.{scan_records, spelling_of}
 use Rattle.profile_scan.specs.Adding.{changes_from, trip_points}
-use Rattle.profile_scan.specs.Bound.{unpruned}
+use Rattle.profile_scan.specs.Bound.{survivors}
 use Rattle.profile_scan.specs.Steps.{TakesIn}
 use Rattle.profile_scan.proofs.LabelLemmas.{trip_admitted}
 use Rattle.profile_scan.proofs.PartLemmas.{changes_on, still_there}
@@ -90,7 +90,7 @@ returns-then-count-eq0-clause-takes g c walks steps set_outs before all ext_befo
     c.requires.stop.stops.sound c.head-head.result) in
     subst (λ (n : ℕ). TakesIn (g.C.Criterion.rules c.args.asked.now.criterion)
     (changes_from (from_to (spelling_of walks before) (spelling_of walks all)) c.args.hop.now.place c.args.hop.now.connection.arr
-    (unpruned (g.C.Criterion.rules c.args.asked.now.criterion) c.args.hop.now.bound.now (list_points lists n)))
+    (survivors (g.C.Criterion.rules c.args.asked.now.criterion) c.args.hop.now.bound.now (list_points lists n)))
     (trip_points c.args.self.now.labels c.args.hop.now.connection.trip)
     (trip_points c.args.self.now.labels c.args.hop.now.connection.trip)) c.head-head.ensures
     (changes_under g.C.Criterion.rules (lists_criterion lists) c.args.asked.now.criterion c.requires.stop.stops.under
@@ -117,7 +117,7 @@ returns-clause-takes g c walks steps set_outs before all ext_before ext =
     c.requires.stop.stops.sound c.head-head.result) in
     subst (λ (n : ℕ). TakesIn (g.C.Criterion.rules c.args.asked.now.criterion)
     (changes_from (from_to (spelling_of walks before) (spelling_of walks all)) c.args.hop.now.place c.args.hop.now.connection.arr
-    (unpruned (g.C.Criterion.rules c.args.asked.now.criterion) c.args.hop.now.bound.now (list_points lists n)))
+    (survivors (g.C.Criterion.rules c.args.asked.now.criterion) c.args.hop.now.bound.now (list_points lists n)))
     (trip_points c.args.self.now.labels c.args.hop.now.connection.trip)
     (trip_points c.loop-k.self.labels c.args.hop.now.connection.trip)) c.head-head.ensures
     (changes_under g.C.Criterion.rules (lists_criterion lists) c.args.asked.now.criterion c.requires.stop.stops.under

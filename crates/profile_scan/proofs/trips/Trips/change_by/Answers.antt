@@ -5,7 +5,7 @@ use Rattle.fronts.specs.declared.labels.Label.{Label}
 use Rattle.fronts.specs.Labels.{labels_at}
 use Rattle.fronts.specs.Offered.{is_beaten}
 use Rattle.fronts.proofs.Slots.{labels_admitted}
-use Rattle.profile_scan.specs.Bound.{has_no_worse}
+use Rattle.profile_scan.specs.Bound.{any_no_worse}
 use Rattle.profile_scan.specs.Matching.{from_to}
 use Rattle.profile_scan.specs.ScanRecords.{IsExit, spelling_of}
 use Rattle.profile_scan.specs.Adding.{one_way, trip_points}
@@ -28,24 +28,24 @@ returns-then-some_no_worse-clause-takes g c walks steps set_outs before all ext_
     let above = ap (λ (ls : List (Label g.row.C-V.Denot)). is_beaten rules ls p.value) (sym c.labels_of-labels.ensures)
     ∙ sym c.some_no_worse.ensures ∙ c.if-some_no_worse.true in
     beaten_takes rules labels p.value (IsExit (from_to (spelling_of walks before) (spelling_of walks all)) (Changes c.args.hop.now.place p.tag))
-    (has_no_worse rules c.args.hop.now.bound.now (rules.ride p.value) ≡ false) above
+    (any_no_worse rules c.args.hop.now.bound.now (rules.ride p.value) ≡ false) above
 
 pub returns-then-some_no_worse-clause-trip : goal.returns-then-some_no_worse-clause-trip
 returns-then-some_no_worse-clause-trip g c =
     changes_none (g.C.Criterion.rules c.args.asked.now.criterion) c.args.hop.now.connection.trip c.args.self.now
     c.requires.trip
 
-pub has_no_worse-requires-clause-value : goal.has_no_worse-requires-clause-value
-has_no_worse-requires-clause-value g c =
+pub any_no_worse-requires-clause-value : goal.any_no_worse-requires-clause-value
+any_no_worse-requires-clause-value g c =
     subst (Admits (g.C.Criterion.rules c.args.asked.now.criterion)) (sym c.ride-ridden.ensures)
     ((g.met.C.Criterion.laws c.args.asked.now.criterion).ride_admits c.args.point.now.value c.requires.point)
 
-pub returns-then-has_no_worse-clause-takes : goal.returns-then-has_no_worse-clause-takes
-returns-then-has_no_worse-clause-takes g c walks steps set_outs before all ext_before ext =
+pub returns-then-any_no_worse-clause-takes : goal.returns-then-any_no_worse-clause-takes
+returns-then-any_no_worse-clause-takes g c walks steps set_outs before all ext_before ext =
     let rules = g.C.Criterion.rules c.args.asked.now.criterion in
     let p = c.args.point.now in
-    let bettered = ap (has_no_worse rules c.args.hop.now.bound.now) (sym c.ride-ridden.ensures) ∙ sym c.has_no_worse.ensures ∙ c.if-has_no_worse.true in
-    takes_unless rules (has_no_worse rules c.args.hop.now.bound.now (rules.ride p.value)
+    let bettered = ap (any_no_worse rules c.args.hop.now.bound.now) (sym c.ride-ridden.ensures) ∙ sym c.any_no_worse.ensures ∙ c.if-any_no_worse.true in
+    takes_unless rules (any_no_worse rules c.args.hop.now.bound.now (rules.ride p.value)
     ≡ false) (one_way 0 p.value (IsExit (from_to (spelling_of walks before) (spelling_of walks all))
     (Changes c.args.hop.now.place p.tag))) (trip_points c.args.self.now.labels c.args.hop.now.connection.trip)
     (λ free. true≢false (sym bettered ∙ free))
@@ -54,10 +54,10 @@ pub returns-clause-takes : goal.returns-clause-takes
 returns-clause-takes g c =
     let rules = g.C.Criterion.rules c.args.asked.now.criterion in
     let p = c.args.point.now in
-    let free = ap (has_no_worse rules c.args.hop.now.bound.now) (sym c.ride-ridden.ensures) ∙ sym c.has_no_worse.ensures ∙ c.if-has_no_worse.false in
+    let free = ap (any_no_worse rules c.args.hop.now.bound.now) (sym c.ride-ridden.ensures) ∙ sym c.any_no_worse.ensures ∙ c.if-any_no_worse.false in
     on_ok_more c.offer.result _ _
     (λ takes walks steps set_outs before all ext_before ext.
-    takes_if rules (has_no_worse rules c.args.hop.now.bound.now (rules.ride p.value)
+    takes_if rules (any_no_worse rules c.args.hop.now.bound.now (rules.ride p.value)
     ≡ false) (one_way 0 p.value (IsExit (from_to (spelling_of walks before) (spelling_of walks all))
     (Changes c.args.hop.now.place p.tag)))
     (trip_points c.args.self.now.labels c.args.hop.now.connection.trip)
@@ -65,7 +65,7 @@ returns-clause-takes g c =
     (takes walks steps set_outs before all ext_before ext))
     c.offer.ensures.takes
 
-pub returns-then-has_no_worse-clause-trip : goal.returns-then-has_no_worse-clause-trip
-returns-then-has_no_worse-clause-trip g c =
+pub returns-then-any_no_worse-clause-trip : goal.returns-then-any_no_worse-clause-trip
+returns-then-any_no_worse-clause-trip g c =
     changes_none (g.C.Criterion.rules c.args.asked.now.criterion) c.args.hop.now.connection.trip c.args.self.now
     c.requires.trip

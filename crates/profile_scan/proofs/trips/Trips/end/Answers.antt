@@ -18,7 +18,7 @@ returns-in-Some-clause-takes g c =
     on_ok_more c.offer.result _ _
     (λ takes walks steps set_outs before all ext_before ext.
     takes_the_end rules (from_to (spelling_of walks before) (spelling_of walks all)) c.args.hop.now.place
-    c.args.hop.now.connection (question c.args.asked.now.query) c.args.hop.now.way end.walk c.value_at_end-value.result
+    c.args.hop.now.connection (question c.args.asked.now.query) c.args.hop.now.final_walk end.walk c.value_at_end-value.result
     end.time (trip_points c.args.self.now.labels c.args.hop.now.connection.trip)
     (trip_points c.offer.new.self.labels c.args.hop.now.connection.trip)
     is.0 is.3 c.value_at_end-value.ensures is.1 (takes walks steps set_outs before all ext_before ext))
@@ -36,4 +36,4 @@ offer-requires-clause-admitted g c =
     let worth = c.value_at_end-value.ensures ∙ ap (λ (n : ℕ). started rules end.walk (rules.arrive n)) is.1 in
     subst (Admits rules) (sym worth)
     (end_admits rules (g.met.C.Criterion.laws c.args.asked.now.criterion) c.args.hop.now.connection
-    (question c.args.asked.now.query) c.args.hop.now.way end.walk hop.arrival hop.by hop.secs is.0)
+    (question c.args.asked.now.query) c.args.hop.now.final_walk end.walk hop.arrival hop.by hop.secs is.0)

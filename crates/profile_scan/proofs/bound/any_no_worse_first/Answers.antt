@@ -1,6 +1,6 @@
 use Rattle.std.proofs.Common.{List, Contains, sym, subst}
 use Rattle.reasoning.proofs.ListLemmas.{contains_rest}
-use Rattle.profile_scan.proofs.bound.first_has_no_worse.Goals as goal
+use Rattle.profile_scan.proofs.bound.any_no_worse_first.Goals as goal
 
 pub some_no_worse-requires-clause-points : goal.some_no_worse-requires-clause-points
 some_no_worse-requires-clause-points g c p is =
