@@ -5,10 +5,9 @@ use Rattle.std.specs.Global.{Vec}
 use Rattle.std.proofs.lemmas.List.{get_or-map, length-map, map-append, take_all, take_more}
 use Rattle.std.proofs.lemmas.Option.{get_or_from_slice_get, slice_get-map}
 use Rattle.reasoning.proofs.ListLemmas.{all_zip-push}
-use Rattle.gtfs_rows.specs.Ids.{seen_also}
-use Rattle.gtfs_rows.specs.Rows.{StandsAt}
+use Rattle.gtfs_rows.specs.Ids.{StandsAt, seen_also}
 use Rattle.gtfs_rows.specs.declared.values.Day.{Day}
-use Rattle.gtfs_rows.proofs.SeenLemmas.{stands_also}
+use Rattle.gtfs_rows.proofs.KeyLemmas.{stands_also}
 use Rattle.gtfs_tables.specs.Joined.{makes_connections}
 use Rattle.gtfs_tables.specs.declared.tables.Feed.{Feed}
 use Rattle.gtfs_tables.specs.declared.tables.Trip.{Trip}

@@ -9,8 +9,7 @@ use Rattle.gtfs_rows.specs.declared.fault.FaultKind.TheVariants as kinds
 use Rattle.gtfs_rows.specs.declared.fault.Table.TheVariants as tables
 use Rattle.feed_files.specs.declared.reading.ReadFault.{ReadFault}
 use Rattle.feed_files.specs.declared.reading.ReadFault.TheVariants as faults
-use Rattle.gtfs_rows.specs.Faults.{IsFaultOf}
-use Rattle.gtfs_rows.specs.Tables.{HoldsAgencies, HoldsCalendar, HoldsCalendarDates, HoldsStopTimes, HoldsStopsWithin, HoldsTripsWithin, shape_of}
+use Rattle.gtfs_rows.specs.Tables.{HoldsAgencies, HoldsCalendar, HoldsCalendarDates, HoldsStopTimes, HoldsStopsWithin, HoldsTripsWithin, IsFaultOf}
 use Rattle.gtfs_rows.specs.declared.read.TheConstants.{MAX_STOPS, MAX_TRIPS}
 use Rattle.gtfs_rows.specs.declared.rows.AgencyRow.{AgencyRow}
 use Rattle.gtfs_rows.specs.declared.rows.CalendarDateRow.{CalendarDateRow}
@@ -62,7 +61,7 @@ optional_rows Missing Fine view Holds (Some bytes) rows fine h = (view rows, h)
 
 -- a fault of calendar.txt where it is there
 pub calendar_fault : (calendar dates : Option (List ℕ)) (row : ℕ) (kind : FaultKind)
-    → OptionalFault (IsFaultOf (shape_of tables.Calendar)) calendar row kind → CalendarFault calendar dates row kind
+    → OptionalFault (IsFaultOf tables.Calendar) calendar row kind → CalendarFault calendar dates row kind
 calendar_fault None dates row kind h = elim h [ ]
 calendar_fault (Some bytes) dates row kind h = h
 

@@ -1,8 +1,7 @@
 -- The tables of a feed's files, and the first thing that is wrong with them.
 use Rattle.std.specs.Prelude.{◌≡◌, ◌≢◌, ◌∷◌, ℕ, List, [], Option, Some, None, ⊤}
-use Rattle.gtfs_rows.specs.Faults.{IsFaultOf}
-use Rattle.gtfs_rows.specs.Tables.{HoldsAgencies, HoldsCalendar, HoldsCalendarDates, HoldsFrequencies, HoldsStopTimes}
-use Rattle.gtfs_rows.specs.Tables.{HoldsStopsWithin, HoldsTransfers, HoldsTripsWithin, IsStopsFault, IsTripsFault, shape_of}
+use Rattle.gtfs_rows.specs.Tables.{HoldsAgencies, HoldsCalendar, HoldsCalendarDates, HoldsFrequencies, HoldsStopTimes, HoldsStopsWithin, HoldsTransfers}
+use Rattle.gtfs_rows.specs.Tables.{HoldsTripsWithin, IsFaultOf, IsStopsFault, IsTripsFault}
 use Rattle.feed_files.specs.Outcome.{RefusedOrFailed}
 use Rattle.feed_files.specs.declared.reading.ReadFault.{ReadFault}
 use Rattle.gtfs_rows.specs.FaultNumber.{file_name}
@@ -84,18 +83,18 @@ OptionalFault IsFault (Some bytes) row kind = IsFault bytes row kind
 -- the fault of calendar.txt, which may be missing unless calendar_dates.txt is missing too; both were asked for then
 abbrev pub CalendarFault : Option (List ℕ) → Option (List ℕ) → ℕ → FaultKind → Type 0
 CalendarFault None dates row kind = (dates ≡ None) × IsMissing row kind
-CalendarFault (Some bytes) dates row kind = IsFaultOf (shape_of tables.Calendar) bytes row kind
+CalendarFault (Some bytes) dates row kind = IsFaultOf tables.Calendar bytes row kind
 
 -- the table's file has this fault at the record of this number
 abbrev pub FaultIn : Content → Table → ℕ → FaultKind → Type 0
-FaultIn content tables.Agency = RequiredFault (IsFaultOf (shape_of tables.Agency)) (content tables.Agency)
+FaultIn content tables.Agency = RequiredFault (IsFaultOf tables.Agency) (content tables.Agency)
 FaultIn content tables.Stops = RequiredFault (IsStopsFault MAX_STOPS) (content tables.Stops)
 FaultIn content tables.Trips = RequiredFault (IsTripsFault MAX_TRIPS) (content tables.Trips)
-FaultIn content tables.StopTimes = RequiredFault (IsFaultOf (shape_of tables.StopTimes)) (content tables.StopTimes)
+FaultIn content tables.StopTimes = RequiredFault (IsFaultOf tables.StopTimes) (content tables.StopTimes)
 FaultIn content tables.Calendar = CalendarFault (content tables.Calendar) (content tables.CalendarDates)
-FaultIn content tables.CalendarDates = OptionalFault (IsFaultOf (shape_of tables.CalendarDates)) (content tables.CalendarDates)
-FaultIn content tables.Transfers = OptionalFault (IsFaultOf (shape_of tables.Transfers)) (content tables.Transfers)
-FaultIn content tables.Frequencies = OptionalFault (IsFaultOf (shape_of tables.Frequencies)) (content tables.Frequencies)
+FaultIn content tables.CalendarDates = OptionalFault (IsFaultOf tables.CalendarDates) (content tables.CalendarDates)
+FaultIn content tables.Transfers = OptionalFault (IsFaultOf tables.Transfers) (content tables.Transfers)
+FaultIn content tables.Frequencies = OptionalFault (IsFaultOf tables.Frequencies) (content tables.Frequencies)
 
 -- the bytes of a file hold rows
 abbrev pub HasRows : {R : Type 0} → (List ℕ → R → Type 0) → List ℕ → Type 0

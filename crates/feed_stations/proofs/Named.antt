@@ -7,8 +7,7 @@ use Rattle.std.specs.Option.{option_or}
 use Rattle.std.specs.Str.{bytes_eq}
 use Rattle.std.specs.String.{string_bytes}
 use Rattle.gtfs_rows.specs.Faults.{fault_unless}
-use Rattle.gtfs_rows.specs.Rows.{is_blank}
-use Rattle.gtfs_rows.specs.Tables.{is_stop}
+use Rattle.gtfs_rows.specs.Tables.{is_blank, is_stop}
 use Rattle.gtfs_rows.specs.declared.fault.FaultKind.{FaultKind}
 use Rattle.gtfs_rows.specs.declared.fault.FaultKind.TheVariants.{UnknownId}
 use Rattle.gtfs_tables.specs.Rows.{has_parent}

@@ -4,8 +4,7 @@ use Rattle.std.specs.Prelude.{Option, Some, None, option_and_then}
 use Rattle.std.specs.List.{slice_get, slice_index_or}
 use Rattle.std.specs.Str.{bytes_eq}
 use Rattle.gtfs_rows.specs.Faults.{fault_unless}
-use Rattle.gtfs_rows.specs.Rows.{is_blank}
-use Rattle.gtfs_rows.specs.Tables.{is_stop}
+use Rattle.gtfs_rows.specs.Tables.{is_blank, is_stop}
 use Rattle.gtfs_rows.specs.declared.fault.FaultKind.{FaultKind}
 use Rattle.gtfs_rows.specs.declared.fault.FaultKind.TheVariants.{UnknownId}
 use Rattle.gtfs_rows.specs.declared.rows.Location.{Location}

@@ -2,8 +2,7 @@
 use Rattle.std.specs.Prelude.{ℕ, ◌==◌, ◌&&◌, ◌||◌, ◌++◌, List, Bool, false, Option, Some, None, if◌then◌else◌}
 use Rattle.std.specs.Prelude.{chars, codes, encode_utf8, string_bytes}
 use Rattle.std.specs.List.{flat_map, slice_get}
-use Rattle.gtfs_rows.specs.Rows.{is_blank}
-use Rattle.gtfs_rows.specs.Tables.{is_stop}
+use Rattle.gtfs_rows.specs.Tables.{is_blank, is_stop}
 use Rattle.gtfs_rows.specs.declared.rows.Location.{Location}
 use Rattle.gtfs_rows.specs.declared.rows.StopRow.{StopRow}
 use Rattle.feed_stations.specs.Finding.{id_of, name_of, platform_of}

@@ -1,9 +1,9 @@
 -- Records taken one at a time.
-use Rattle.std.proofs.Common.{◌≡◌, ◌+◌, ◌<◌, ◌≤◌, ◌∷◌, ◌++◌, ℕ, zero, suc, List, [], length, take, drop, get_or, Some, None, arith}
+use Rattle.std.proofs.Common.{◌≡◌, ◌+◌, ◌<◌, ◌≤◌, ◌∷◌, ◌++◌, ℕ, zero, suc, List, [], length, take, drop, get_or, Some, None, refl, ◌∙◌, arith}
 use Rattle.std.proofs.lemmas.Grind.{common_steps}
-use borrow.Author.Count.{below_more}
+use Rattle.std.proofs.lemmas.List.{length-take}
 use Rattle.gtfs_rows.specs.Source.{Record}
-use Rattle.gtfs_rows.specs.Faults.{IsFirstFault, Judge, fault_at}
+use Rattle.gtfs_rows.specs.Faults.{Judge, first_fault}
 use Rattle.gtfs_rows.specs.declared.fault.FaultKind.{FaultKind}
 
 -- what is left begins with the element at the index
@@ -23,16 +23,12 @@ closed n [] e = grind (arith, common_steps)
 closed zero (x ∷ xs) e = cc
 closed (suc n) (x ∷ xs) e = let more = closed n xs e in grind (arith, more)
 
--- one record more without a fault
-pub faultless_more : (judge : Judge) (all rest : List Record) (n : ℕ) (r : Record) → drop n all ≡ r ∷ rest → judge (take n all) r ≡ None
-    → ((j : ℕ) → j < n → fault_at judge all j ≡ None) → (j : ℕ) → j < n + 1 → fault_at judge all j ≡ None
-faultless_more judge all rest n r e good earlier =
-    let here = opened [] n all rest r e in
-    below_more (λ j. fault_at judge all j ≡ None) n earlier (rw here.1 good)
-
--- the first record at fault
-pub first_fault : (judge : Judge) (all rest : List Record) (n : ℕ) (r : Record) (kind : FaultKind) → drop n all ≡ r ∷ rest → judge (take n all) r ≡ Some kind
-    → ((j : ℕ) → j < n → fault_at judge all j ≡ None) → IsFirstFault judge all n kind
-first_fault judge all rest n r kind e bad earlier =
-    let here = opened [] n all rest r e in
-    record { within = here.0; here = rw here.1 bad; first = earlier }
+-- a record without a fault, and the first one that has one
+pub judged : (judge : Judge) (all rest : List Record) (n : ℕ) (r : Record) → drop n all ≡ r ∷ rest
+    → first_fault judge [] all ≡ first_fault judge (take n all) (r ∷ rest)
+    → (judge (take n all) r ≡ None → first_fault judge [] all ≡ first_fault judge (take (n + 1) all) rest)
+    × ((kind : FaultKind) → judge (take n all) r ≡ Some kind → first_fault judge [] all ≡ Some (n + 1, kind))
+judged judge all rest n r e same =
+    let (less, head, after, more) = opened [] n all rest r e in
+    let long : length (take n all) ≡ n = omega (arith, length-take n all) in
+    (λ good. same ∙ (rw (good, more) refl), λ kind bad. same ∙ (rw (bad, long) refl))

@@ -1,76 +1,40 @@
--- How keys change with one more record.
-use Rattle.std.proofs.Common.{◌≤◌, ◌<◌, length, arith, ◌≡◌, ◌∷◌, ◌++◌, ◌∙◌, ℕ, List, [], map, not, Option, Some, None, Bool, true, false}
-use Rattle.std.proofs.Common.{refl, sym, ap, append_assoc, String, Global, string_bytes, option_map}
-use Rattle.std.specs.List.{find, list_any, slice_get}
+-- How keys and ids change with one more record.
+use Rattle.std.proofs.Common.{◌≡◌, ◌≤◌, ◌<◌, ◌∷◌, ◌++◌, ◌∙◌, ℕ, zero, suc, List, [], length, map, fold, Option, Some, None, Bool, true, false, refl, sym, ap}
+use Rattle.std.proofs.Common.{arith, String, Global, string_bytes, option_map}
+use Rattle.std.specs.List.{AllZip, find, list_any, slice_get}
+use Rattle.std.specs.Str.{bytes_eq}
+use Rattle.std.specs.String.{string_eq}
+use Rattle.std.proofs.lemmas.List.{map-append}
+use Rattle.std.proofs.lemmas.List.Sums.{fold-append}
 use Rattle.std.proofs.lemmas.Option.{slice_get-map}
 use Rattle.std.proofs.lemmas.Slice.Eq.{bytes_eq-Decides}
-use Rattle.std.specs.Option.{option_to_list}
-use Rattle.std.specs.Str.{bytes_eq}
-use Rattle.gtfs_rows.specs.Source.{Record}
-use Rattle.gtfs_rows.specs.Faults.{fault_if, is_among, keys_of}
-use Rattle.gtfs_rows.specs.Cells.{ColumnIndices}
-use Rattle.gtfs_rows.specs.Rows.{StandsAt, is_shared, key_by, key_fault, texts_kept, value}
-use Rattle.gtfs_rows.specs.Ids.{seen_also}
 use Rattle.std.proofs.lemmas.Grind.{common_steps}
-use Rattle.gtfs_rows.specs.declared.columns.Key.{Key}
+use Rattle.reasoning.proofs.ListLemmas.{all_zip-push, slice_get-append}
+use Rattle.indexmap.specs.IndexSet.{insert_key}
+use Rattle.gtfs_rows.specs.Source.{Record}
+use Rattle.gtfs_rows.specs.Cells.{ColumnIndices}
+use Rattle.gtfs_rows.specs.Ids.{StandsAt, given_also, seen_also}
+use Rattle.gtfs_rows.specs.Tables.{AreStopTimes, IsStopId, SpellsStopTime, key_fault, texts_kept, value}
 use Rattle.gtfs_rows.specs.declared.columns.Key.TheVariants as keys
 use Rattle.gtfs_rows.specs.declared.fault.FaultKind.TheVariants as kinds
+use Rattle.gtfs_rows.specs.declared.rows.StopTimeRow.{StopTimeRow}
+use Rattle.gtfs_rows.specs.declared.stop_times.StopTimes.{StopTimes}
 
-pub any-map : {A B : Type 0} (p : B → Bool) (f : A → B) (xs : List A) → list_any p (map f xs) ≡ list_any (λ x. p (f x)) xs
-any-map p f [] = refl
-any-map p f (x ∷ xs) = rw (any-map p f xs) refl
+pub any_map : {A B : Type 0} (p : B → Bool) (f : A → B) (xs : List A) → list_any p (map f xs) ≡ list_any (λ x. p (f x)) xs
+any_map p f [] = refl
+any_map p f (x ∷ xs) = rw (any_map p f xs) refl
 
-pub keys_more : (key : Record → Option (List ℕ)) (before : List Record) (r : Record)
-    → keys_of key (before ++ r ∷ []) ≡ keys_of key before ++ option_to_list (key r)
-keys_more key [] r = by (key r)
-  where
-    by : (o : Option (List ℕ)) → option_to_list o ++ [] ≡ option_to_list o
-    by None = refl
-    by (Some x) = refl
-keys_more key (b ∷ bs) r = rw (keys_more key bs r) (sym (append_assoc (option_to_list (key b)) (keys_of key bs) (option_to_list (key r))))
-
--- a key that no earlier record may have, and one more record
-unique_more : (key : Record → Option (List ℕ)) (text : List ℕ) (before : List Record) (r : Record) (old new : List (List ℕ)) (added : Bool)
-    → key r ≡ Some text → old ≡ keys_of key before → new ≡ seen_also old text → added ≡ not (list_any (bytes_eq text) old)
-    → (added ≡ true → (fault_if (is_among (key r) (keys_of key before)) kinds.IdTwice ≡ None) × (new ≡ keys_of key (before ++ r ∷ [])))
-    × (added ≡ false → fault_if (is_among (key r) (keys_of key before)) kinds.IdTwice ≡ Some kinds.IdTwice)
-unique_more key text before r old new added is held more fresh = grind (arith, common_steps, keys_more)
-
-no_keys : (before : List Record) (r : Record) → keys_of (λ x. None) before ≡ keys_of (λ x. None) (before ++ r ∷ [])
-no_keys [] r = refl
-no_keys (b ∷ bs) r = no_keys bs r
-
--- a record without a key, in a table that has none
-pub unkeyed_more : (key : Key) (indices : ColumnIndices) (before : List Record) (r : Record) (old : List (List ℕ)) → key_by key indices r ≡ None
-    → old ≡ texts_kept key indices before → (key_fault key indices before r ≡ None) × (old ≡ texts_kept key indices (before ++ r ∷ []))
-unkeyed_more keys.Nothing indices before r old none held = (refl, held ∙ no_keys before r)
-unkeyed_more (keys.Column k) indices before r old none held = cc
-unkeyed_more (keys.Columns j k) indices before r old none held = cc
-unkeyed_more (keys.Shared k) indices before r old none held = cc
+-- the texts of one record more
+pub texts_more : (text : Record → List ℕ) (before : List Record) (r : Record) → map text (before ++ r ∷ []) ≡ map text before ++ text r ∷ []
+texts_more text before r = map-append text before (r ∷ [])
 
 -- a text that all records must have, and one more record
-shared_more : (k : ℕ) (indices : ColumnIndices) (before : List Record) (r : Record) (old new : List (List ℕ))
+pub shared_more : (k : ℕ) (indices : ColumnIndices) (before : List Record) (r : Record) (old new : List (List ℕ))
     → old ≡ texts_kept (keys.Shared k) indices before → new ≡ seen_also old (value indices k r)
     → (length new ≤ 1 → (key_fault (keys.Shared k) indices before r ≡ None) × (new ≡ texts_kept (keys.Shared k) indices (before ++ r ∷ [])))
     × (1 < length new → key_fault (keys.Shared k) indices before r ≡ Some kinds.ZonesDiffer)
 shared_more k indices [] r old new held more = grind (arith, common_steps)
 shared_more k indices (first ∷ rest) r old new held more = grind (arith, common_steps)
-
--- the texts that are kept, and what is wrong with a key, with one more record
-pub kept_more : (key : Key) (indices : ColumnIndices) (before : List Record) (r : Record) (text : List ℕ) (old new : List (List ℕ)) (added : Bool)
-    → Some text ≡ key_by key indices r → old ≡ texts_kept key indices before → new ≡ seen_also old text → added ≡ not (list_any (bytes_eq text) old)
-    → (is_shared key ≡ true → (length new ≤ 1 → (key_fault key indices before r ≡ None) × (new ≡ texts_kept key indices (before ++ r ∷ [])))
-    × (1 < length new → key_fault key indices before r ≡ Some kinds.ZonesDiffer))
-    × (is_shared key ≡ false → (added ≡ true → (key_fault key indices before r ≡ None) × (new ≡ texts_kept key indices (before ++ r ∷ [])))
-    × (added ≡ false → key_fault key indices before r ≡ Some kinds.IdTwice))
-kept_more keys.Nothing indices before r text old new added is held more fresh = cc
-kept_more (keys.Column k) indices before r text old new added is held more fresh =
-    (λ no. cc, λ _. unique_more (key_by (keys.Column k) indices) text before r old new added (sym is) held more fresh)
-kept_more (keys.Columns j k) indices before r text old new added is held more fresh =
-    (λ no. cc, λ _. unique_more (key_by (keys.Columns j k) indices) text before r old new added (sym is) held more fresh)
-kept_more (keys.Shared k) indices before r text old new added is held more fresh =
-    let same : text ≡ value indices k r = cc in
-    (λ _. shared_more k indices before r old new held (rw same at more), λ no. cc)
 
 -- an id of a set at its index
 pub stands : (keys : List (String Global)) (i : ℕ) (k : String Global) (id : List ℕ) → slice_get keys i ≡ Some k
@@ -87,3 +51,79 @@ find_passes p (y ∷ ys) x e = by (p y) refl (find_passes p ys x)
     by : (b : Bool) → p y ≡ b → (find p ys ≡ Some x → p x ≡ true) → p x ≡ true
     by true h rest = let f : Some y ≡ Some x = rw h at e in let s : y ≡ x = cc in rw (← s) h
     by false h rest = rest (rw h at e)
+
+-- the ids of one record more
+pub ids_more : (add_to : List (List ℕ) → List ℕ → List (List ℕ)) (k : ℕ) (indices : ColumnIndices) (before : List Record) (r : Record) (ids new : List (List ℕ))
+    → ids ≡ fold add_to [] (map (value indices k) before) → new ≡ add_to ids (value indices k r)
+    → new ≡ fold add_to [] (map (value indices k) (before ++ r ∷ []))
+ids_more add_to k indices before r ids new held e =
+    rw (e, held, texts_more) (sym (fold-append add_to [] (map (value indices k) before) (value indices k r ∷ [])))
+
+-- a text that stands somewhere is among the texts
+pub stands_among : (texts : List (List ℕ)) (k : ℕ) (text : List ℕ) → StandsAt texts k text → texts ≡ seen_also texts text
+stands_among [] k text h = cc
+stands_among (x ∷ xs) zero text h = let same = bytes_eq-Decides text text in grind (arith, common_steps, same)
+stands_among (x ∷ xs) (suc k) text h = let more = stands_among xs k text h in let same = bytes_eq-Decides text x in grind (arith, common_steps, more, same)
+
+-- a set with one more id
+pub seen_insert : (keys new : List (String Global)) (k : String Global) → new ≡ insert_key string_eq keys k
+    → map string_bytes new ≡ seen_also (map string_bytes keys) (string_bytes k)
+seen_insert keys new k e = grind (arith, common_steps, any_map)
+
+-- what a set's insertion rests on
+pub ruleset insertion = (stands, seen_insert, any_map)
+
+-- ids stay at their indices as one more is seen
+pub stands_also : (texts : List (List ℕ)) (new : List ℕ) (k : ℕ) (text : List ℕ) → StandsAt texts k text → StandsAt (seen_also texts new) k text
+stands_also texts new k text h = let more = slice_get-append texts (new ∷ []) k text h in grind (arith, common_steps, more)
+
+pub stands_given : (texts : List (List ℕ)) (new : List ℕ) (k : ℕ) (text : List ℕ) → StandsAt texts k text → StandsAt (given_also texts new) k text
+stands_given texts [] k text h = h
+stands_given texts (b ∷ new) k text h = stands_also texts (b ∷ new) k text h
+
+-- rows of stop times as more ids are seen
+stop_id_also : (stops : List (List ℕ)) (new : List ℕ) (index : Option ℕ) (text : List ℕ) → IsStopId stops index text
+    → IsStopId (given_also stops new) index text
+stop_id_also stops new None text h = h
+stop_id_also stops new (Some k) text h = (h.0, stands_given stops new k text h.1)
+
+spells_also : (trips stops : List (List ℕ)) (trip stop : List ℕ) (indices : ColumnIndices) (records : List Record) (rows : List StopTimeRow)
+    → AllZip (SpellsStopTime trips stops indices) records rows → AllZip (SpellsStopTime (seen_also trips trip) (given_also stops stop) indices) records rows
+spells_also trips stops trip stop indices [] [] h = h
+spells_also trips stops trip stop indices [] (row ∷ rows) h = absurd h
+spells_also trips stops trip stop indices (r ∷ records) [] h = absurd h
+spells_also trips stops trip stop indices (r ∷ records) (row ∷ rows) h = (
+  record {
+    trip = stands_also trips trip row.trip (value indices 0 r) h.0.trip;
+    arrival = h.0.arrival;
+    departure = h.0.departure;
+    stop = stop_id_also stops stop row.stop (value indices 3 r) h.0.stop;
+    sequence = h.0.sequence;
+    board = h.0.board;
+    alight = h.0.alight;
+  },
+  spells_also trips stops trip stop indices records rows h.1,
+)
+
+-- the rows of one record more
+pub rows_more : (trips stops new_trips new_stops : List (List ℕ)) (trip stop : List ℕ) (indices : ColumnIndices)
+    (before : List Record) (r : Record) (rows new : List StopTimeRow) (row : StopTimeRow)
+    → new_trips ≡ seen_also trips trip → new_stops ≡ given_also stops stop → new ≡ rows ++ row ∷ []
+    → AllZip (SpellsStopTime trips stops indices) before rows → SpellsStopTime new_trips new_stops indices r row
+    → AllZip (SpellsStopTime new_trips new_stops indices) (before ++ r ∷ []) new
+rows_more trips stops new_trips new_stops trip stop indices before r rows new row t s n held spelled =
+    let earlier : AllZip (SpellsStopTime new_trips new_stops indices) before rows = rw (t, s) (spells_also trips stops trip stop indices before rows held) in
+    rw n (all_zip-push (SpellsStopTime new_trips new_stops indices) before rows r row earlier spelled)
+
+-- the stop times of one record more
+pub stop_times_more : (old new : StopTimes) (indices : ColumnIndices) (before : List Record) (r : Record) (row : StopTimeRow)
+    → map string_bytes new.trips.keys ≡ seen_also (map string_bytes old.trips.keys) (value indices 0 r)
+    → map string_bytes new.stops.keys ≡ given_also (map string_bytes old.stops.keys) (value indices 3 r) → new.rows.items ≡ old.rows.items ++ row ∷ []
+    → SpellsStopTime (map string_bytes new.trips.keys) (map string_bytes new.stops.keys) indices r row → AreStopTimes indices before old
+    → AreStopTimes indices (before ++ r ∷ []) new
+stop_times_more old new indices before r row t s n spelled held = record {
+  trips = ids_more seen_also 0 indices before r (map string_bytes old.trips.keys) (map string_bytes new.trips.keys) held.trips t;
+  stops = ids_more given_also 3 indices before r (map string_bytes old.stops.keys) (map string_bytes new.stops.keys) held.stops s;
+  rows = rows_more (map string_bytes old.trips.keys) (map string_bytes old.stops.keys) (map string_bytes new.trips.keys) (map string_bytes new.stops.keys)
+      (value indices 0 r) (value indices 3 r) indices before r old.rows.items new.rows.items row t s n held.rows spelled;
+}

@@ -1,11 +1,6 @@
 pub mod CellLemmas
-pub mod DayKeyLemmas
 pub mod FaultLemmas
 pub mod KeyLemmas
-pub mod OneFault
-pub mod OpeningLemmas
 pub mod PositionLemmas
-pub mod SeenLemmas
 pub mod SourceLemmas
-pub mod TextLemmas
 pub mod ValueLemmas

@@ -1,6 +1,5 @@
 -- The records of a text, read one at a time, are the records of the text.
-use Rattle.std.proofs.Common.{◌≡◌, ◌≤◌, ◌∷◌, ℕ, zero, suc, List, [], length, Option, Some, None, Bool}
-use Rattle.std.proofs.Common.{refl, ap, arith, add-one}
+use Rattle.std.proofs.Common.{◌≡◌, ◌≤◌, ◌∷◌, ℕ, zero, suc, List, [], length, Option, Some, None, Bool, refl, ap, arith, add-one}
 use Rattle.std.specs.Prelude.{IsSome, MatchBool}
 use Rattle.std.proofs.lemmas.Grind.{common_steps}
 use Rattle.csv.specs.Machine.{Read, field_after, fields_after, next_record, step}

@@ -1,5 +1,5 @@
 -- The columns of a table, and the values that a record has in them.
-use Rattle.std.specs.Prelude.{◌==◌, ◌&&◌, ◌+◌, if◌then◌else◌, ℕ, List, [], ◌∷◌, take, map, Option, Some, None, Bool, unwrap_or, is_some}
+use Rattle.std.specs.Prelude.{◌==◌, if◌then◌else◌, ℕ, List, [], ◌∷◌, take, map, reverse, Option, Some, None, Bool, unwrap_or, is_some}
 use Rattle.std.specs.List.{list_all, position_from}
 use Rattle.std.specs.Str.{bytes_eq}
 use Rattle.csv.specs.Records.{field_at}
@@ -10,22 +10,17 @@ abbrev pub trim_front : List ℕ → List ℕ
 trim_front [] = []
 trim_front (b ∷ rest) = if b == 32 then trim_front rest else b ∷ rest
 
--- how many bytes come before the spaces at the end of a text
-abbrev pub kept_len : List ℕ → ℕ
-kept_len [] = 0
-kept_len (b ∷ rest) = if (kept_len rest == 0) && (b == 32) then 0 else kept_len rest + 1
+-- the text without the spaces at its end
+abbrev pub trim_back : List ℕ → List ℕ
+trim_back bs = reverse (trim_front (reverse bs))
 
 -- the text without the spaces at both ends
 abbrev pub trim_spaces : List ℕ → List ℕ
-trim_spaces bs = take (kept_len (trim_front bs)) (trim_front bs)
-
--- the index of the first column with this name, at or after an index
-abbrev pub column_from : List ℕ → ℕ → Record → Option ℕ
-column_from name i header = position_from (λ field. bytes_eq name (trim_spaces field)) i header
+trim_spaces bs = trim_back (trim_front bs)
 
 -- the index of the first column with this name, if there is one
 abbrev pub column : List ℕ → Record → Option ℕ
-column name header = column_from name 0 header
+column name header = position_from (λ field. bytes_eq name (trim_spaces field)) 0 header
 
 -- the index in the header of each of a table's columns
 abbrev pub ColumnIndices : Type 0

@@ -1,7 +1,11 @@
 -- Ids in the order in which they were first seen.
-use Rattle.std.specs.Prelude.{◌∷◌, ◌++◌, [], if◌then◌else◌, List, ℕ, fold}
-use Rattle.std.specs.List.{list_any}
+use Rattle.std.specs.Prelude.{◌≡◌, ◌∷◌, ◌++◌, [], if◌then◌else◌, List, ℕ, Some, fold}
+use Rattle.std.specs.List.{list_any, slice_get}
 use Rattle.std.specs.Str.{bytes_eq}
+
+-- the text is at the index
+abbrev pub StandsAt : List (List ℕ) → ℕ → List ℕ → Type 0
+StandsAt texts k text = slice_get texts k ≡ Some text
 
 -- the texts, with one more at the end unless it is already among them
 abbrev pub seen_also : List (List ℕ) → List ℕ → List (List ℕ)

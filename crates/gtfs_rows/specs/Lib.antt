@@ -2,7 +2,6 @@ pub mod Cells
 pub mod Faults
 pub mod Ids
 pub mod Positions
-pub mod Rows
 pub mod Source
 pub mod Tables
 pub mod FaultNumber

@@ -13,13 +13,10 @@ use Rattle.gtfs_rows.specs.declared.records.Records.{Records}
 abbrev pub Record : Type 0
 Record = List (List ℕ)
 
--- the records of a text: fields between commas, in double quotes or not, and a record on each line that isn't empty
-abbrev pub records_in : List ℕ → List Record
-records_in text = records default_config text
-
--- the records of a file's bytes, the header first
+-- the records of a file's bytes, the header first: fields between commas, in double quotes or not, and a record on each
+-- line that isn't empty
 abbrev pub table_records : List ℕ → List Record
-table_records bytes = records_in (strip_bom bytes)
+table_records bytes = records default_config (strip_bom bytes)
 
 -- the records of a text that is read from this state on
 abbrev pub records_at : State → List ℕ → List Record
@@ -41,10 +38,6 @@ left_of r = records_of (reader_state r.reader) (source_of known r.reader)
 -- the record that was read last
 abbrev pub last_of : Records → Record
 last_of r = fields_of r.record
-
--- the same, and then the records that are left
-abbrev pub from_last : Records → List Record
-from_last r = last_of r ∷ left_of r
 
 -- the records are read as a table's are: by commas and double quotes, nothing is trimmed, and the first isn't left out
 pub record IsReading (r : Records) : Type 0 where

@@ -1,6 +1,6 @@
 -- The times, dates and numbers of tables.
-use Rattle.std.specs.Prelude.{◌+◌, ◌-◌, ◌*◌, ◌==◌, ◌&&◌, if◌then◌else◌, ℕ, List, [], ◌∷◌, length, drop, take, fold}
-use Rattle.std.specs.Prelude.{Option, Some, None, Bool, true, nat_le, nat_lt, pos}
+use Rattle.std.specs.Prelude.{◌+◌, ◌-◌, ◌*◌, ◌==◌, ◌&&◌, if◌then◌else◌, ℕ, List, [], ◌∷◌, length, drop, take, fold, Option, Some, None, Bool, true, nat_le}
+use Rattle.std.specs.Prelude.{nat_lt, pos}
 use Rattle.std.specs.Char.{is_ascii_digit}
 use Rattle.std.specs.List.{list_all, prefix_len}
 use Rattle.jiff.specs.Words.{days_in_month}

@@ -1,10 +1,11 @@
 //! The columns of a table, and the values that a record has in them.
 
-ghost use Rattle.std.specs.Prelude.{◌≡◌, ◌≤◌, length, map, IfOk, IsUtf8, true, false};
+ghost use Rattle.std.specs.Prelude.{◌≡◌, ◌≤◌, length, map, IfOk, IsUtf8};
+ghost use Rattle.std.specs.Str.{is_utf8};
 ghost use Rattle.std.specs.String.{string_bytes};
 ghost use Rattle.csv.specs.Records.{fields_of};
 ghost use Rattle.gtfs_rows.specs.Cells.{cell as cell_of, column as column_of, has_required as are_there, indices_of};
-ghost use Rattle.gtfs_rows.specs.Cells.{trim_front, trim_spaces};
+ghost use Rattle.gtfs_rows.specs.Cells.{trim_back, trim_front};
 
 use csv::ByteRecord;
 use std::alloc::{AllocError, Global};
@@ -12,27 +13,24 @@ use std::alloc::{AllocError, Global};
 /// The index of a column in the header, if the header has it.
 pub type ColumnIndex = Option<usize>;
 
-// Returns the text without the spaces at both ends.
-fn trim(text: &[u8]) -> &[u8]
-    ensures { result.now ≡ trim_spaces text.entry.now }
-{
-    let front = trim_start(text);
-    let mut kept = front.len();
-    while kept > 0 && front[kept - 1] == b' ' {
-        kept -= 1;
-    }
-    &front[..kept]
-}
-
 // Returns the text without the spaces at its start.
-fn trim_start(text: &[u8]) -> &[u8]
+fn trim_start(mut text: &[u8]) -> &[u8]
     ensures { result.now ≡ trim_front text.entry.now }
 {
-    let mut rest = text;
-    while let [b' ', more @ ..] = rest {
-        rest = more;
+    while let [b' ', rest @ ..] = text {
+        text = rest;
     }
-    rest
+    text
+}
+
+// Returns the text without the spaces at its end.
+fn trim_end(mut text: &[u8]) -> &[u8]
+    ensures { result.now ≡ trim_back text.entry.now }
+{
+    while let [rest @ .., b' '] = text {
+        text = rest;
+    }
+    text
 }
 
 /// Returns a record's value in the column of an index, without spaces around it; blank if the column is absent.
@@ -43,7 +41,7 @@ pub fn cell<'a>(fields: &'a ByteRecord, index: ColumnIndex) -> &'a [u8]
         return &[];
     };
     match fields.get(index) {
-        Some(field) => trim(field),
+        Some(field) => trim_end(trim_start(field)),
         None => &[],
     }
 }
@@ -84,14 +82,11 @@ pub(crate) fn has_required(indices: &[ColumnIndex], required: usize) -> bool
 }
 
 // Returns whether the bytes are UTF-8.
+#[tactic(auto, using(crate::proofs::CellLemmas::is_text))]
 pub(crate) fn is_text(bytes: &[u8]) -> bool
-    ensures yes { result ≡ true → IsUtf8 bytes.now }
-    ensures no { result ≡ false → ¬ (IsUtf8 bytes.now) }
+    ensures { result ≡ is_utf8 bytes.now }
 {
-    match str::from_utf8(bytes) {
-        Ok(_) => true,
-        Err(_) => false,
-    }
+    str::from_utf8(bytes).is_ok()
 }
 
 // Copies bytes that are known to be UTF-8 into a string.

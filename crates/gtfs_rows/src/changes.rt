@@ -2,8 +2,8 @@
 
 ghost use Rattle.std.specs.Prelude.{◌≡◌, Some, IfOk};
 ghost use Rattle.std.specs.Result.{result_err};
-ghost use Rattle.gtfs_rows.specs.Rows.{SpellsFrequency, SpellsTransfer, frequency_row_fault, headway_fault};
-ghost use Rattle.gtfs_rows.specs.Rows.{of_last, shown, transfer_of, typed_transfer};
+ghost use Rattle.gtfs_rows.specs.Tables.{SpellsFrequency, SpellsTransfer, frequency_row_fault, headway_fault, of_last};
+ghost use Rattle.gtfs_rows.specs.Tables.{shown, transfer_of, typed_transfer};
 ghost use Rattle.gtfs_rows.specs.Values.{number_of, time_of};
 ghost use Rattle.gtfs_rows.specs.declared.fault.Table.TheVariants as files;
 

@@ -1,7 +1,6 @@
 //! The columns of each table, and which of them must be different in each record, or the same in all.
 
 ghost use Rattle.std.specs.Prelude.{◌≡◌, ◌≤◌, length, map};
-ghost use Rattle.gtfs_rows.specs.Rows.{is_shared as is_shared_key};
 ghost use Rattle.gtfs_rows.specs.Tables.{columns_of, key_of, required_of};
 
 use crate::fault::Table;
@@ -17,18 +16,6 @@ pub enum Key {
     Columns(usize, usize),
     /// All records have the same text in this column.
     Shared(usize),
-}
-
-impl Key {
-    /// Returns whether all records have the same text.
-    pub fn is_shared(self) -> bool
-        ensures { result ≡ is_shared_key self }
-    {
-        match self {
-            Key::Shared(_) => true,
-            Key::Nothing | Key::Column(_) | Key::Columns(_, _) => false,
-        }
-    }
 }
 
 impl Table {

@@ -5,8 +5,7 @@ ghost use Rattle.std.specs.String.{string_bytes};
 ghost use Rattle.std.specs.List.{list_any};
 ghost use Rattle.std.specs.Str.{bytes_eq};
 ghost use Rattle.indexmap.specs.IndexSet.{hasher_of};
-ghost use Rattle.gtfs_rows.specs.Ids.{seen_also};
-ghost use Rattle.gtfs_rows.specs.Rows.{StandsAt};
+ghost use Rattle.gtfs_rows.specs.Ids.{seen_also, StandsAt};
 
 use crate::fault::FaultKind;
 use crate::id_hash::IdHash;
@@ -17,7 +16,7 @@ use std::alloc::Global;
 pub(crate) type Ids = IndexSet<String, IdHash>;
 
 // Returns the index of a key, and whether it is new; it is added at the end then. Memory may run out.
-#[tactic(auto, using(crate::proofs::KeyLemmas::stands, crate::proofs::SeenLemmas::seen_insert))]
+#[tactic(auto, using(crate::proofs::KeyLemmas::insertion))]
 pub(crate) fn add_key(keys: &mut Ids, key: String) -> Result<(usize, bool), FaultKind>
     ensures more { OnOk result (map string_bytes keys.new.keys
         ≡ seen_also (map string_bytes keys.old.keys) (string_bytes key)) }
@@ -35,7 +34,7 @@ pub(crate) fn add_key(keys: &mut Ids, key: String) -> Result<(usize, bool), Faul
 
 // Returns the index of an id, which is added at the end if it isn't there yet. The likely index is tried first.
 // Memory may run out.
-#[tactic(auto, using(crate::proofs::SeenLemmas::stands_among))]
+#[tactic(auto, using(crate::proofs::KeyLemmas::stands_among))]
 pub(crate) fn index_of(
     alloc: Global,
     ids: &mut Ids,

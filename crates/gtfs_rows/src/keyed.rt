@@ -1,15 +1,16 @@
 //! Tables with one row for each record; some of them have keys.
 
-ghost use Rattle.std.specs.Prelude.{◌≡◌, ◌≢◌, ◌++◌, ◌∷◌, List, [], None, Some, IfOk, IfErr, OnOk, option_map, ⊤};
-ghost use Rattle.std.specs.List.{AllZip};
+ghost use Rattle.std.specs.Prelude.{◌≡◌, ◌≢◌, ◌++◌, ◌∷◌, List, [], None, Some, IfOk, IfErr, OnOk, ⊤, ◌<◌, ◌≤◌, length};
+ghost use Rattle.std.specs.Prelude.{map, true, false};
+ghost use Rattle.std.specs.List.{AllZip, list_any};
 ghost use Rattle.std.specs.String.{string_bytes};
 ghost use Rattle.csv.specs.Records.{AllText};
 ghost use Rattle.indexmap.specs.IndexSet.{hasher_of};
+ghost use Rattle.std.specs.Str.{bytes_eq};
+ghost use Rattle.gtfs_rows.specs.Ids.{seen_also};
 ghost use Rattle.gtfs_rows.specs.Source.{Record, last_of};
 ghost use Rattle.gtfs_rows.specs.Cells.{ColumnIndices};
-ghost use Rattle.gtfs_rows.specs.Faults.{HoldsRows, IsFaultOf};
-ghost use Rattle.gtfs_rows.specs.Rows.{AreKept, key_by, key_fault, values_of};
-ghost use Rattle.gtfs_rows.specs.Tables.{key_of, shape_of};
+ghost use Rattle.gtfs_rows.specs.Tables.{HoldsRows, IsFaultOf, AreKept, key_fault, values_of, key_of};
 ghost use Rattle.gtfs_rows.specs.declared.fault.Table.{Table as File};
 
 use crate::columns::Key;
@@ -41,29 +42,40 @@ pub trait Row: Sized + Drop {
             → values_of TABLE records.now.indices.items (last_of records.now) ≡ Some kind) };
 }
 
-// Returns what no other record may have, or what all records must have; none if records may repeat each other.
-fn key_text(alloc: Global, key: Key, records: &Records<'_>) -> Result<Option<String>, FaultKind>
-    requires { AllText (last_of records.now) }
-    ensures ok { IfOk result (λ text. option_map string_bytes text
-        ≡ key_by key records.now.indices.items (last_of records.now)) }
-    ensures err { IfErr result (λ kind. kind ≡ FaultKind.OutOfMemory) }
+// Keeps a record's text: `IdTwice` if an earlier record has it.
+fn keep_new(kept: &mut Ids, text: String) -> Result<(), FaultKind>
+    ensures ok { OnOk result ((list_any (bytes_eq (string_bytes text)) (map string_bytes kept.old.keys) ≡ false)
+        × (map string_bytes kept.new.keys ≡ map string_bytes kept.old.keys ++ string_bytes text ∷ [])) }
+    ensures err { IfErr result (λ kind. kind ≢ FaultKind.OutOfMemory → (kind ≡ FaultKind.IdTwice)
+        × (list_any (bytes_eq (string_bytes text)) (map string_bytes kept.old.keys) ≡ true)) }
+    ensures hash { OnOk result (hasher_of kept.new ≡ hasher_of kept.old) }
 {
-    match key {
-        Key::Nothing => Ok(None),
-        Key::Column(column) | Key::Shared(column) => records.text(alloc, column).map(Some),
-        Key::Columns(first, second) => {
-            let mut text = records.text(alloc, first)?;
-            let more = records.text(alloc, second)?;
-            match text.push_str(more.as_str()) {
-                Ok(()) => Ok(Some(text)),
-                Err(_) => Err(FaultKind::OutOfMemory),
-            }
-        }
+    let (_, is_new) = add_key(kept, text)?;
+    if is_new {
+        Ok(())
+    } else {
+        Err(FaultKind::IdTwice)
     }
 }
 
-// Keeps a record's key, or the text that all records share. Fails if an earlier record has the key, or if the
-// shared text isn't the same as the first record's.
+// Keeps the first record's text, which all records share: `ZonesDiffer` if a record has another.
+fn keep_shared(kept: &mut Ids, text: String) -> Result<(), FaultKind>
+    ensures ok { OnOk result ((map string_bytes kept.new.keys ≡ seen_also (map string_bytes kept.old.keys)
+        (string_bytes text)) × (length (map string_bytes kept.new.keys) ≤ 1)) }
+    ensures err { IfErr result (λ kind. kind ≢ FaultKind.OutOfMemory → (kind ≡ FaultKind.ZonesDiffer)
+        × (1 < length (seen_also (map string_bytes kept.old.keys) (string_bytes text)))) }
+    ensures hash { OnOk result (hasher_of kept.new ≡ hasher_of kept.old) }
+{
+    add_key(kept, text)?;
+    if kept.len() > 1 {
+        Err(FaultKind::ZonesDiffer)
+    } else {
+        Ok(())
+    }
+}
+
+// Keeps a record's key, or the text that all records share, or returns what is wrong with it.
+#[tactic(auto, using(crate::proofs::KeyLemmas::shared_more, crate::proofs::KeyLemmas::texts_more))]
 fn keep(alloc: Global, kept: &mut Ids, key: Key, records: &Records<'_>) -> Result<(), FaultKind>
     requires { AllText (last_of records.now) }
     ensures ok { (before : List Record) → AreKept key records.now.indices.items before kept.old.keys → OnOk result
@@ -74,20 +86,18 @@ fn keep(alloc: Global, kept: &mut Ids, key: Key, records: &Records<'_>) -> Resul
         → key_fault key records.now.indices.items before (last_of records.now) ≡ Some kind) }
     ensures hash { OnOk result (hasher_of kept.new ≡ hasher_of kept.old) }
 {
-    let Some(text) = key_text(alloc, key, records)? else {
-        return Ok(());
-    };
-    let (_, is_new) = add_key(kept, text)?;
-    if key.is_shared() {
-        if kept.len() > 1 {
-            Err(FaultKind::ZonesDiffer)
-        } else {
-            Ok(())
+    match key {
+        Key::Nothing => Ok(()),
+        Key::Column(column) => keep_new(kept, records.text(alloc, column)?),
+        Key::Columns(first, second) => {
+            let mut text = records.text(alloc, first)?;
+            let more = records.text(alloc, second)?;
+            if text.push_str(more.as_str()).is_err() {
+                return Err(FaultKind::OutOfMemory);
+            }
+            keep_new(kept, text)
         }
-    } else if is_new {
-        Ok(())
-    } else {
-        Err(FaultKind::IdTwice)
+        Key::Shared(column) => keep_shared(kept, records.text(alloc, column)?),
     }
 }
 
@@ -118,9 +128,9 @@ impl<R: Row> TableRows for KeyedRows<R> {
 impl<R: Row> TableFile for Vec<R> {
     ghost TABLE = { R.TABLE };
 
-    ghost holds = { λ bytes rows. HoldsRows (shape_of R.TABLE) R.spells bytes rows.items };
+    ghost holds = { λ bytes rows. HoldsRows R.TABLE R.spells bytes rows.items };
 
-    ghost tells = { IsFaultOf (shape_of R.TABLE) };
+    ghost tells = { IsFaultOf R.TABLE };
 
     ghost is_hashed = { λ hash rows. ⊤ };
 
@@ -131,9 +141,6 @@ impl<R: Row> TableFile for Vec<R> {
             rows: Vec::new(alloc),
             kept: IndexSet::with_hasher(alloc, hash),
         };
-        match read_table(keyed, alloc, bytes) {
-            Ok(keyed) => Ok(keyed.rows),
-            Err(fault) => Err(fault),
-        }
+        read_table(keyed, alloc, bytes).map(|keyed| keyed.rows)
     }
 }

@@ -1,8 +1,7 @@
 //! Tables with a limit on the number of their rows.
 
 ghost use Rattle.std.specs.Prelude.{◌≡◌, ◌≢◌, ℕ, List, IfOk, IfErr, ⊤};
-ghost use Rattle.gtfs_rows.specs.Faults.{HoldsRows};
-ghost use Rattle.gtfs_rows.specs.Tables.{HoldsWithin, IsFaultWithin, shape_of};
+ghost use Rattle.gtfs_rows.specs.Tables.{HoldsRows, HoldsWithin, IsFaultWithin};
 
 use crate::fault::{FaultKind, Table, TableFault};
 use crate::id_hash::IdHash;
@@ -43,11 +42,11 @@ pub fn rows_up_to<R: LimitedRow>(
     hash: IdHash,
     bytes: &[u8],
 ) -> Result<Vec<R>, TableFault>
-    ensures ok { IfOk result (λ rows. HoldsWithin (HoldsRows (shape_of R.TABLE) R.spells) R.count limit bytes.now
+    ensures ok { IfOk result (λ rows. HoldsWithin (HoldsRows R.TABLE R.spells) R.count limit bytes.now
         rows.items) }
     ensures file { IfErr result (λ fault. fault.file ≡ R.TABLE) }
     ensures err { IfErr result (λ fault. fault.kind ≢ FaultKind.OutOfMemory
-        → IsFaultWithin (shape_of R.TABLE) (HoldsRows (shape_of R.TABLE) R.spells) R.count limit bytes.now fault.row
+        → IsFaultWithin R.TABLE (HoldsRows R.TABLE R.spells) R.count limit bytes.now fault.row
         fault.kind) }
 {
     let read: Result<Vec<R>, TableFault> = TableFile::read(alloc, hash, bytes);
@@ -61,19 +60,16 @@ pub fn rows_up_to<R: LimitedRow>(
 impl<R: LimitedRow> TableFile for RowsWithinLimit<R> {
     ghost TABLE = { R.TABLE };
 
-    ghost holds = { λ bytes kept. HoldsWithin (HoldsRows (shape_of R.TABLE) R.spells) R.count R.LIMIT bytes
+    ghost holds = { λ bytes kept. HoldsWithin (HoldsRows R.TABLE R.spells) R.count R.LIMIT bytes
         kept.rows.items };
 
-    ghost tells = { IsFaultWithin (shape_of R.TABLE) (HoldsRows (shape_of R.TABLE) R.spells) R.count R.LIMIT };
+    ghost tells = { IsFaultWithin R.TABLE (HoldsRows R.TABLE R.spells) R.count R.LIMIT };
 
     ghost is_hashed = { λ hash rows. ⊤ };
 
     const TABLE: Table = R::TABLE;
 
     fn read(alloc: Global, hash: IdHash, bytes: &[u8]) -> Result<RowsWithinLimit<R>, TableFault> {
-        match rows_up_to(R::LIMIT, alloc, hash, bytes) {
-            Ok(rows) => Ok(RowsWithinLimit { rows }),
-            Err(fault) => Err(fault),
-        }
+        rows_up_to(R::LIMIT, alloc, hash, bytes).map(|rows| RowsWithinLimit { rows })
     }
 }

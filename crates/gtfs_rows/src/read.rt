@@ -21,17 +21,12 @@ pub const MAX_STOPS: usize = 1_000_000;
 /// The greatest number of trips of a feed.
 pub const MAX_TRIPS: usize = 20_000_000;
 
-// Returns the hash for ids that weren't made to collide, or that aren't looked up.
-fn known_key() -> IdHash {
-    IdHash::of_key(0)
-}
-
 /// Returns the agencies in the bytes of `agency.txt`, or the first fault of the file.
 pub fn read_agency(alloc: Global, bytes: &[u8]) -> Result<Vec<AgencyRow>, TableFault>
     ensures ok { IfOk result (λ rows. HoldsAgencies bytes.now rows.items) }
     ensures err { IfErr result (IsRefusal Table.Agency bytes.now) }
 {
-    TableFile::read(alloc, known_key(), bytes)
+    TableFile::read(alloc, IdHash::of_key(0), bytes)
 }
 
 /// Returns the stop times in the bytes of `stop_times.txt`, or the first fault of the file.
@@ -39,7 +34,7 @@ pub fn read_stop_times(alloc: Global, bytes: &[u8]) -> Result<StopTimes, TableFa
     ensures ok { IfOk result (λ t. HoldsStopTimes bytes.now t) }
     ensures err { IfErr result (IsRefusal Table.StopTimes bytes.now) }
 {
-    TableFile::read(alloc, known_key(), bytes)
+    TableFile::read(alloc, IdHash::of_key(0), bytes)
 }
 
 /// Returns the weekly services in the bytes of `calendar.txt`, or the first fault of the file.
@@ -47,7 +42,7 @@ pub fn read_calendar(alloc: Global, bytes: &[u8]) -> Result<Vec<CalendarRow>, Ta
     ensures ok { IfOk result (λ rows. HoldsCalendar bytes.now rows.items) }
     ensures err { IfErr result (IsRefusal Table.Calendar bytes.now) }
 {
-    TableFile::read(alloc, known_key(), bytes)
+    TableFile::read(alloc, IdHash::of_key(0), bytes)
 }
 
 /// Returns the added and removed days in the bytes of `calendar_dates.txt`, or the first fault of the file.
@@ -55,7 +50,7 @@ pub fn read_calendar_dates(alloc: Global, bytes: &[u8]) -> Result<Vec<CalendarDa
     ensures ok { IfOk result (λ rows. HoldsCalendarDates bytes.now rows.items) }
     ensures err { IfErr result (IsRefusal Table.CalendarDates bytes.now) }
 {
-    TableFile::read(alloc, known_key(), bytes)
+    TableFile::read(alloc, IdHash::of_key(0), bytes)
 }
 
 /// Returns the rows in the bytes of `transfers.txt`, or the first fault of the file.
@@ -63,7 +58,7 @@ pub fn read_transfers(alloc: Global, bytes: &[u8]) -> Result<Vec<TransferRow>, T
     ensures ok { IfOk result (λ rows. HoldsTransfers bytes.now rows.items) }
     ensures err { IfErr result (IsRefusal Table.Transfers bytes.now) }
 {
-    TableFile::read(alloc, known_key(), bytes)
+    TableFile::read(alloc, IdHash::of_key(0), bytes)
 }
 
 /// Returns the rows in the bytes of `frequencies.txt`, or the first fault of the file.
@@ -71,7 +66,7 @@ pub fn read_frequencies(alloc: Global, bytes: &[u8]) -> Result<Vec<FrequencyRow>
     ensures ok { IfOk result (λ rows. HoldsFrequencies bytes.now rows.items) }
     ensures err { IfErr result (IsRefusal Table.Frequencies bytes.now) }
 {
-    TableFile::read(alloc, known_key(), bytes)
+    TableFile::read(alloc, IdHash::of_key(0), bytes)
 }
 
 /// Returns the stops and other places in the bytes of `stops.txt`, or the first fault of the file; `TooMany` if more
@@ -83,7 +78,7 @@ pub fn read_stops(alloc: Global, bytes: &[u8]) -> Result<Vec<StopRow>, TableFaul
     ensures err { IfErr result (λ fault. fault.kind ≢ FaultKind.OutOfMemory
         → IsStopsFault MAX_STOPS bytes.now fault.row fault.kind) }
 {
-    rows_up_to(MAX_STOPS, alloc, known_key(), bytes)
+    rows_up_to(MAX_STOPS, alloc, IdHash::of_key(0), bytes)
 }
 
 /// Returns the trips in the bytes of `trips.txt`, or the first fault of the file; `TooMany` if there are more than
@@ -95,5 +90,5 @@ pub fn read_trips(alloc: Global, bytes: &[u8]) -> Result<Vec<TripRow>, TableFaul
     ensures err { IfErr result (λ fault. fault.kind ≢ FaultKind.OutOfMemory
         → IsTripsFault MAX_TRIPS bytes.now fault.row fault.kind) }
 {
-    rows_up_to(MAX_TRIPS, alloc, known_key(), bytes)
+    rows_up_to(MAX_TRIPS, alloc, IdHash::of_key(0), bytes)
 }

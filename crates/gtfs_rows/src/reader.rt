@@ -1,11 +1,11 @@
 //! Reads any table: its header, then record by record until the first fault.
 
-ghost use Rattle.std.specs.Prelude.{◌≡◌, ◌≢◌, ◌+◌, ◌++◌, ◌∷◌, [], ℕ, List, Some, None, IfOk, IfErr, OnOk};
+ghost use Rattle.std.specs.Prelude.{◌≡◌, ◌≢◌, ◌+◌, ◌++◌, ◌∷◌, [], List, Some, None, IfOk, IfErr, OnOk};
 ghost use Rattle.csv.specs.Records.{AllText};
-ghost use Rattle.gtfs_rows.specs.Source.{AllRecordsText, IsReading, IsSame, Record, last_of, left_of};
+ghost use Rattle.gtfs_rows.specs.Faults.{first_fault};
+ghost use Rattle.gtfs_rows.specs.Source.{AllRecordsText, IsReading, Record, last_of, left_of};
 ghost use Rattle.gtfs_rows.specs.Cells.{ColumnIndices};
-ghost use Rattle.gtfs_rows.specs.Faults.{HoldsFile, IsFaultless, IsFirstFault, length_first};
-ghost use Rattle.gtfs_rows.specs.Tables.{IsRefusal, judge_of, shape_of};
+ghost use Rattle.gtfs_rows.specs.Tables.{HoldsFile, IsRefusal, judge_by, judge_of};
 ghost use Rattle.gtfs_rows.specs.declared.fault.Table.{Table as File};
 ghost use Rattle.gtfs_rows.specs.declared.id_hash.IdHash.{IdHash as Hash};
 
@@ -42,10 +42,7 @@ pub(crate) fn add_row<R: Drop>(rows: &mut Vec<R>, row: R) -> Result<(), FaultKin
     ensures ok { OnOk result (rows.new.items ≡ rows.old.items ++ row ∷ []) }
     ensures err { IfErr result (λ kind. kind ≡ FaultKind.OutOfMemory) }
 {
-    match rows.push(row) {
-        Ok(()) => Ok(()),
-        Err(_) => Err(FaultKind::OutOfMemory),
-    }
+    rows.push(row).map_err(|_| FaultKind::OutOfMemory)
 }
 
 // Adds the record that was read last, or returns what is wrong with it: first `RowLength` if it hasn't as many fields
@@ -57,12 +54,11 @@ fn add_record<T: TableRows>(
 ) -> Result<(), FaultKind>
     requires { AllText (last_of records.now) }
     ensures ok { (before : List Record) → T.holds records.now.indices.items before rows.old → OnOk result
-        ((length_first records.now.width (judge_of T.TABLE records.now.indices.items) before (last_of records.now)
-        ≡ None) × T.holds records.now.indices.items (before ++ last_of records.now ∷ []) rows.new) }
+        ((judge_by T.TABLE records.now before (last_of records.now) ≡ None)
+        × T.holds records.now.indices.items (before ++ last_of records.now ∷ []) rows.new) }
     ensures err { (before : List Record) → T.holds records.now.indices.items before rows.old
         → IfErr result (λ kind. kind ≢ FaultKind.OutOfMemory
-        → length_first records.now.width (judge_of T.TABLE records.now.indices.items) before (last_of records.now)
-        ≡ Some kind) }
+        → judge_by T.TABLE records.now before (last_of records.now) ≡ Some kind) }
     ensures hashes { OnOk result (T.hashes rows.new ≡ T.hashes rows.old) }
 {
     if records.last().len() != records.width() {
@@ -80,12 +76,10 @@ fn add_records<T: TableRows>(
     requires reading { IsReading records.old }
     requires text { AllRecordsText (left_of records.old) }
     requires starts { T.holds records.old.indices.items [] rows }
-    ensures ok { IfOk result (λ t. IsFaultless (length_first records.old.width
-        (judge_of T.TABLE records.old.indices.items)) (left_of records.old)
+    ensures ok { IfOk result (λ t. (first_fault (judge_by T.TABLE records.old) [] (left_of records.old) ≡ None)
         × T.holds records.old.indices.items (left_of records.old) t) }
     ensures err { IfErr result (λ fault. (fault.file ≡ T.TABLE) × (fault.kind ≢ FaultKind.OutOfMemory
-        → (k : ℕ) × (fault.row ≡ k + 1) × IsFirstFault (length_first records.old.width
-        (judge_of T.TABLE records.old.indices.items)) (left_of records.old) k fault.kind)) }
+        → first_fault (judge_by T.TABLE records.old) [] (left_of records.old) ≡ Some (fault.row, fault.kind))) }
     ensures hashes { IfOk result (λ t. T.hashes t ≡ T.hashes rows) }
 {
     for taken in 0..u64::MAX {
@@ -109,7 +103,7 @@ pub(crate) fn read_table<T: TableRows>(
     bytes: &[u8],
 ) -> Result<T, TableFault>
     requires { (indices : ColumnIndices) → T.holds indices [] rows }
-    ensures ok { IfOk result (λ t. HoldsFile (shape_of T.TABLE) T.holds bytes.now t) }
+    ensures ok { IfOk result (λ t. HoldsFile T.TABLE T.holds bytes.now t) }
     ensures err { IfErr result (IsRefusal T.TABLE bytes.now) }
     ensures hashes { IfOk result (λ t. T.hashes t ≡ T.hashes rows) }
 {

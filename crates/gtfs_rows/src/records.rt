@@ -1,16 +1,14 @@
 //! Reads the records of a file's bytes, one at a time, by the crate `csv`.
 
-ghost use Rattle.std.specs.Prelude.{◌≡◌, ◌≢◌, ◌≤◌, ◌+◌, ◌-◌, ◌==◌, ◌∷◌, [], if◌then◌else◌, length, map};
-ghost use Rattle.std.specs.Prelude.{IfErr, IfOk, MatchBool, MatchOption, None, OnOk, Some};
+ghost use Rattle.std.specs.Prelude.{◌≡◌, ◌≢◌, ◌≤◌, ◌+◌, ◌-◌, ◌==◌, ◌∷◌, [], if◌then◌else◌, length, IfErr, IfOk};
+ghost use Rattle.std.specs.Prelude.{MatchBool, MatchOption, None, OnOk, Some};
 ghost use Rattle.std.specs.Result.{result_err};
 ghost use Rattle.std.specs.String.{string_bytes};
 ghost use Rattle.csv.specs.Records.{AllText, fields_of};
-ghost use Rattle.gtfs_rows.specs.Cells.{indices_of};
-ghost use Rattle.gtfs_rows.specs.Faults.{IsFaultOf, fault_unless};
+ghost use Rattle.gtfs_rows.specs.Faults.{fault_unless};
+ghost use Rattle.gtfs_rows.specs.Tables.{IsFaultOf, of_last, shown, values_of, IsOpened};
 ghost use Rattle.gtfs_rows.specs.Positions.{line_at};
-ghost use Rattle.gtfs_rows.specs.Rows.{of_last, shown, values_of};
 ghost use Rattle.gtfs_rows.specs.Source.{IsFound, IsReading, IsSame, last_of, left_of, table_records};
-ghost use Rattle.gtfs_rows.specs.Tables.{IsOpened, shape_of};
 ghost use Rattle.gtfs_rows.specs.Values.{time_of};
 
 use crate::cells::{ColumnIndex, cell, has_required, indices, is_text, text_of};
@@ -63,7 +61,7 @@ impl<'a> Records<'a> {
     pub fn of_table(alloc: Global, table: Table, bytes: &'a [u8]) -> Result<Records<'a>, FaultKind>
         ensures ok { IfOk result (IsOpened table bytes.entry.now) }
         ensures err { IfErr result (λ kind. kind ≢ FaultKind.OutOfMemory
-            → IsFaultOf (shape_of table) bytes.entry.now 0 kind) }
+            → IsFaultOf table bytes.entry.now 0 kind) }
     {
         if !is_text(bytes) {
             return Err(FaultKind::BadUtf8);
@@ -74,26 +72,15 @@ impl<'a> Records<'a> {
             Ok(false) => return Err(FaultKind::MissingColumn),
             Ok(true) => {}
         }
-        if records.find_columns(alloc, table.columns()).is_err() {
+        let Ok(indices) = indices(alloc, &records.record, table.columns()) else {
             return Err(FaultKind::OutOfMemory);
-        }
-        if !has_required(&records.indices, table.required()) {
+        };
+        if !has_required(&indices, table.required()) {
             return Err(FaultKind::MissingColumn);
         }
+        records.indices = indices;
+        records.width = records.record.len();
         Ok(records)
-    }
-
-    /// Finds the columns of these names in the record that was read last, the header, so that values can be asked for
-    /// by their indices. Memory may run out.
-    pub fn find_columns(&mut self, alloc: Global, names: &[&str]) -> Result<(), AllocError>
-        ensures indices { OnOk result (self.new.indices.items ≡ indices_of (map (λ name. name.now) names.now)
-            (last_of self.old)) }
-        ensures width { OnOk result (self.new.width ≡ length (last_of self.old)) }
-        ensures rest { OnOk result (self.new ≡ record self.old { indices = self.new.indices; width = self.new.width }) }
-    {
-        self.indices = indices(alloc, &self.record, names)?;
-        self.width = self.record.len();
-        Ok(())
     }
 
     /// Reads the next record and returns true, or returns false if no record is left. Memory may run out; there are no

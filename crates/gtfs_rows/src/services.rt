@@ -1,11 +1,10 @@
 //! calendar.txt and calendar_dates.txt: the days on which services run.
 
-ghost use Rattle.std.specs.Prelude.{◌≡◌, ◌+◌, None, Some, IfOk};
+ghost use Rattle.std.specs.Prelude.{◌≡◌, None, Some, IfOk};
 ghost use Rattle.std.specs.Result.{result_err};
 ghost use Rattle.gtfs_rows.specs.Faults.{fault_unless};
-ghost use Rattle.gtfs_rows.specs.Rows.{SpellsCalendar, SpellsCalendarDate, calendar_date_fault, calendar_fault};
-ghost use Rattle.gtfs_rows.specs.Rows.{exception_of, flag_of, of_last, shown, value, weekday as weekday_of};
-ghost use Rattle.gtfs_rows.specs.Rows.{weekdays_of};
+ghost use Rattle.gtfs_rows.specs.Tables.{SpellsCalendar, SpellsCalendarDate, calendar_date_fault, calendar_fault};
+ghost use Rattle.gtfs_rows.specs.Tables.{exception_of, of_last, shown, value, weekday as weekday_of, weekdays_of};
 ghost use Rattle.gtfs_rows.specs.Source.{last_of};
 ghost use Rattle.gtfs_rows.specs.Values.{day_of, number_of};
 ghost use Rattle.gtfs_rows.specs.declared.fault.Table.TheVariants as files;

@@ -1,17 +1,15 @@
 //! stop_times.txt, the longest table: rows have numbers in place of ids, and each id is kept once.
 
-ghost use Rattle.std.specs.Prelude.{◌≡◌, ◌≢◌, ◌<◌, ◌++◌, ◌∷◌, [], List, length, map, IfOk, IfErr, OnOk, IsUtf8};
-ghost use Rattle.std.specs.Prelude.{None, Some};
+ghost use Rattle.std.specs.Prelude.{◌≡◌, ◌≢◌, ◌<◌, ◌∷◌, [], map, IfOk, IfErr, OnOk, IsUtf8, None, Some};
 ghost use Rattle.std.specs.Result.{result_err};
 ghost use Rattle.std.specs.String.{string_bytes};
 ghost use Rattle.csv.specs.Records.{AllText};
-ghost use Rattle.gtfs_rows.specs.Faults.{IsFaultOf, fault_unless};
-ghost use Rattle.gtfs_rows.specs.Ids.{given_also};
+ghost use Rattle.gtfs_rows.specs.Faults.{fault_unless};
+ghost use Rattle.gtfs_rows.specs.Tables.{IsFaultOf, AreStopTimes, IsStopId, given_time, is_available, stop_time_fault};
+ghost use Rattle.gtfs_rows.specs.Tables.{SpellsStopTime, of_last, shown, time_fault, HoldsStopTimes};
+ghost use Rattle.gtfs_rows.specs.Ids.{given_also, seen_also};
 ghost use Rattle.indexmap.specs.IndexSet.{hasher_of};
-ghost use Rattle.gtfs_rows.specs.Source.{Record, last_of};
-ghost use Rattle.gtfs_rows.specs.Rows.{AreStopTimes, IsStopId, given_time, is_available, stop_time_fault};
-ghost use Rattle.gtfs_rows.specs.Rows.{of_last, shown, time_fault};
-ghost use Rattle.gtfs_rows.specs.Tables.{HoldsStopTimes, shape_of};
+ghost use Rattle.gtfs_rows.specs.Source.{last_of};
 ghost use Rattle.gtfs_rows.specs.Values.{number_of};
 ghost use Rattle.gtfs_rows.specs.declared.fault.Table.TheVariants as files;
 
@@ -22,7 +20,7 @@ use crate::reader::{TableRows, add_row, read_table};
 use crate::records::Records;
 use crate::rows::StopTimeRow;
 use crate::table_file::TableFile;
-use crate::values::{Time, number};
+use crate::values::number;
 use indexmap::IndexSet;
 use std::alloc::Global;
 
@@ -40,14 +38,10 @@ fn time_in(records: &Records<'_>, column: usize) -> Result<Option<u32>, FaultKin
     ensures ok { IfOk result (λ t. t ≡ given_time (shown records.now column)) }
     ensures fault { result_err result ≡ time_fault (shown records.now column) }
 {
-    let text = records.get(column);
-    if text.is_empty() {
+    if records.get(column).is_empty() {
         return Ok(None);
     }
-    match Time::parse(text) {
-        Ok(seconds) => Ok(Some(seconds)),
-        Err(_) => Err(FaultKind::BadTime),
-    }
+    records.time(column).map(Some)
 }
 
 // Returns the number in a column: `BadNumber` if it isn't one.
@@ -102,38 +96,41 @@ pub(crate) fn stop_time(records: &Records<'_>) -> Result<(Option<u32>, Option<u3
     Ok((arrival, departure, sequence))
 }
 
-// Adds the row of one record and returns the index of its stop_id, or returns what is wrong with the record. The
+// Returns the row of a record, whose ids are added if they aren't there yet, or what is wrong with the record. The
 // likely index of the stop_id is tried first.
-fn add_stop_time(
+fn stop_time_row(
     times: &mut StopTimes,
     alloc: Global,
     likely: Option<u32>,
     records: &Records<'_>,
-) -> Result<Option<u32>, FaultKind>
+) -> Result<StopTimeRow, FaultKind>
     requires { AllText (last_of records.now) }
-    ensures ok { (before : List Record) → AreStopTimes records.now.indices.items before times.old → OnOk result
-        ((stop_time_fault records.now.indices.items (last_of records.now) ≡ None)
-        × AreStopTimes records.now.indices.items (before ++ last_of records.now ∷ []) times.new) }
+    ensures row { IfOk result (SpellsStopTime (map string_bytes times.new.trips.keys)
+        (map string_bytes times.new.stops.keys) records.now.indices.items (last_of records.now)) }
+    ensures fine { OnOk result (of_last stop_time_fault records.now ≡ None) }
+    ensures trips { OnOk result (map string_bytes times.new.trips.keys
+        ≡ seen_also (map string_bytes times.old.trips.keys) (shown records.now 0)) }
+    ensures stops { OnOk result (map string_bytes times.new.stops.keys
+        ≡ given_also (map string_bytes times.old.stops.keys) (shown records.now 3)) }
+    ensures rows { times.new.rows ≡ times.old.rows }
     ensures err { IfErr result (λ kind. kind ≢ FaultKind.OutOfMemory
-        → stop_time_fault records.now.indices.items (last_of records.now) ≡ Some kind) }
-    ensures trips { OnOk result (hasher_of times.new.trips ≡ hasher_of times.old.trips) }
-    ensures stops { OnOk result (hasher_of times.new.stops ≡ hasher_of times.old.stops) }
+        → of_last stop_time_fault records.now ≡ Some kind) }
+    ensures trip_hash { OnOk result (hasher_of times.new.trips ≡ hasher_of times.old.trips) }
+    ensures stop_hash { OnOk result (hasher_of times.new.stops ≡ hasher_of times.old.stops) }
 {
-    let time = stop_time(records)?;
+    let (arrival, departure, sequence) = stop_time(records)?;
     let before = times.rows.last().map(|row| row.trip);
     let trip = index_of(alloc, &mut times.trips, before, records.get(0))?;
     let stop = stop_index(alloc, &mut times.stops, likely, records.get(3))?;
-    let row = StopTimeRow {
+    Ok(StopTimeRow {
         trip,
-        arrival: time.0,
-        departure: time.1,
+        arrival,
+        departure,
         stop,
-        sequence: time.2,
+        sequence,
         board: available(records.get(5)),
         alight: available(records.get(6)),
-    };
-    add_row(&mut times.rows, row)?;
-    Ok(stop)
+    })
 }
 
 // The stop times read so far, and what is needed to guess the next row's stop: trips of a line are usually listed
@@ -170,12 +167,12 @@ impl TableRows for StopTimesRead {
 
     fn add(&mut self, alloc: Global, records: &Records<'_>) -> Result<(), FaultKind> {
         let likely = self.followers.get(self.last as usize).copied();
-        let stop = add_stop_time(&mut self.times, alloc, likely, records)?;
-        let Some(stop) = stop else {
-            return Ok(());
-        };
-        note_follower(&mut self.followers, self.last, stop)?;
-        self.last = stop;
+        let row = stop_time_row(&mut self.times, alloc, likely, records)?;
+        add_row(&mut self.times.rows, row)?;
+        if let Some(stop) = row.stop {
+            note_follower(&mut self.followers, self.last, stop)?;
+            self.last = stop;
+        }
         Ok(())
     }
 }
@@ -185,7 +182,7 @@ impl TableFile for StopTimes {
 
     ghost holds = { HoldsStopTimes };
 
-    ghost tells = { IsFaultOf (shape_of files.StopTimes) };
+    ghost tells = { IsFaultOf files.StopTimes };
 
     ghost is_hashed = { λ hash times. (hasher_of times.trips ≡ hash) × (hasher_of times.stops ≡ hash) };
 
@@ -201,9 +198,6 @@ impl TableFile for StopTimes {
             last: 0,
             followers: Vec::new(alloc),
         };
-        match read_table(read, alloc, bytes) {
-            Ok(read) => Ok(read.times),
-            Err(fault) => Err(fault),
-        }
+        read_table(read, alloc, bytes).map(|read| read.times)
     }
 }

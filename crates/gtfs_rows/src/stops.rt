@@ -1,8 +1,7 @@
 //! agency.txt, stops.txt and trips.txt: what runs, and between which places.
 
 ghost use Rattle.std.specs.Prelude.{◌≡◌, count_by, length};
-ghost use Rattle.gtfs_rows.specs.Rows.{SpellsAgency, SpellsStop, SpellsTrip, location_of};
-ghost use Rattle.gtfs_rows.specs.Tables.{is_stop};
+ghost use Rattle.gtfs_rows.specs.Tables.{SpellsAgency, SpellsStop, SpellsTrip, location_of, is_stop};
 ghost use Rattle.gtfs_rows.specs.Values.{number_of};
 ghost use Rattle.gtfs_rows.specs.declared.fault.Table.TheVariants as files;
 ghost use Rattle.gtfs_rows.specs.declared.read.TheConstants.{MAX_STOPS, MAX_TRIPS};

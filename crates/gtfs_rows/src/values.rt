@@ -1,11 +1,11 @@
 //! Parses the times, dates and numbers of tables.
 
-ghost use Rattle.std.specs.Prelude.{◌≡◌, ◌==◌, ◌+◌, ◌*◌, ◌<◌, ◌≤◌, ℕ, true, length, drop, IfSome};
+ghost use Rattle.std.specs.Prelude.{◌≡◌, ◌==◌, ◌+◌, ◌*◌, ◌<◌, ◌≤◌, true, length, IfSome};
 ghost use Rattle.std.specs.Result.{result_ok};
 ghost use Rattle.std.specs.Char.{is_ascii_digit};
 ghost use Rattle.std.specs.List.{AllPass, list_all, prefix_len};
-ghost use Rattle.gtfs_rows.specs.Values.{clock_of, day_of, decimal_of, digit_of, is_zero_fraction, number_of};
-ghost use Rattle.gtfs_rows.specs.Values.{time_of, two_digits_of, checked_day};
+ghost use Rattle.gtfs_rows.specs.Values.{clock_of, day_of, decimal_of, digit_of, is_zero_fraction, number_of, time_of};
+ghost use Rattle.gtfs_rows.specs.Values.{two_digits_of, checked_day};
 
 use jiff::civil::Date;
 

@@ -4,8 +4,7 @@ use Rattle.std.specs.List.{list_any}
 use Rattle.std.specs.String.{string_bytes}
 pub use Rattle.reasoning.specs.Options.{is_that_number as is_place}
 use Rattle.gtfs_rows.specs.Faults.{fault_unless, or_fault}
-use Rattle.gtfs_rows.specs.Rows.{is_blank}
-use Rattle.gtfs_rows.specs.Tables.{is_stop}
+use Rattle.gtfs_rows.specs.Tables.{is_blank, is_stop}
 use Rattle.gtfs_rows.specs.declared.fault.FaultKind.{FaultKind}
 use Rattle.gtfs_rows.specs.declared.fault.FaultKind.TheVariants as kinds
 use Rattle.gtfs_rows.specs.declared.rows.FrequencyRow.{FrequencyRow}

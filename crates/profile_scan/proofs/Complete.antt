@@ -124,7 +124,7 @@ module _ {V : Type 0} (rules : Rules V) (laws : Laws rules) (t : TimetableValue)
       (carries : AreUnpruned rules t found i bag survivors)
       (later : (x : Aboard) → IsAboard t q (i + 1) (connection_at t i).trip x → InLabels found labels (aboard_value rules t x))
       (open_covered : (way : Leaving V) → (connection_at t i).alight ≡ true → MayLeave t q i survivors way
-        → Covers rules labels 0 (leaving_value rules t i way))
+      → Covers rules labels 0 (leaving_value rules t i way))
       (onward : (time : ℕ) (x : Onward) → IsOnward t q (i + 1) (connection_at t i).to time x
       → Covers rules bag time (onward_value rules t x) ⊎ IsOutdone rules t found (i + 1) (onward_value rules t x))
       (x : Aboard) → i < length t.connections → IsAboard t q i (connection_at t i).trip x → InLabels found labels (aboard_value rules t x)

@@ -1,8 +1,7 @@
 //! The services that trips name, each once, so that each is looked up only once for a day.
 
 ghost use Rattle.std.specs.Prelude.{◌≡◌, [], List, map, IfOk, OnOk};
-ghost use Rattle.gtfs_rows.specs.Ids.{seen_also};
-ghost use Rattle.gtfs_rows.specs.Rows.{StandsAt};
+ghost use Rattle.gtfs_rows.specs.Ids.{StandsAt, seen_also};
 ghost use Rattle.gtfs_rows.specs.declared.rows.CalendarDateRow.{CalendarDateRow};
 ghost use Rattle.gtfs_rows.specs.declared.rows.CalendarRow.{CalendarRow};
 ghost use Rattle.gtfs_rows.specs.declared.values.Day.{Day as CalendarDay};

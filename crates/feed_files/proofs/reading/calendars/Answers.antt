@@ -5,8 +5,7 @@ use Rattle.std.specs.declared.alloc.Global.{Global}
 use Rattle.gtfs_rows.specs.declared.rows.CalendarRow.{CalendarRow}
 use Rattle.gtfs_rows.specs.declared.rows.CalendarDateRow.{CalendarDateRow}
 use Rattle.gtfs_rows.specs.declared.fault.Table.TheVariants as tables
-use Rattle.gtfs_rows.specs.Faults.{IsFaultOf}
-use Rattle.gtfs_rows.specs.Tables.{HoldsCalendar, HoldsCalendarDates, shape_of}
+use Rattle.gtfs_rows.specs.Tables.{HoldsCalendar, HoldsCalendarDates, IsFaultOf}
 use Rattle.feed_files.specs.Reading.{OptionalFault, earlier}
 use Rattle.feed_files.proofs.ReadingLemmas.{calendar_fault, calendars_held, calendars_missing, fine_more, held_rows}
 use Rattle.feed_files.proofs.ReadingLemmas.{no_file, no_tables, none_items, some_items, some_there}
@@ -28,7 +27,7 @@ returns-in_err-calendar-clause-err g c content gave fine =
     let p = err_from_is_err_and c.from_residual.result c.from_residual.ensures.1 in
     let e = c.in_err-calendar.ensures.err content gave in
     rw (p.1, p.2) (no_tables content tables.Calendar
-    (OptionalFault (IsFaultOf (shape_of tables.Calendar)) (content tables.Calendar)) c.in_err-calendar.field-0.0
+    (OptionalFault (IsFaultOf tables.Calendar) (content tables.Calendar)) c.in_err-calendar.field-0.0
     (calendar_fault (content tables.Calendar) (content tables.CalendarDates)) fine e)
 
 pub returns-in_err-dates-clause-err : goal.returns-in_err-dates-clause-err
@@ -41,7 +40,7 @@ returns-in_err-dates-clause-err g c content gave fine =
     c.in_ok-calendar.calendar (c.in_ok-calendar.ensures.ok content g1) in
     let e = c.in_err-dates.ensures.err content g2 in
     rw (p.1, p.2) (no_tables content tables.CalendarDates
-    (OptionalFault (IsFaultOf (shape_of tables.CalendarDates)) (content tables.CalendarDates)) c.in_err-dates.field-0.0
+    (OptionalFault (IsFaultOf tables.CalendarDates) (content tables.CalendarDates)) c.in_err-dates.field-0.0
     (λ row kind h. h) (fine_more content (earlier tables.Calendar) tables.Calendar fine calendar) e)
 
 pub returns-in-None-None-clause-asked : goal.returns-in-None-None-clause-asked

@@ -2,8 +2,7 @@
 use Rattle.std.proofs.Common.{◌∙◌, Vec, ◌∷◌, []}
 use Rattle.std.proofs.lemmas.Result.{err_from_is_err_and}
 use Rattle.std.specs.declared.alloc.Global.{Global}
-use Rattle.gtfs_rows.specs.Faults.{IsFaultOf}
-use Rattle.gtfs_rows.specs.Tables.{HoldsAgencies, HoldsStopsWithin, HoldsTripsWithin, IsStopsFault, IsTripsFault, shape_of}
+use Rattle.gtfs_rows.specs.Tables.{HoldsAgencies, HoldsStopsWithin, HoldsTripsWithin, IsFaultOf, IsStopsFault, IsTripsFault}
 use Rattle.gtfs_rows.specs.declared.fault.Table.TheVariants as tables
 use Rattle.gtfs_rows.specs.declared.limited.RowsWithinLimit.{RowsWithinLimit}
 use Rattle.gtfs_rows.specs.declared.read.TheConstants.{MAX_STOPS, MAX_TRIPS}
@@ -49,7 +48,7 @@ returns-in_err-stop_times-clause-asked g c =
 pub returns-in_err-agencies-clause-err : goal.returns-in_err-agencies-clause-err
 returns-in_err-agencies-clause-err g c content gave =
     let p = err_from_is_err_and c.from_residual.result c.from_residual.ensures.1 in
-    rw (p.1, p.2) (no_tables content tables.Agency (RequiredFault (IsFaultOf (shape_of tables.Agency)) (content tables.Agency))
+    rw (p.1, p.2) (no_tables content tables.Agency (RequiredFault (IsFaultOf tables.Agency) (content tables.Agency))
     c.in_err-agencies.field-0.0 (λ row kind h. h) tt (c.in_err-agencies.ensures.err content gave))
 
 pub returns-in_err-stops-clause-err : goal.returns-in_err-stops-clause-err
@@ -104,7 +103,7 @@ returns-in_err-stop_times-clause-err g c content gave =
     let trips = required_rows (λ (kept : RowsWithinLimit TripRow). kept.rows.items) (HoldsTripsWithin MAX_TRIPS)
     (content tables.Trips) c.in_ok-trips.trips (c.in_ok-trips.ensures.ok content g3) in
     let p = err_from_is_err_and c.from_residual-in_err-stop_times.result c.from_residual-in_err-stop_times.ensures.1 in
-    rw (p.1, p.2) (no_tables content tables.StopTimes (RequiredFault (IsFaultOf (shape_of tables.StopTimes)) (content tables.StopTimes))
+    rw (p.1, p.2) (no_tables content tables.StopTimes (RequiredFault (IsFaultOf tables.StopTimes) (content tables.StopTimes))
     c.in_err-stop_times.field-0.0 (λ row kind h. h)
     (fine_more content (earlier tables.Trips) tables.Trips (fine_more content (earlier tables.Stops) tables.Stops
     (fine_more content (earlier tables.Agency) tables.Agency tt agencies) stops) trips)

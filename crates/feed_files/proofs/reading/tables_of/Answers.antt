@@ -3,8 +3,7 @@ use Rattle.std.proofs.Common.{◌≡◌, [], Vec, ◌∙◌, ◌∷◌}
 use Rattle.std.specs.Prelude.{⊤}
 use Rattle.std.proofs.lemmas.Result.{err_from_is_err_and}
 use Rattle.std.specs.declared.alloc.Global.{Global}
-use Rattle.gtfs_rows.specs.Faults.{IsFaultOf}
-use Rattle.gtfs_rows.specs.Tables.{HoldsTransfers, shape_of}
+use Rattle.gtfs_rows.specs.Tables.{HoldsTransfers, IsFaultOf}
 use Rattle.gtfs_rows.specs.declared.fault.Table.TheVariants as tables
 use Rattle.gtfs_rows.specs.declared.rows.TransferRow.{TransferRow}
 use Rattle.feed_files.specs.Reading.{OptionalFault, earlier}
@@ -70,7 +69,7 @@ returns-in_err-transfers-clause-err g c content gave =
     (c.in_ok-calendar.ensures.ok content g2) in
     let p = err_from_is_err_and c.from_residual-in_err-transfers.result c.from_residual-in_err-transfers.ensures.1 in
     rw (p.1, p.2) (no_tables content tables.Transfers
-    (OptionalFault (IsFaultOf (shape_of tables.Transfers)) (content tables.Transfers)) c.in_err-transfers.field-0.0
+    (OptionalFault (IsFaultOf tables.Transfers) (content tables.Transfers)) c.in_err-transfers.field-0.0
     (λ row kind h. h) before (c.in_err-transfers.ensures.err content g3))
 
 pub returns-in_err-frequencies-clause-err : goal.returns-in_err-frequencies-clause-err
@@ -97,7 +96,7 @@ returns-in_err-frequencies-clause-err g c content gave =
     let fine = fine_more content (earlier tables.Transfers) tables.Transfers before transfers in
     let p = err_from_is_err_and c.from_residual-in_err-frequencies.result c.from_residual-in_err-frequencies.ensures.1 in
     rw (p.1, p.2) (no_tables content tables.Frequencies
-    (OptionalFault (IsFaultOf (shape_of tables.Frequencies)) (content tables.Frequencies)) c.in_err-frequencies.field-0.0
+    (OptionalFault (IsFaultOf tables.Frequencies) (content tables.Frequencies)) c.in_err-frequencies.field-0.0
     (λ row kind h. h) fine (c.in_err-frequencies.ensures.err content g4))
 
 pub returns-clause-asked : goal.returns-clause-asked

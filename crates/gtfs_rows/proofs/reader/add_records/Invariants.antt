@@ -1,7 +1,7 @@
-use Rattle.std.proofs.Common.{◌≡◌, ◌<◌, ℕ, None, drop, take}
+use Rattle.std.proofs.Common.{◌≡◌, [], drop, take}
 use Rattle.gtfs_rows.specs.Source.{AllRecordsText, IsReading, IsSame, left_of}
-use Rattle.gtfs_rows.specs.Faults.{fault_at, length_first}
-use Rattle.gtfs_rows.specs.Tables.{judge_of}
+use Rattle.gtfs_rows.specs.Faults.{first_fault}
+use Rattle.gtfs_rows.specs.Tables.{judge_by}
 use Rattle.gtfs_rows.proofs.reader.add_records.Given as goal
 
 abbrev pub invariant-loop-taken : goal.invariant-loop-taken
@@ -10,8 +10,8 @@ invariant-loop-taken g l = record {
   text : AllRecordsText (left_of l.records);
   left : drop l.taken (left_of l.initial.records) ≡ left_of l.records;
   same : IsSame l.initial.records l.records;
-  good : (j : ℕ) → j < l.taken
-      → fault_at (length_first l.initial.records.width (judge_of g.T.TableRows.TABLE l.initial.records.indices.items)) (left_of l.initial.records) j ≡ None;
+  fault : first_fault (judge_by g.T.TableRows.TABLE l.initial.records) [] (left_of l.initial.records)
+      ≡ first_fault (judge_by g.T.TableRows.TABLE l.initial.records) (take l.taken (left_of l.initial.records)) (left_of l.records);
   held : g.T.TableRows.holds l.initial.records.indices.items (take l.taken (left_of l.initial.records)) l.rows;
   hashes : g.T.TableRows.hashes l.rows ≡ g.T.TableRows.hashes l.initial.rows;
 }

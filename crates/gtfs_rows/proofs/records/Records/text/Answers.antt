@@ -1,7 +1,6 @@
-use Rattle.std.proofs.Common.{None, slice_index_or}
 use Rattle.gtfs_rows.specs.Source.{last_of}
-use Rattle.gtfs_rows.proofs.CellLemmas.{cell_text}
+use Rattle.gtfs_rows.proofs.CellLemmas.{value_text}
 use Rattle.gtfs_rows.proofs.records.Records.text.Goals as goal
 
 pub text_of-requires : goal.text_of-requires
-text_of-requires c = rw c.get.ensures (cell_text (slice_index_or c.args.self.now.indices.items c.args.column None) (last_of c.args.self.now) c.requires)
+text_of-requires c = rw c.get.ensures (value_text c.args.self.now.indices.items c.args.column (last_of c.args.self.now) c.requires)

@@ -1,8 +1,7 @@
 use Rattle.std.proofs.Common.{◌≡◌, map, sym, rules, string_bytes}
 use Rattle.std.specs.Str.{bytes_eq}
-use Rattle.gtfs_rows.specs.Rows.{StandsAt}
-use Rattle.gtfs_rows.proofs.KeyLemmas.{find_passes, stands}
-use Rattle.gtfs_rows.proofs.SeenLemmas.{seen_insert, stands_among}
+use Rattle.gtfs_rows.specs.Ids.{StandsAt}
+use Rattle.gtfs_rows.proofs.KeyLemmas.{find_passes, seen_insert, stands, stands_among}
 use Rattle.service_days.proofs.named.NamedServices.index_of.Goals.{In-Some}
 use Rattle.service_days.proofs.named.NamedServices.index_of.Goals as goal
 
