@@ -92,7 +92,7 @@ fn append_day(text: &mut String, is_first: bool, day: Day) -> Option<()> {
 }
 
 /// A day as the number YYYYMMDD.
-fn number_of(day: Day) -> u32 {
+pub fn number_of(day: Day) -> u32 {
     10_000 * day.year as u32 + 100 * day.month as u32 + day.day as u32
 }
 

@@ -1,7 +1,7 @@
 pub mod Files
 pub mod Hashed
-pub mod Held
 pub mod Memory
 pub mod Outcome
 pub mod Reading
 pub mod Reads
+pub mod Seen

@@ -1,11 +1,16 @@
-//! Opens the files of feeds, and tells whether a folder or a file has changed.
+//! Finds and reads the files of feeds, and sees whether a folder or a file has changed.
 
-ghost use Rattle.std.specs.Prelude.{ℕ, List, Option, Some, IfOk, IsTrue, option_map};
-ghost use Rattle.feed_files.specs.declared.disk.NodeState.{NodeState as Node};
+ghost use Rattle.std.specs.Prelude.{◌≡◌, ℕ, List, Some, IfErr, IfOk, IfSome, option_map, take};
+ghost use Rattle.std.specs.Path.{path_buf_bytes, path_join};
+ghost use Rattle.std_io.specs.IoError.{error_kind};
+ghost use Rattle.std_io.specs.declared.io.kind.ErrorKind.TheVariants.{OutOfMemory};
+ghost use Rattle.feed_files.specs.Seen.{DiskEvent, found as was_found, linked, opened, stayed, unfound, unread};
 
-use std::fs::{File, Metadata, OpenFile};
+use std::alloc::{AllocError, Global};
+use std::fs::{File, Metadata};
 use std::io::{ErrorKind, Read};
 use std::os::unix::fs::MetadataExt;
+use std::path::{Path, PathBuf};
 use std::rt::Files;
 use std::{fs, io};
 
@@ -14,7 +19,7 @@ use std::{fs, io};
 pub struct NodeState {
     device: u64,
     inode: u64,
-    length: u64,
+    pub(crate) length: u64,
     changed: i64,
     changed_nanos: i64,
 }
@@ -39,48 +44,80 @@ pub fn state_at<H: Files>(rt: &H, path: &str) -> Option<NodeState> {
     }
 }
 
-/// A disk that finds and opens files, and tells whether what is at a path has changed.
+/// A disk that finds and reads files, and sees whether what is at a path has changed.
 pub trait OpenDisk {
-    type Opened: OpenFile + Read + Drop;
+    type Opened: Read + Drop;
 
-    // A plain file was found at this path in this state.
-    ghost is_found: { Self → List ℕ → Node → Type 0 } = { λ _ _ _. Unit {0} };
+    // What was seen of the file or the folder at a path.
+    ghost seen: { Self → List ℕ → DiskEvent → Type 0 } = { λ _ _ _. Unit {0} };
 
-    // What was opened where this file was found may hold these bytes; `None` stands for bytes that aren't known.
-    ghost may_hold: { Self → List ℕ → Node → Option (List ℕ) → Type 0 } = { λ _ _ _ _. Unit {0} };
-
-    // After these bytes had been read, or no file had been found, there was still the same at this path, in this state.
-    ghost stayed: { Self → List ℕ → Option Node → Option (List ℕ) → Type 0 } = { λ _ _ _ _. Unit {0} };
+    /// Returns the path of a file in a folder. Memory may run out.
+    fn path_in(&self, alloc: Global, folder: &str, name: &str) -> Result<PathBuf, AllocError>
+        ensures path { IfOk result (λ path. path_buf_bytes path ≡ path_join folder.now name.now) }
+        ensures err { IfErr result (λ error. seen self.now (path_join folder.now name.now) (unfound OutOfMemory)) };
 
     /// Returns the state of the plain file at a path, or at the end of the link there. A folder, a pipe, a socket or a
     /// device is an error; it isn't opened, so nobody waits for it.
     fn find_file(&self, path: &str) -> io::Result<NodeState>
-        ensures { IfOk result (is_found self.now path.now) };
+        ensures ok { IfOk result (λ state. seen self.now path.now (was_found state)) }
+        ensures err { IfErr result (λ error. seen self.now path.now (unfound (error_kind error))) };
+
+    /// Returns whether there is a link at a path.
+    fn is_link(&self, path: &str) -> bool
+        ensures { seen self.now path.now (linked result) };
 
     /// Opens a file that was found, at its first byte.
     fn open_found(&self, path: &str, found: &NodeState) -> io::Result<Self::Opened>
-        requires { is_found self.now path.now found.now }
-        ensures { IfOk result (λ file. may_hold self.now path.now found.now (Self.Opened.remaining file)) };
+        requires { seen self.now path.now (was_found found.now) }
+        ensures ok { IfOk result (λ file. seen self.now path.now (opened found.now (Self.Opened.remaining file))) }
+        ensures err { IfErr result (λ error. seen self.now path.now (unread found.now (error_kind error))) };
+
+    /// Returns the bytes of an opened file, no more than `most` of them.
+    fn read_opened(
+        &self,
+        alloc: Global,
+        path: &str,
+        found: &NodeState,
+        file: Self::Opened,
+        most: u64,
+    ) -> io::Result<Vec<u8>>
+        ensures ok { IfOk result (λ bytes. IfSome (Self.Opened.remaining file) (λ held. bytes.items ≡ take most held)) }
+        ensures err { IfErr result (λ error. seen self.now path.now (unread found.now (error_kind error))) };
 
     /// Returns whether a file is still as it was found, now that these bytes of it have been read.
     fn file_stayed(&self, path: &str, found: &NodeState, bytes: &[u8]) -> bool
-        ensures { IsTrue result → stayed self.now path.now (Some found.now) (Some bytes.now) };
+        ensures { seen self.now path.now (stayed (Some found.now) (Some bytes.now) result) };
 
     /// Returns whether a folder is still in the given state, now that a file of it has been read, or wasn't there.
     fn folder_stayed(&self, folder: &str, state: &Option<NodeState>, file: &Option<Vec<u8>>) -> bool
-        ensures { IsTrue result
-            → stayed self.now folder.now state.now (option_map (λ bytes. bytes.items) file.now) };
+        ensures { seen self.now folder.now
+            (stayed state.now (option_map (λ bytes. bytes.items) file.now) result) };
+}
+
+// Returns the bytes of a file, no more than `most` of them. Room is made at once for the length that the file reports;
+// a file that reports less than it has, such as those of `/proc`, is read all the same.
+fn first_bytes<F: Read + Drop>(
+    alloc: Global,
+    file: F,
+    reported: u64,
+    most: u64,
+) -> io::Result<Vec<u8>>
+    ensures { IfOk result (λ bytes. IfSome (F.remaining file) (λ held. bytes.items ≡ take most held)) }
+{
+    let mut bytes = Vec::with_capacity(alloc, reported.saturating_add(1) as usize)?;
+    file.take(most).read_to_end(&mut bytes)?;
+    Ok(bytes)
 }
 
 impl<H: Files> OpenDisk for H {
     type Opened = H::File;
 
     // nothing is known about the files of a machine
-    ghost is_found = { λ _ _ _. Unit {0} };
+    ghost seen = { λ _ _ _. Unit {0} };
 
-    ghost may_hold = { λ _ _ _ _. Unit {0} };
-
-    ghost stayed = { λ _ _ _ _. Unit {0} };
+    fn path_in(&self, alloc: Global, folder: &str, name: &str) -> Result<PathBuf, AllocError> {
+        Path::new(folder).join(alloc, name)
+    }
 
     fn find_file(&self, path: &str) -> io::Result<NodeState> {
         let metadata = fs::metadata(self, path)?;
@@ -90,8 +127,23 @@ impl<H: Files> OpenDisk for H {
         Ok(NodeState::of(&metadata))
     }
 
+    fn is_link(&self, path: &str) -> bool {
+        Path::new(path).is_symlink(self)
+    }
+
     fn open_found(&self, path: &str, _found: &NodeState) -> io::Result<H::File> {
         File::open(self, path)
+    }
+
+    fn read_opened(
+        &self,
+        alloc: Global,
+        _path: &str,
+        found: &NodeState,
+        file: H::File,
+        most: u64,
+    ) -> io::Result<Vec<u8>> {
+        first_bytes(alloc, file, found.length, most)
     }
 
     fn file_stayed(&self, path: &str, found: &NodeState, _bytes: &[u8]) -> bool {

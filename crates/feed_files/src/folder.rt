@@ -1,13 +1,11 @@
 //! The files of a folder.
 
-ghost use Rattle.std.specs.Prelude.{◌≡◌, ◌≤◌, ◌↔◌, ◌⊎◌, ◌∷◌, [], length, None, Some, All, IfErr, IfOk, IfSome, IsNone};
-ghost use Rattle.std.specs.Prelude.{IsOk, IsTrue, List, Option, ℕ, option_map};
-ghost use Rattle.std.specs.Path.{path_join};
-ghost use Rattle.std_io.specs.declared.io.kind.ErrorKind.TheVariants.{NotADirectory, NotFound, OutOfMemory};
+ghost use Rattle.std.specs.Prelude.{◌≡◌, ◌≤◌, ◌∷◌, [], length, None, Some, All, IfErr, IfOk, IfSome, IsNone};
+ghost use Rattle.std.specs.Prelude.{List, Option, ℕ};
 ghost use Rattle.feed_files.specs.Files.{FileAnswer, MayBeRead, MayFail, one_more, opened};
-ghost use Rattle.feed_files.specs.Held.{IsHeldAt};
+ghost use Rattle.feed_files.specs.Seen.{IsAnswerIn, IsFaultAt, IsFaultOfFound, IsFaultOfKind, IsFileAt, IsHeldAt};
+ghost use Rattle.feed_files.specs.Seen.{IsMissingAt, IsSearchFault, found as was_found, opened as was_opened, unfound};
 ghost use Rattle.feed_files.specs.declared.disk.NodeState.{NodeState as Node};
-ghost use Rattle.feed_files.specs.declared.files.FileFault.TheVariants.{OutOfMemory as WasOutOfMemory};
 ghost use Rattle.feed_files.specs.declared.files.TheConstants.{LONGEST_FILE};
 
 use crate::disk::{NodeState, OpenDisk, state_at};
@@ -16,9 +14,7 @@ use crate::files::{FeedFiles, FileFault, LONGEST_FILE};
 use crate::reads::FileReads;
 use gtfs_tables::IdHash;
 use std::alloc::Global;
-use std::fs::OpenFile;
-use std::io::{ErrorKind, Read};
-use std::path::Path;
+use std::io::ErrorKind;
 use std::random::RandomSource;
 use std::rt::Files;
 
@@ -57,11 +53,11 @@ pub trait Disk {
     fn id_hash(&self) -> IdHash;
 }
 
-impl<H: Files + RandomSource> Disk for H {
-    // nothing more is known of a machine's files
-    ghost gives = { λ _ _ _ answer. IfOk answer (λ file. IfSome file (λ bytes. length bytes.items ≤ LONGEST_FILE)) };
+impl<H: Files + RandomSource + OpenDisk<Opened = H::File>> Disk for H {
+    ghost gives = { λ disk folder name answer.
+        (state : _) × IsAnswerIn (H.seen disk) LONGEST_FILE folder state name answer };
 
-    ghost gives_in = { λ _ _ _ _ _. Unit {0} };
+    ghost gives_in = { λ disk. IsAnswerIn (H.seen disk) LONGEST_FILE };
 
     fn folder_state(&self, folder: &str) -> Option<NodeState> {
         state_at(self, folder)
@@ -124,16 +120,9 @@ impl<'a, H: Disk> FolderFiles<'a, H> {
     }
 }
 
-// Returns whether an error of opening a file means that there is no such file.
-fn is_no_file(kind: ErrorKind) -> bool
-    ensures { IsTrue result ↔ ((kind ≡ NotFound) ⊎ (kind ≡ NotADirectory)) }
-{
-    kind == ErrorKind::NotFound || kind == ErrorKind::NotADirectory
-}
-
-// Returns why a file can't be opened or read, by the kind of the error.
+// Returns why a file can't be found, opened or read, by the kind of the error.
 fn fault_of(kind: ErrorKind) -> FileFault
-    ensures memory { result ≡ WasOutOfMemory ↔ (kind ≡ OutOfMemory) }
+    ensures { IsFaultOfKind kind result }
 {
     if kind == ErrorKind::OutOfMemory {
         return FileFault::OutOfMemory;
@@ -141,43 +130,52 @@ fn fault_of(kind: ErrorKind) -> FileFault
     FileFault::Failed
 }
 
-// Returns all bytes of an open file, or `Failed` if there are more than `limit`. Room is made at once for the length
-// that the file reports; a file that reports less than it has, such as those of `/proc`, is read all the same.
-fn bytes_up_to<F: OpenFile + Read + Drop>(
-    limit: u32,
-    alloc: Global,
-    file: F,
-) -> Result<Vec<u8>, FileFault>
-    ensures short { IfOk result (λ bytes. length bytes.items ≤ limit) }
-    ensures whole { IfOk result (λ bytes. IfSome (F.remaining file) (λ held. bytes.items ≡ held)) }
+// Returns none if the error of a search means that there is no such file, or else why it can't be read.
+fn none_or_fault<D: OpenDisk>(
+    disk: &D,
+    path: &str,
+    kind: ErrorKind,
+) -> Result<Option<Vec<u8>>, FileFault>
+    requires { D.seen disk.now path.now (unfound kind) }
+    ensures ok { IfOk result (λ file. IsNone file × IsMissingAt (D.seen disk.now) path.now) }
+    ensures err { IfErr result (IsSearchFault (D.seen disk.now) path.now) }
 {
-    let size = match file.metadata() {
-        Ok(metadata) => metadata.len(),
-        Err(error) => return Err(fault_of(error.kind())),
-    };
-    if size > limit as u64 {
+    if kind != ErrorKind::NotFound && kind != ErrorKind::NotADirectory {
+        return Err(fault_of(kind));
+    }
+    if disk.is_link(path) {
+        // a link with this name leads nowhere
         return Err(FileFault::Failed);
     }
-    let Ok(mut bytes) = Vec::with_capacity(alloc, size as usize + 1) else {
-        return Err(FileFault::OutOfMemory);
+    Ok(None)
+}
+
+// Returns all bytes of a file that was found, or `Failed` if there are more than `limit`.
+fn bytes_up_to<D: OpenDisk>(
+    limit: u32,
+    disk: &D,
+    alloc: Global,
+    path: &str,
+    found: &NodeState,
+) -> Result<Vec<u8>, FileFault>
+    requires { D.seen disk.now path.now (was_found found.now) }
+    ensures short { IfOk result (λ bytes. length bytes.items ≤ limit) }
+    ensures whole { IfOk result (λ bytes. (held : _) × (D.seen disk.now path.now (was_opened found.now held)
+        × IfSome held (λ whole. bytes.items ≡ whole))) }
+    ensures err { IfErr result (IsFaultOfFound (D.seen disk.now) limit path.now found.now) }
+{
+    if found.length > limit as u64 {
+        return Err(FileFault::Failed);
+    }
+    let file = match disk.open_found(path, found) {
+        Ok(file) => file,
+        Err(error) => return Err(fault_of(error.kind())),
     };
-    match file.take(limit as u64 + 1).read_to_end(&mut bytes) {
-        Ok(_) if bytes.len() as u64 <= limit as u64 => Ok(bytes),
+    match disk.read_opened(alloc, path, found, file, limit as u64 + 1) {
+        Ok(bytes) if bytes.len() as u64 <= limit as u64 => Ok(bytes),
         Ok(_) => Err(FileFault::Failed),
         Err(error) => Err(fault_of(error.kind())),
     }
-}
-
-// Returns none if an error of opening a file means that there is no such file, or else why it can't be read.
-fn none_or_fault(kind: ErrorKind) -> Result<Option<Vec<u8>>, FileFault>
-    ensures none { IsOk result ↔ ((kind ≡ NotFound) ⊎ (kind ≡ NotADirectory)) }
-    ensures empty { IfOk result (λ file. IsNone file) }
-    ensures memory { IfErr result (λ fault. fault ≡ WasOutOfMemory ↔ (kind ≡ OutOfMemory)) }
-{
-    if is_no_file(kind) {
-        return Ok(None);
-    }
-    Err(fault_of(kind))
 }
 
 // Returns all bytes of a file that was found, or `Failed` if there are more than `limit` or the file changed while it
@@ -189,42 +187,35 @@ fn found_bytes<D: OpenDisk>(
     path: &str,
     found: &NodeState,
 ) -> Result<Vec<u8>, FileFault>
-    requires { D.is_found disk.now path.now found.now }
+    requires { D.seen disk.now path.now (was_found found.now) }
     ensures short { IfOk result (λ bytes. length bytes.items ≤ limit) }
-    ensures held { IfOk result (λ bytes. IsHeldAt (D.may_hold disk.now) (D.stayed disk.now) path.now bytes.items) }
+    ensures held { IfOk result (λ bytes. IsHeldAt (D.seen disk.now) path.now bytes.items) }
+    ensures err { IfErr result (IsFaultOfFound (D.seen disk.now) limit path.now found.now) }
 {
-    let bytes = match disk.open_found(path, found) {
-        Ok(file) => bytes_up_to(limit, alloc, file)?,
-        Err(error) => return Err(fault_of(error.kind())),
-    };
-    if disk.file_stayed(path, found, &bytes) {
-        Ok(bytes)
-    } else {
-        Err(FileFault::Failed)
+    match bytes_up_to(limit, disk, alloc, path, found) {
+        Ok(bytes) if disk.file_stayed(path, found, &bytes) => Ok(bytes),
+        Ok(_) => Err(FileFault::Failed),
+        Err(fault) => Err(fault),
     }
 }
 
 // Returns the bytes of the file at a path, or none if there is no such file.
-fn file_at<H: Files + OpenDisk<Opened = H::File>>(
+fn file_at<D: OpenDisk>(
     limit: u32,
-    rt: &H,
+    disk: &D,
     alloc: Global,
     path: &str,
 ) -> Result<Option<Vec<u8>>, FileFault>
     ensures short { IfOk result (λ file. IfSome file (λ bytes. length bytes.items ≤ limit)) }
-    ensures held { IfOk result (λ file. IfSome file
-        (λ bytes. IsHeldAt (H.may_hold rt.now) (H.stayed rt.now) path.now bytes.items)) }
+    ensures file { IfOk result (IsFileAt (D.seen disk.now) path.now) }
+    ensures err { IfErr result (IsFaultAt (D.seen disk.now) limit path.now) }
 {
-    match rt.find_file(path) {
-        Ok(found) => match found_bytes(limit, rt, alloc, path, &found) {
+    match disk.find_file(path) {
+        Ok(found) => match found_bytes(limit, disk, alloc, path, &found) {
             Ok(bytes) => Ok(Some(bytes)),
             Err(fault) => Err(fault),
         },
-        // a link with this name leads nowhere
-        Err(error) if is_no_file(error.kind()) && Path::new(path).is_symlink(rt) => {
-            Err(FileFault::Failed)
-        }
-        Err(error) => none_or_fault(error.kind()),
+        Err(error) => none_or_fault(disk, path, error.kind()),
     }
 }
 
@@ -237,28 +228,23 @@ fn file_at<H: Files + OpenDisk<Opened = H::File>>(
 /// `Failed` if the file is longer than `limit`, can't be read, isn't a plain file, or is a link that leads nowhere, and
 /// if the folder is no longer in the given state or the file changed while it was read; `OutOfMemory` if memory ran
 /// out.
-pub fn file_up_to<H: Files + OpenDisk<Opened = H::File>>(
+pub fn file_up_to<D: OpenDisk>(
     limit: u32,
-    rt: &H,
+    disk: &D,
     alloc: Global,
     folder: &str,
     state: &Option<NodeState>,
     name: &str,
 ) -> Result<Option<Vec<u8>>, FileFault>
-    ensures short { IfOk result (λ file. IfSome file (λ bytes. length bytes.items ≤ limit)) }
-    ensures held { IfOk result (λ file. IfSome file (λ bytes. IsHeldAt (H.may_hold rt.now) (H.stayed rt.now)
-        (path_join folder.now name.now) bytes.items)) }
-    ensures stayed { IfOk result (λ file. H.stayed rt.now folder.now state.now
-        (option_map (λ bytes. bytes.items) file)) }
+    ensures { IsAnswerIn (D.seen disk.now) limit folder.now state.now name.now result }
 {
-    let Ok(path) = Path::new(folder).join(alloc, name) else {
+    let Ok(path) = disk.path_in(alloc, folder, name) else {
         return Err(FileFault::OutOfMemory);
     };
-    let file = file_at(limit, rt, alloc, path.as_str())?;
-    if rt.folder_stayed(folder, state, &file) {
-        Ok(file)
-    } else {
-        Err(FileFault::Failed)
+    match file_at(limit, disk, alloc, path.as_str()) {
+        Ok(file) if disk.folder_stayed(folder, state, &file) => Ok(file),
+        Ok(_) => Err(FileFault::Failed),
+        Err(fault) => Err(fault),
     }
 }
 

@@ -54,6 +54,7 @@ holds built.csa
 run build base_feed built.csa --first 99991231 --days 2 --zone fixed:0
 tells csa: --first, --days: a day is outside the years 1 to 9999 or has no noon in the zone, the clock can't be read, \
 or a trip has a time that no image can have
+tells csa: the first such day is 99991231
 answers refused 22 DayOutOfRange
 holds built.csa
 run build base_feed no_such_folder/built.csa --first 20240115 --days 1 --zone fixed:0
