@@ -1,6 +1,7 @@
 mod Answering
 mod Joins
 mod Merges
+mod Names
 mod Repeats
 mod Runs
 mod SetLemmas

@@ -1,6 +1,6 @@
 -- The rows of a table of travel times.
-use Rattle.std.specs.Prelude.{◌≡◌, ◌⊎◌, ◌<◌, ◌≤◌, ℕ, Bool, true, false, List, [], ◌∷◌, ◌++◌, Contains, Option, None, Some, map}
-use Rattle.std.specs.Global.{Vec}
+use Rattle.std.specs.Prelude.{◌≡◌, ◌⊎◌, ◌<◌, ◌≤◌, ℕ, Bool, true, false, List, [], ◌∷◌, ◌++◌, Contains, Option, None, Some, String, map, string_bytes}
+use Rattle.std.specs.Global.{Global, Vec}
 use Rattle.std.specs.Io.KnownBytes.{Appends}
 use Rattle.std.specs.List.{AllZip, flat_map}
 use Rattle.csv.specs.Writing.{default_writer, row_text}
@@ -75,6 +75,10 @@ tabbed (text ∷ texts) = text ++ flat_map (λ other. 9 ∷ other) texts
 -- the stop_ids of a set
 abbrev pub set_bytes : NamesValue → List ℕ → List ℕ
 set_bytes names stops = tabbed (map (stop_bytes names) stops)
+
+-- each of some texts is what the set at its index is called
+abbrev pub AreNamed : NamesValue → List (Vec ℕ) → List (String Global) → Type 0
+AreNamed names sets texts = map string_bytes texts ≡ map (λ set. set_bytes names set.items) sets
 
 -- the row of a pair of sets: the figures of the answer between them, and the mean wait for a departure of the answer that lets one leave as late as one
 -- arrives

@@ -1,6 +1,7 @@
 //! The best departures from a set of stops.
 
 ghost use Rattle.std.specs.Prelude.{◌≡◌, ◌<◌, ◌∷◌, [], ℕ, Contains, IfOk, MatchBool, OnOk};
+ghost use Rattle.std.specs.Cow.{cow_slice_items};
 ghost use Rattle.criteria.specs.Laws.{Admits};
 ghost use Rattle.bags.specs.Bag.{criterion_of, points_of};
 ghost use Rattle.profile_scan.specs.SetQuery.{IsAnswerBetween, IsAskableBetween};
@@ -13,36 +14,29 @@ use criteria::Criterion;
 use image_verifier::Verified;
 use profile_scan::{ProfilesToAny, in_order};
 use std::alloc::{AllocError, Global};
+use std::borrow::CowSlice;
 
-/// The best departures from any of some stops, in order: those of each, without the ones that another dominates.
-pub(crate) fn best_points<C: Criterion>(
+/// The best departures from any of some stops, in order: those of each, without the ones that another dominates. Those
+/// of one stop are where they were found.
+pub(crate) fn best_points<'p, C: Criterion>(
     alloc: Global,
     image: &Verified,
     criterion: &C,
-    profiles: &ProfilesToAny<C>,
+    profiles: &'p ProfilesToAny<C>,
     stops: &[u32],
-) -> Result<Vec<Point<C::V>>, AllocError>
+) -> Result<CowSlice<'p, Point<C::V>, Global>, AllocError>
     requires same { criterion_to_any profiles.now ≡ criterion.now }
     requires answered { AnswerToAny C.rules image.now.timetable profiles.now }
     requires asked { IsAskableBetween image.now.timetable.stops (asked_to_any profiles.now) }
     requires within { (stop : ℕ) → Contains stops.now stop → stop < image.now.timetable.stops }
     ensures { IfOk result (λ points. IsAnswerBetween (C.rules criterion.now) image.now.timetable
-        (from_stops (asked_to_any profiles.now) stops.now) points.items) }
+        (from_stops (asked_to_any profiles.now) stops.now) (cow_slice_items points)) }
 {
     if stops.len() == 1 {
-        return copy_of(alloc, profiles.points(stops[0]));
+        return Ok(CowSlice::Borrowed(profiles.points(stops[0])));
     }
-    merged_points(alloc, image, criterion, profiles, stops)
-}
-
-fn copy_of<V: Copy>(alloc: Global, points: &[Point<V>]) -> Result<Vec<Point<V>>, AllocError>
-    ensures { IfOk result (λ copy. copy.items ≡ points.now) }
-{
-    let mut copy = Vec::with_capacity(alloc, points.len())?;
-    for point in points {
-        copy.push(*point)?;
-    }
-    Ok(copy)
+    let merged = merged_points(alloc, image, criterion, profiles, stops)?;
+    Ok(CowSlice::Owned(merged))
 }
 
 // The best departures from any of some stops, by a bag that takes in those of each.

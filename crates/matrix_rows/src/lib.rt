@@ -5,6 +5,7 @@
 mod best;
 mod listed_names;
 mod lists;
+mod named_table;
 mod repeated;
 mod set_names;
 mod table;

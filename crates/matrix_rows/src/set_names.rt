@@ -2,7 +2,7 @@
 
 ghost use Rattle.std.specs.Prelude.{◌≡◌, ◌++◌, IfOk, OnOk, string_bytes};
 ghost use Rattle.matrix_rows.specs.Joining.{tab_before};
-ghost use Rattle.matrix_rows.specs.Tables.{set_bytes};
+ghost use Rattle.matrix_rows.specs.Tables.{AreNamed, set_bytes};
 
 use answer_pictures::stop_name;
 use image_verifier::Verified;
@@ -16,6 +16,21 @@ pub(crate) fn set_name(alloc: Global, image: &Verified, stops: &[u32]) -> Result
     for index in 0..stops.len() {
         let name = stop_name(alloc, image, stops[index])?;
         put_name(&mut names, index, name.as_str())?;
+    }
+    Ok(names)
+}
+
+/// What each of some sets is called.
+pub(crate) fn set_names(
+    alloc: Global,
+    image: &Verified,
+    sets: &[Vec<u32>],
+) -> Result<Vec<String>, AllocError>
+    ensures { IfOk result (λ names. AreNamed image.now.names sets.now names.items) }
+{
+    let mut names = Vec::with_capacity(alloc, sets.len())?;
+    for set in sets {
+        names.push(set_name(alloc, image, set)?)?;
     }
     Ok(names)
 }

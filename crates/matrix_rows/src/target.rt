@@ -13,6 +13,7 @@ ghost use Rattle.matrix_rows.specs.Tables.{destination, from_stops, mean_in, poi
 ghost use Rattle.matrix_rows.specs.Tables.{waiting};
 
 use crate::best::{best_points, least_walk, meet};
+use crate::named_table::NamedTable;
 use crate::set_names::set_name;
 use crate::table::TravelTable;
 use bags::Point;
@@ -26,13 +27,13 @@ use travel_times::{Pair, Rows, Span, mean_wait, put_pair, put_point};
 /// nothing if one of the sources is a target. The only error is that memory runs out.
 pub fn rows_to(
     alloc: Global,
-    table: &TravelTable<'_>,
+    table: &NamedTable<'_>,
     targets: &[u32],
 ) -> Result<Vec<u8>, AllocError>
-    requires { CanBeMade table.now targets.now }
-    ensures { IfOk result (λ text. AreRowsBy table.now.criterion table.now targets.now text.items) }
+    requires { CanBeMade table.now.plain targets.now }
+    ensures { IfOk result (λ text. AreRowsBy table.now.plain.criterion table.now.plain targets.now text.items) }
 {
-    match table.criterion {
+    match table.plain.criterion {
         CriterionName::Arrival => rows_by(alloc, table, &Arrival, targets),
         CriterionName::ArrivalTrips => rows_by(alloc, table, &ArrivalTrips, targets),
         CriterionName::ArrivalTripsWalk => rows_by(alloc, table, &ArrivalTripsWalk, targets),
@@ -42,15 +43,15 @@ pub fn rows_to(
 // The same by a criterion.
 fn rows_by<C: ShowsFigures>(
     alloc: Global,
-    table: &TravelTable<'_>,
+    table: &NamedTable<'_>,
     criterion: &C,
     targets: &[u32],
 ) -> Result<Vec<u8>, AllocError>
-    requires { CanBeMade table.now targets.now }
-    ensures { IfOk result (λ text. AreRowsTo C.figures (C.rules criterion.now) table.now.each table.now.image.now
-        (destination table.now targets.now) table.now.sources.now text.items) }
+    requires { CanBeMade table.now.plain targets.now }
+    ensures { IfOk result (λ text. AreRowsTo C.figures (C.rules criterion.now) table.now.plain.each
+        table.now.plain.image.now (destination table.now.plain targets.now) table.now.plain.sources.now text.items) }
 {
-    if table.each {
+    if table.plain.each {
         return point_rows(alloc, table, criterion, targets);
     }
     pair_rows(alloc, table, criterion, targets)
@@ -59,15 +60,15 @@ fn rows_by<C: ShowsFigures>(
 // The row of each pair.
 fn pair_rows<C: ShowsFigures>(
     alloc: Global,
-    table: &TravelTable<'_>,
+    table: &NamedTable<'_>,
     criterion: &C,
     targets: &[u32],
 ) -> Result<Vec<u8>, AllocError>
-    requires { CanBeMade table.now targets.now }
-    ensures { IfOk result (λ text. AreRowsTo C.figures (C.rules criterion.now) false table.now.image.now
-        (destination table.now targets.now) table.now.sources.now text.items) }
+    requires { CanBeMade table.now.plain targets.now }
+    ensures { IfOk result (λ text. AreRowsTo C.figures (C.rules criterion.now) false table.now.plain.image.now
+        (destination table.now.plain targets.now) table.now.plain.sources.now text.items) }
 {
-    if table.until == table.by {
+    if table.plain.until == table.plain.by {
         return pair_rows_of_one_scan(alloc, table, criterion, targets);
     }
     pair_rows_of_two_scans(alloc, table, criterion, targets)
@@ -76,36 +77,36 @@ fn pair_rows<C: ShowsFigures>(
 // The row of each pair, where one may leave as late as one arrives: the answers are also those for the means.
 fn pair_rows_of_one_scan<C: ShowsFigures>(
     alloc: Global,
-    table: &TravelTable<'_>,
+    table: &NamedTable<'_>,
     criterion: &C,
     targets: &[u32],
 ) -> Result<Vec<u8>, AllocError>
-    requires can { CanBeMade table.now targets.now }
-    requires same { table.now.until ≡ table.now.by }
-    ensures { IfOk result (λ text. AreRowsTo C.figures (C.rules criterion.now) false table.now.image.now
-        (destination table.now targets.now) table.now.sources.now text.items) }
+    requires can { CanBeMade table.now.plain targets.now }
+    requires same { table.now.plain.until ≡ table.now.plain.by }
+    ensures { IfOk result (λ text. AreRowsTo C.figures (C.rules criterion.now) false table.now.plain.image.now
+        (destination table.now.plain targets.now) table.now.plain.sources.now text.items) }
 {
-    let destinations = table.destination(alloc, targets)?;
-    let profiles = answers(alloc, table, criterion, &destinations)?;
-    let means = means_of(alloc, table, criterion, &profiles)?;
+    let destinations = table.plain.destination(alloc, targets)?;
+    let profiles = answers(alloc, &table.plain, criterion, &destinations)?;
+    let means = means_of(alloc, &table.plain, criterion, &profiles)?;
     pair_rows_of(alloc, table, criterion, &profiles, &means)
 }
 
 // The row of each pair, with a scan of its own for the means.
 fn pair_rows_of_two_scans<C: ShowsFigures>(
     alloc: Global,
-    table: &TravelTable<'_>,
+    table: &NamedTable<'_>,
     criterion: &C,
     targets: &[u32],
 ) -> Result<Vec<u8>, AllocError>
-    requires { CanBeMade table.now targets.now }
-    ensures { IfOk result (λ text. AreRowsTo C.figures (C.rules criterion.now) false table.now.image.now
-        (destination table.now targets.now) table.now.sources.now text.items) }
+    requires { CanBeMade table.now.plain targets.now }
+    ensures { IfOk result (λ text. AreRowsTo C.figures (C.rules criterion.now) false table.now.plain.image.now
+        (destination table.now.plain targets.now) table.now.plain.sources.now text.items) }
 {
-    let waiting = table.waiting(alloc, targets)?;
-    let means = means_to(alloc, table, criterion, &waiting)?;
-    let destinations = table.destination(alloc, targets)?;
-    let profiles = answers(alloc, table, criterion, &destinations)?;
+    let waiting = table.plain.waiting(alloc, targets)?;
+    let means = means_to(alloc, &table.plain, criterion, &waiting)?;
+    let destinations = table.plain.destination(alloc, targets)?;
+    let profiles = answers(alloc, &table.plain, criterion, &destinations)?;
     pair_rows_of(alloc, table, criterion, &profiles, &means)
 }
 
@@ -158,19 +159,22 @@ fn means_of<C: ShowsFigures>(
         (asked_to_any profiles.now) table.now.after table.now.until) table.now.sources.now means.items) }
 {
     let mut means = Vec::with_capacity(alloc, table.sources.len())?;
+    let mut spans = Vec::new(alloc);
     for sources in table.sources {
-        means.push(mean_of(alloc, table, criterion, profiles, sources)?)?;
+        let mean = mean_of(alloc, table, criterion, profiles, sources, &mut spans)?;
+        means.push(mean)?;
     }
     Ok(means)
 }
 
-// The mean wait from a set of sources.
+// The mean wait from a set of sources. What is in `spans` is written over, here and below.
 fn mean_of<C: ShowsFigures>(
     alloc: Global,
     table: &TravelTable<'_>,
     criterion: &C,
     profiles: &ProfilesToAny<C>,
     sources: &[u32],
+    spans: &mut Vec<Span>,
 ) -> Result<Option<u64>, AllocError>
     requires same { criterion_to_any profiles.now ≡ criterion.now }
     requires answered { AnswerToAny C.rules table.now.image.now.timetable profiles.now }
@@ -181,23 +185,23 @@ fn mean_of<C: ShowsFigures>(
         (from_stops (asked_to_any profiles.now) sources.now) table.now.after table.now.until) }
 {
     let points = best_points(alloc, table.image, criterion, profiles, sources)?;
-    let spans = spans_of(alloc, criterion, &points)?;
-    Ok(mean_wait(&spans, table.after, table.until))
+    put_spans(spans, criterion, points.as_slice())?;
+    Ok(mean_wait(spans, table.after, table.until))
 }
 
-// The departures of points, with their arrivals.
-fn spans_of<C: ShowsFigures>(
-    alloc: Global,
+// Puts the departures of points, with their arrivals, in place of others.
+fn put_spans<C: ShowsFigures>(
+    spans: &mut Vec<Span>,
     criterion: &C,
     points: &[Point<C::V>],
-) -> Result<Vec<Span>, AllocError>
-    ensures { IfOk result (λ spans. spans.items ≡ spans_of C.figures points.now) }
+) -> Result<(), AllocError>
+    ensures { OnOk result (spans.new.items ≡ spans_of C.figures points.now) }
 {
-    let mut spans = Vec::with_capacity(alloc, points.len())?;
+    spans.clear();
     for point in points {
         spans.push(span_of(criterion, point))?;
     }
-    Ok(spans)
+    Ok(())
 }
 
 fn span_of<C: ShowsFigures>(criterion: &C, point: &Point<C::V>) -> Span
@@ -224,33 +228,36 @@ struct Answered<'a, C: ShowsFigures> {
 // The row of each pair, with these means.
 fn pair_rows_of<C: ShowsFigures>(
     alloc: Global,
-    table: &TravelTable<'_>,
+    table: &NamedTable<'_>,
     criterion: &C,
     profiles: &ProfilesToAny<C>,
     means: &[Option<u64>],
 ) -> Result<Vec<u8>, AllocError>
     requires same { criterion_to_any profiles.now ≡ criterion.now }
-    requires answered { AnswerToAny C.rules table.now.image.now.timetable profiles.now }
-    requires asked { IsAskableBetween table.now.image.now.timetable.stops (asked_to_any profiles.now) }
-    requires sources { AreWithin table.now.image.now table.now.sources.now }
-    requires means { AllZip (IsMeanFrom C.figures (C.rules criterion.now) table.now.image.now
+    requires answered { AnswerToAny C.rules table.now.plain.image.now.timetable profiles.now }
+    requires asked { IsAskableBetween table.now.plain.image.now.timetable.stops (asked_to_any profiles.now) }
+    requires sources { AreWithin table.now.plain.image.now table.now.plain.sources.now }
+    requires means { AllZip (IsMeanFrom C.figures (C.rules criterion.now) table.now.plain.image.now
         (waiting (asked_to_any profiles.now)) (asked_to_any profiles.now).from (asked_to_any profiles.now).until)
-        table.now.sources.now means.now }
-    ensures { IfOk result (λ text. AreRowsTo C.figures (C.rules criterion.now) false table.now.image.now
-        (asked_to_any profiles.now) table.now.sources.now text.items) }
+        table.now.plain.sources.now means.now }
+    ensures { IfOk result (λ text. AreRowsTo C.figures (C.rules criterion.now) false table.now.plain.image.now
+        (asked_to_any profiles.now) table.now.plain.sources.now text.items) }
 {
-    let to = set_name(alloc, table.image, profiles.targets())?;
+    let to = set_name(alloc, table.plain.image, profiles.targets())?;
     let answered = Answered {
         alloc,
-        image: table.image,
+        image: table.plain.image,
         criterion,
         profiles,
         to: to.as_str(),
     };
     let mut rows = Rows::new(alloc);
-    for list_index in 0..table.sources.len() {
+    let mut spans = Vec::new(alloc);
+    for list_index in 0..table.plain.sources.len() {
+        let from = table.names[list_index].as_str();
         let mean = mean_at(means, list_index);
-        put_pair_from(&mut rows, &answered, &table.sources[list_index], mean)?;
+        let sources = &table.plain.sources[list_index];
+        put_pair_from(&mut rows, &answered, sources, from, mean, &mut spans)?;
     }
     rows.into_text()
 }
@@ -269,9 +276,12 @@ fn put_pair_from<C: ShowsFigures>(
     rows: &mut Rows,
     answered: &Answered<'_, C>,
     sources: &[u32],
+    from: &str,
     mean: Option<u64>,
+    spans: &mut Vec<Span>,
 ) -> Result<(), AllocError>
     requires whole { AreWhole rows.old }
+    requires from { from.now ≡ set_bytes answered.now.image.now.names sources.now }
     requires sources { (stop : ℕ) → Contains sources.now stop → stop < answered.now.image.now.timetable.stops }
     requires same { criterion_to_any answered.now.profiles.now ≡ answered.now.criterion.now }
     requires answered { AnswerToAny C.rules answered.now.image.now.timetable answered.now.profiles.now }
@@ -291,7 +301,6 @@ fn put_pair_from<C: ShowsFigures>(
     if meet(sources, answered.profiles.targets()) {
         return Ok(());
     }
-    let from = set_name(answered.alloc, answered.image, sources)?;
     let points = best_points(
         answered.alloc,
         answered.image,
@@ -299,58 +308,59 @@ fn put_pair_from<C: ShowsFigures>(
         answered.profiles,
         sources,
     )?;
-    let spans = spans_of(answered.alloc, answered.criterion, &points)?;
+    put_spans(spans, answered.criterion, points.as_slice())?;
     let pair = Pair {
-        from: from.as_str(),
+        from,
         to: answered.to,
-        spans: &spans,
+        spans,
         mean,
         walk: least_walk(answered.image, answered.profiles, sources),
     };
-    put_pair(rows, answered.alloc, &pair)
+    put_pair(rows, &pair)
 }
 
 // The row of each departure.
 fn point_rows<C: ShowsFigures>(
     alloc: Global,
-    table: &TravelTable<'_>,
+    table: &NamedTable<'_>,
     criterion: &C,
     targets: &[u32],
 ) -> Result<Vec<u8>, AllocError>
-    requires { CanBeMade table.now targets.now }
-    ensures { IfOk result (λ text. AreRowsTo C.figures (C.rules criterion.now) true table.now.image.now
-        (destination table.now targets.now) table.now.sources.now text.items) }
+    requires { CanBeMade table.now.plain targets.now }
+    ensures { IfOk result (λ text. AreRowsTo C.figures (C.rules criterion.now) true table.now.plain.image.now
+        (destination table.now.plain targets.now) table.now.plain.sources.now text.items) }
 {
-    let destinations = table.destination(alloc, targets)?;
-    let profiles = answers(alloc, table, criterion, &destinations)?;
+    let destinations = table.plain.destination(alloc, targets)?;
+    let profiles = answers(alloc, &table.plain, criterion, &destinations)?;
     point_rows_of(alloc, table, criterion, &profiles)
 }
 
 // The row of each departure, with these answers.
 fn point_rows_of<C: ShowsFigures>(
     alloc: Global,
-    table: &TravelTable<'_>,
+    table: &NamedTable<'_>,
     criterion: &C,
     profiles: &ProfilesToAny<C>,
 ) -> Result<Vec<u8>, AllocError>
     requires same { criterion_to_any profiles.now ≡ criterion.now }
-    requires answered { AnswerToAny C.rules table.now.image.now.timetable profiles.now }
-    requires asked { IsAskableBetween table.now.image.now.timetable.stops (asked_to_any profiles.now) }
-    requires sources { AreWithin table.now.image.now table.now.sources.now }
-    ensures { IfOk result (λ text. AreRowsTo C.figures (C.rules criterion.now) true table.now.image.now
-        (asked_to_any profiles.now) table.now.sources.now text.items) }
+    requires answered { AnswerToAny C.rules table.now.plain.image.now.timetable profiles.now }
+    requires asked { IsAskableBetween table.now.plain.image.now.timetable.stops (asked_to_any profiles.now) }
+    requires sources { AreWithin table.now.plain.image.now table.now.plain.sources.now }
+    ensures { IfOk result (λ text. AreRowsTo C.figures (C.rules criterion.now) true table.now.plain.image.now
+        (asked_to_any profiles.now) table.now.plain.sources.now text.items) }
 {
-    let to = set_name(alloc, table.image, profiles.targets())?;
+    let to = set_name(alloc, table.plain.image, profiles.targets())?;
     let answered = Answered {
         alloc,
-        image: table.image,
+        image: table.plain.image,
         criterion,
         profiles,
         to: to.as_str(),
     };
     let mut rows = Rows::new(alloc);
-    for list_index in 0..table.sources.len() {
-        put_points_from(&mut rows, &answered, &table.sources[list_index])?;
+    for list_index in 0..table.plain.sources.len() {
+        let from = table.names[list_index].as_str();
+        put_points_from(&mut rows, &answered, &table.plain.sources[list_index], from)?;
     }
     rows.into_text()
 }
@@ -360,8 +370,10 @@ fn put_points_from<C: ShowsFigures>(
     rows: &mut Rows,
     answered: &Answered<'_, C>,
     sources: &[u32],
+    from: &str,
 ) -> Result<(), AllocError>
     requires whole { AreWhole rows.old }
+    requires from { from.now ≡ set_bytes answered.now.image.now.names sources.now }
     requires sources { (stop : ℕ) → Contains sources.now stop → stop < answered.now.image.now.timetable.stops }
     requires same { criterion_to_any answered.now.profiles.now ≡ answered.now.criterion.now }
     requires answered { AnswerToAny C.rules answered.now.image.now.timetable answered.now.profiles.now }
@@ -378,7 +390,6 @@ fn put_points_from<C: ShowsFigures>(
     if meet(sources, answered.profiles.targets()) {
         return Ok(());
     }
-    let from = set_name(answered.alloc, answered.image, sources)?;
     let points = best_points(
         answered.alloc,
         answered.image,
@@ -386,7 +397,7 @@ fn put_points_from<C: ShowsFigures>(
         answered.profiles,
         sources,
     )?;
-    put_points(rows, answered, from.as_str(), &points)
+    put_points(rows, answered, from, points.as_slice())
 }
 
 // Adds the row of each of the points from the stops called `from`.
@@ -402,14 +413,7 @@ fn put_points<C: ShowsFigures>(
 {
     for point in points {
         let figures = answered.criterion.figures_of(&point.value);
-        put_point(
-            rows,
-            answered.alloc,
-            from,
-            answered.to,
-            point.departure,
-            figures,
-        )?;
+        put_point(rows, from, answered.to, point.departure, figures)?;
     }
     Ok(())
 }

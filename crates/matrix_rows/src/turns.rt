@@ -5,7 +5,7 @@ ghost use Rattle.std.specs.Global.{Vec};
 ghost use Rattle.matrix_rows.specs.Runs.{AreMade, AreRowsIn, HasText};
 ghost use Rattle.matrix_rows.specs.Tables.{CanBeMade};
 
-use crate::table::TravelTable;
+use crate::named_table::NamedTable;
 use crate::target::rows_to;
 use std::alloc::{AllocError, Global};
 use std::sync::atomic::{AtomicUsize, Ordering};
@@ -24,18 +24,18 @@ pub struct TargetRows {
 pub fn run_made<R: Threads + Sync>(
     rt: &R,
     alloc: Global,
-    table: &TravelTable<'_>,
+    table: &NamedTable<'_>,
     run: &[Vec<u32>],
     threads: usize,
 ) -> Result<Vec<Vec<TargetRows>>, AllocError>
-    requires { (set : Vec ℕ) → Contains run.now set → CanBeMade table.now set.items }
-    ensures { IfOk result (λ made. AreMade table.now run.now made.items) }
+    requires { (set : Vec ℕ) → Contains run.now set → CanBeMade table.now.plain set.items }
+    ensures { IfOk result (λ made. AreMade table.now.plain run.now made.items) }
 {
     let counter = AtomicUsize::new(0);
     let next = &counter;
     let make = move |_thread: usize| -> Vec<TargetRows>
-        requires { (set : Vec ℕ) → Contains run.now set → CanBeMade table.now set.items }
-        ensures { AreRowsIn table.entry.now run.entry.now result.items }
+        requires { (set : Vec ℕ) → Contains run.now set → CanBeMade table.now.plain set.items }
+        ensures { AreRowsIn table.entry.now.plain run.entry.now result.items }
     { rows_in_turns(alloc, table, run, next) };
     let made = thread::map_indices(rt, alloc, threads, &make)?;
     Ok(made)
@@ -44,12 +44,12 @@ pub fn run_made<R: Threads + Sync>(
 // Makes the rows of the next of a run's targets until each is taken, or memory runs out.
 fn rows_in_turns(
     alloc: Global,
-    table: &TravelTable<'_>,
+    table: &NamedTable<'_>,
     run: &[Vec<u32>],
     next: &AtomicUsize,
 ) -> Vec<TargetRows>
-    requires { (set : Vec ℕ) → Contains run.now set → CanBeMade table.now set.items }
-    ensures { AreRowsIn table.now run.now result.items }
+    requires { (set : Vec ℕ) → Contains run.now set → CanBeMade table.now.plain set.items }
+    ensures { AreRowsIn table.now.plain run.now result.items }
 {
     let mut made = Vec::new(alloc);
     for _ in 0..run.len() {
@@ -68,13 +68,13 @@ fn rows_in_turns(
 fn put_rows(
     made: &mut Vec<TargetRows>,
     alloc: Global,
-    table: &TravelTable<'_>,
+    table: &NamedTable<'_>,
     run: &[Vec<u32>],
     index: usize,
 ) -> Result<(), AllocError>
     requires index { index < length run.now }
-    requires can { (set : Vec ℕ) → Contains run.now set → CanBeMade table.now set.items }
-    ensures { AreRowsIn table.now run.now made.old.items → AreRowsIn table.now run.now made.new.items }
+    requires can { (set : Vec ℕ) → Contains run.now set → CanBeMade table.now.plain set.items }
+    ensures { AreRowsIn table.now.plain run.now made.old.items → AreRowsIn table.now.plain run.now made.new.items }
 {
     let text = rows_to(alloc, table, &run[index])?;
     made.push(TargetRows { index, text })?;

@@ -10,6 +10,8 @@ ghost use Rattle.matrix_rows.specs.Runs.{AreMade};
 ghost use Rattle.matrix_rows.specs.Tables.{AreRowsBy, AreRowsOf, CanBeMade, IsBegun, IsRunBegun, IsTable};
 ghost use Rattle.matrix_rows.specs.Tables.{IsTableBegun, IsTargetBegun, names_of};
 
+use crate::named_table::NamedTable;
+use crate::set_names::set_names;
 use crate::table::TravelTable;
 use crate::target::rows_to;
 use crate::turns::{TargetRows, run_made, text_made};
@@ -44,14 +46,35 @@ pub fn write_table<R: Threads + Sync + AllocGlobal, W: Write, P: TableReports>(
         × Appends (W.contents out.old) (W.contents out.new) text) }
     ensures begun { OnErr result (IsTableBegun table.now (W.contents out.old) (W.contents out.new)) }
 {
-    let names = first_row(rt.alloc(), table.each)?;
+    let names = set_names(rt.alloc(), table.image, table.sources)?;
+    let named = NamedTable {
+        plain: *table,
+        names: &names,
+    };
+    write_named(rt, &named, workers, out, reports)
+}
+
+// Writes the table. If that fails, a first part of it was written.
+fn write_named<R: Threads + Sync + AllocGlobal, W: Write, P: TableReports>(
+    rt: &R,
+    table: &NamedTable<'_>,
+    workers: usize,
+    out: &mut W,
+    reports: &mut P,
+) -> io::Result<()>
+    requires workers { (1 ≤ workers) × (workers ≤ 64) }
+    requires can { (targets : Vec ℕ) → Contains table.now.plain.targets.now targets
+        → CanBeMade table.now.plain targets.items }
+    ensures written { OnOk result ((text : List ℕ) × IsTable table.now.plain text
+        × Appends (W.contents out.old) (W.contents out.new) text) }
+    ensures begun { OnErr result (IsTableBegun table.now.plain (W.contents out.old) (W.contents out.new)) }
+{
+    let names = first_row(rt.alloc(), table.plain.each)?;
     write_bytes(out, &names)?;
-    let mut run = &table.targets[..0];
+    let mut run = &table.plain.targets[..0];
     let mut made = Vec::new(rt.alloc());
-    for next in table
-        .targets
-        .chunks(targets_in_run(workers, table.sources.len()))
-    {
+    let sources = table.plain.sources.len();
+    for next in table.plain.targets.chunks(targets_in_run(workers, sources)) {
         made = write_beside(rt, table, run, made, out, next, workers)?;
         run = next;
         reports.note_targets(run.len());
@@ -80,32 +103,34 @@ fn targets_at_once(sources: usize) -> usize
 // the first of the rows.
 fn write_beside<R: Threads + Sync + AllocGlobal, W: Write>(
     rt: &R,
-    table: &TravelTable<'_>,
+    table: &NamedTable<'_>,
     run: &[Vec<u32>],
     mut made: Vec<Vec<TargetRows>>,
     out: &mut W,
     next: &[Vec<u32>],
     workers: usize,
 ) -> io::Result<Vec<Vec<TargetRows>>>
-    requires can { (targets : Vec ℕ) → Contains run.now targets → CanBeMade table.now targets.items }
-    requires able { (targets : Vec ℕ) → Contains next.now targets → CanBeMade table.now targets.items }
-    requires rows { AreMade table.now run.now made.items }
-    ensures made { IfOk result (λ made. AreMade table.now next.now made.items) }
-    ensures written { OnOk result ((text : List ℕ) × AreRowsOf table.now run.now text
+    requires can { (targets : Vec ℕ) → Contains run.now targets → CanBeMade table.now.plain targets.items }
+    requires able { (targets : Vec ℕ) → Contains next.now targets → CanBeMade table.now.plain targets.items }
+    requires rows { AreMade table.now.plain run.now made.items }
+    ensures made { IfOk result (λ made. AreMade table.now.plain next.now made.items) }
+    ensures written { OnOk result ((text : List ℕ) × AreRowsOf table.now.plain run.now text
         × Appends (W.contents out.old) (W.contents out.new) text) }
-    ensures begun { IsRunBegun table.now run.now (W.contents out.old) (W.contents out.new) }
+    ensures begun { IsRunBegun table.now.plain run.now (W.contents out.old) (W.contents out.new) }
 {
     let alloc = rt.alloc();
     let mut make = || -> Result<Vec<Vec<TargetRows>>, AllocError>
-        requires { IsSync R.row × ((targets : Vec ℕ) → Contains next.now targets → CanBeMade table.now targets.items) }
-        ensures { IfOk result (λ made. AreMade table.entry.now next.entry.now made.items) }
+        requires { IsSync R.row
+            × ((targets : Vec ℕ) → Contains next.now targets → CanBeMade table.now.plain targets.items) }
+        ensures { IfOk result (λ made. AreMade table.entry.now.plain next.entry.now made.items) }
     { run_made(rt, alloc, table, next, workers.min(next.len())) };
     let mut write = || -> io::Result<()>
-        requires can { (targets : Vec ℕ) → Contains run.now targets → CanBeMade table.now targets.items }
-        requires rows { AreMade table.now run.now made.items }
-        ensures written { OnOk result ((text : List ℕ) × AreRowsOf table.entry.now run.entry.now text
+        requires can { (targets : Vec ℕ) → Contains run.now targets → CanBeMade table.now.plain targets.items }
+        requires rows { AreMade table.now.plain run.now made.items }
+        ensures written { OnOk result ((text : List ℕ) × AreRowsOf table.entry.now.plain run.entry.now text
             × Appends (W.contents out.entry.now) (W.contents out.exit.now) text) }
-        ensures begun { IsRunBegun table.entry.now run.entry.now (W.contents out.entry.now) (W.contents out.exit.now) }
+        ensures begun { IsRunBegun table.entry.now.plain run.entry.now (W.contents out.entry.now)
+            (W.contents out.exit.now) }
     {
         let outcome = write_run(alloc, table, run, &made, out);
         made.clear();
@@ -119,16 +144,16 @@ fn write_beside<R: Threads + Sync + AllocGlobal, W: Write>(
 // Writes the rows of a run's targets. If it fails, nothing was written, or the first of the rows.
 fn write_run<W: Write>(
     alloc: Global,
-    table: &TravelTable<'_>,
+    table: &NamedTable<'_>,
     run: &[Vec<u32>],
     made: &[Vec<TargetRows>],
     out: &mut W,
 ) -> io::Result<()>
-    requires can { (targets : Vec ℕ) → Contains run.now targets → CanBeMade table.now targets.items }
-    requires rows { AreMade table.now run.now made.now }
-    ensures written { OnOk result ((text : List ℕ) × AreRowsOf table.now run.now text
+    requires can { (targets : Vec ℕ) → Contains run.now targets → CanBeMade table.now.plain targets.items }
+    requires rows { AreMade table.now.plain run.now made.now }
+    ensures written { OnOk result ((text : List ℕ) × AreRowsOf table.now.plain run.now text
         × Appends (W.contents out.old) (W.contents out.new) text) }
-    ensures begun { IsRunBegun table.now run.now (W.contents out.old) (W.contents out.new) }
+    ensures begun { IsRunBegun table.now.plain run.now (W.contents out.old) (W.contents out.new) }
 {
     for index in 0..run.len() {
         write_target(alloc, table, &run[index], text_made(made, index), out)?;
@@ -140,16 +165,17 @@ fn write_run<W: Write>(
 // once no other thread needs any. If it fails, nothing was written, or a first part of the rows.
 fn write_target<W: Write>(
     alloc: Global,
-    table: &TravelTable<'_>,
+    table: &NamedTable<'_>,
     targets: &[u32],
     made: Option<&[u8]>,
     out: &mut W,
 ) -> io::Result<()>
-    requires can { CanBeMade table.now targets.now }
-    requires rows { IfSome made (λ rows. AreRowsBy table.now.criterion table.now targets.now rows.now) }
-    ensures written { OnOk result ((text : List ℕ) × AreRowsBy table.now.criterion table.now targets.now text
+    requires can { CanBeMade table.now.plain targets.now }
+    requires rows { IfSome made (λ rows. AreRowsBy table.now.plain.criterion table.now.plain targets.now rows.now) }
+    ensures written { OnOk result ((text : List ℕ)
+        × AreRowsBy table.now.plain.criterion table.now.plain targets.now text
         × Appends (W.contents out.old) (W.contents out.new) text) }
-    ensures begun { OnErr result (IsTargetBegun table.now targets.now (W.contents out.old) (W.contents out.new)) }
+    ensures begun { OnErr result (IsTargetBegun table.now.plain targets.now (W.contents out.old) (W.contents out.new)) }
 {
     match made {
         Some(rows) => write_bytes(out, rows),
@@ -160,14 +186,15 @@ fn write_target<W: Write>(
 // Makes the rows of a set of targets, and writes them. If that fails, nothing was written, or a first part of the rows.
 fn write_anew<W: Write>(
     alloc: Global,
-    table: &TravelTable<'_>,
+    table: &NamedTable<'_>,
     targets: &[u32],
     out: &mut W,
 ) -> io::Result<()>
-    requires { CanBeMade table.now targets.now }
-    ensures written { OnOk result ((text : List ℕ) × AreRowsBy table.now.criterion table.now targets.now text
+    requires { CanBeMade table.now.plain targets.now }
+    ensures written { OnOk result ((text : List ℕ)
+        × AreRowsBy table.now.plain.criterion table.now.plain targets.now text
         × Appends (W.contents out.old) (W.contents out.new) text) }
-    ensures begun { OnErr result (IsTargetBegun table.now targets.now (W.contents out.old) (W.contents out.new)) }
+    ensures begun { OnErr result (IsTargetBegun table.now.plain targets.now (W.contents out.old) (W.contents out.new)) }
 {
     let rows = rows_to(alloc, table, targets)?;
     write_bytes(out, &rows)

@@ -1,3 +1,4 @@
+mod Digits
 mod FallingLemmas
 mod SameFields
 mod Tallies

@@ -1,5 +1,5 @@
 -- Lists of the same fields.
-use Rattle.std.proofs.Common.{◌≡◌, ◌∙◌, ℕ, List, [], ◌∷◌, ap}
+use Rattle.std.proofs.Common.{◌≡◌, ◌∙◌, ℕ, List, ◌∷◌, ap}
 
 pub same_field : {field other : List ℕ} {fields others : List (List ℕ)} → field ≡ other → fields ≡ others → field ∷ fields ≡ other ∷ others
 same_field {field} {other} {fields} {others} first rest =

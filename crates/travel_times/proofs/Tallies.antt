@@ -1,12 +1,11 @@
 -- What is known of departures, with one more before them.
 use Rattle.std.proofs.Common.{◌≡◌, ◌<◌, ◌≤◌, ◌+◌, ◌-◌, ℕ, List, [], ◌∷◌, Some, None, Option, refl, sym, ◌∙◌, ap, subst, inl, inr, arith}
-use Rattle.std.proofs.Common.{drop, get_or, length, map, max, min, option_map, slice_get, slice_index_or}
+use Rattle.std.proofs.Common.{drop, get_or, length, max, min, option_map, slice_get, slice_index_or}
 use Rattle.travel_times.specs.Figures.{AreInOrder, least_of, lesser, mean_wait, rounded, sum_of_all, wait, waits}
 use Rattle.travel_times.specs.Falling.{falling}
 use Rattle.travel_times.specs.Tally.{AreFrom, IsTally}
 use Rattle.travel_times.specs.declared.spans.Span.{Span}
 use Rattle.travel_times.specs.declared.tally.Tally.{Tally}
-use Rattle.std.specs.List.{AllByRecursion}
 use Rattle.std.proofs.lemmas.Bool.{cases_lt}
 use Rattle.std.proofs.lemmas.List.{at_drop_all, at_drop_more, get_or-drop, get_or_default, length-drop}
 use Rattle.std.proofs.lemmas.List.Elements.{recursion_from_All}

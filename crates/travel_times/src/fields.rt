@@ -1,17 +1,18 @@
 //! The rows of a table of travel times.
 
-ghost use Rattle.std.specs.Prelude.{◌≡◌, IfOk, OnOk, map, option_map, slice_get, string_bytes};
+ghost use Rattle.std.specs.Prelude.{◌≡◌, OnOk, map, option_map, slice_get};
 ghost use Rattle.csv.specs.Writing.{default_writer, row_text};
-ghost use Rattle.travel_times.specs.Fields.{clock_field, departure_of, number_field, pair_fields, pair_names};
+ghost use Rattle.travel_times.specs.Fields.{departure_of, pair_fields, pair_names};
 ghost use Rattle.travel_times.specs.Fields.{point_fields, point_names};
 ghost use Rattle.travel_times.specs.Rows.{Adds, AreWhole};
 
 use crate::figures::least_travel;
+use crate::numbers::{ClockBuffer, number_field};
 use crate::rows::Rows;
 use crate::spans::Span;
 use criteria::Figures;
-use std::alloc::{AllocError, Global};
-use text_pieces::{put_clock, put_number};
+use itoa::Buffer;
+use std::alloc::AllocError;
 
 /// What a table has of a pair of stops.
 #[derive(Clone, Copy)]
@@ -63,26 +64,23 @@ pub fn put_point_names(rows: &mut Rows) -> Result<(), AllocError>
 
 /// Adds the row of a pair of stops: how many departures there are, the first, the last, the least seconds from one to
 /// its arrival, the mean, and the direct walk. A figure that isn't there is blank.
-pub fn put_pair(rows: &mut Rows, alloc: Global, pair: &Pair<'_>) -> Result<(), AllocError>
+pub fn put_pair(rows: &mut Rows, pair: &Pair<'_>) -> Result<(), AllocError>
     requires { AreWhole rows.old }
     ensures { OnOk result (Adds rows.old rows.new (row_text default_writer (pair_fields
         pair.now.from.now pair.now.to.now pair.now.spans.now pair.now.mean pair.now.walk))) }
 {
-    let points = number_text(alloc, Some(pair.spans.len() as u64))?;
-    let first = clock_text(alloc, departure_of(pair.spans.first()))?;
-    let last = clock_text(alloc, departure_of(pair.spans.last()))?;
-    let least = number_text(alloc, wide(least_travel(pair.spans)))?;
-    let mean = number_text(alloc, pair.mean)?;
-    let walk = number_text(alloc, wide(pair.walk))?;
+    let (mut first, mut last) = (ClockBuffer::new(), ClockBuffer::new());
+    let (mut points, mut least) = (Buffer::new(), Buffer::new());
+    let (mut mean, mut walk) = (Buffer::new(), Buffer::new());
     rows.put(&[
         pair.from.as_bytes(),
         pair.to.as_bytes(),
-        points.as_bytes(),
-        first.as_bytes(),
-        last.as_bytes(),
-        least.as_bytes(),
-        mean.as_bytes(),
-        walk.as_bytes(),
+        number_field(&mut points, Some(pair.spans.len() as u64)),
+        first.field(departure_of(pair.spans.first())),
+        last.field(departure_of(pair.spans.last())),
+        number_field(&mut least, wide(least_travel(pair.spans))),
+        number_field(&mut mean, pair.mean),
+        number_field(&mut walk, wide(pair.walk)),
     ])
 }
 
@@ -90,7 +88,6 @@ pub fn put_pair(rows: &mut Rows, alloc: Global, pair: &Pair<'_>) -> Result<(), A
 /// What the criterion doesn't count is blank.
 pub fn put_point(
     rows: &mut Rows,
-    alloc: Global,
     from: &str,
     to: &str,
     departure: u32,
@@ -100,22 +97,17 @@ pub fn put_point(
     ensures { OnOk result (Adds rows.old rows.new
         (row_text default_writer (point_fields from.now to.now departure figures))) }
 {
-    let leaves = clock_text(alloc, Some(departure))?;
-    let arrives = clock_text(alloc, Some(figures.arrival))?;
-    let seconds = number_text(
-        alloc,
-        Some(u64::from(figures.arrival.saturating_sub(departure))),
-    )?;
-    let trips = number_text(alloc, wide(figures.trips))?;
-    let walked = number_text(alloc, wide(figures.walked))?;
+    let (mut leaves, mut arrives) = (ClockBuffer::new(), ClockBuffer::new());
+    let (mut seconds, mut trips, mut walked) = (Buffer::new(), Buffer::new(), Buffer::new());
+    let lasts = u64::from(figures.arrival.saturating_sub(departure));
     rows.put(&[
         from.as_bytes(),
         to.as_bytes(),
-        leaves.as_bytes(),
-        arrives.as_bytes(),
-        seconds.as_bytes(),
-        trips.as_bytes(),
-        walked.as_bytes(),
+        leaves.field(Some(departure)),
+        arrives.field(Some(figures.arrival)),
+        number_field(&mut seconds, Some(lasts)),
+        number_field(&mut trips, wide(figures.trips)),
+        number_field(&mut walked, wide(figures.walked)),
     ])
 }
 
@@ -135,26 +127,4 @@ fn wide(number: Option<u32>) -> Option<u64>
         Some(number) => Some(u64::from(number)),
         None => None,
     }
-}
-
-// A number in decimal digits, or an empty text.
-fn number_text(alloc: Global, number: Option<u64>) -> Result<String, AllocError>
-    ensures { IfOk result (λ text. string_bytes text ≡ number_field number) }
-{
-    let mut text = String::new(alloc);
-    if let Some(number) = number {
-        put_number(&mut text, "", number)?;
-    }
-    Ok(text)
-}
-
-// A time as a clock, or an empty text.
-fn clock_text(alloc: Global, time: Option<u32>) -> Result<String, AllocError>
-    ensures { IfOk result (λ text. string_bytes text ≡ clock_field time) }
-{
-    let mut text = String::new(alloc);
-    if let Some(time) = time {
-        put_clock(&mut text, "", time)?;
-    }
-    Ok(text)
 }

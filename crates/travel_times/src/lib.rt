@@ -4,6 +4,7 @@
 mod falling;
 mod fields;
 mod figures;
+mod numbers;
 mod rows;
 mod spans;
 mod tally;

@@ -1,9 +1,9 @@
-use Rattle.std.proofs.Common.{◌∙◌, ◌<◌, [], ◌∷◌, ℕ, List, arith, get_or, length, subst, sym}
+use Rattle.std.proofs.Common.{◌<◌, [], ◌∷◌, ℕ, List, arith, get_or, length, subst, sym}
 use Rattle.std.proofs.lemmas.List.Elements.{Contains-get_or}
 use Rattle.profile_scan.specs.SetQuery.{IsAnswerBetween}
 use Rattle.profile_scan.specs.Everywhere.{asked_to_any}
 use Rattle.matrix_rows.specs.Tables.{from_stops}
-use Rattle.matrix_rows.proofs.Answering.{answer_at, on_ok, one_stop}
+use Rattle.matrix_rows.proofs.Answering.{answer_at, one_stop}
 use Rattle.matrix_rows.proofs.best.best_points.Goals as goal
 
 pub points-requires : goal.points-requires
@@ -26,8 +26,5 @@ returns-then-stops-eq1 g c =
     let stop = get_or stops 0 0 in
     let answer = answer_at g.C.Criterion.rules t profiles c.args.criterion.now stop c.requires.answered c.requires.same
     (c.requires.within stop (Contains-get_or stops 0 0 some)) in
-    on_ok _ (λ points. IsAnswerBetween rules t (from_stops (asked_to_any profiles) stops) points.items) c.copy_of.result
-    (λ points is.
-    subst (λ (ss : List ℕ). IsAnswerBetween rules t (from_stops (asked_to_any profiles) ss) points.items) (one_stop stops 0 (omega (arith, one)))
-    (subst (IsAnswerBetween rules t (from_stops (asked_to_any profiles) (stop ∷ []))) (sym (is ∙ c.points.ensures)) answer))
-    c.copy_of.ensures
+    subst (λ (ss : List ℕ). IsAnswerBetween rules t (from_stops (asked_to_any profiles) ss) c.points.result.now) (one_stop stops 0 (omega (arith, one)))
+    (subst (IsAnswerBetween rules t (from_stops (asked_to_any profiles) (stop ∷ []))) (sym c.points.ensures) answer)

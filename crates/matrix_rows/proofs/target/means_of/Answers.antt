@@ -27,9 +27,9 @@ loop-sources-preserved g c =
     let d = asked_to_any c.args.profiles.now in
     let set = c.sources-item.result in
     let is = IsMeanFrom figures rules table.image.now d table.after table.until in
-    zipped_push is table.sources.now c.loop-sources.sources-index set c.loop-sources.means.items c.push.new.self.items c.in_ok-mean_of.field-0
+    zipped_push is table.sources.now c.loop-sources.sources-index set c.loop-sources.means.items c.push.new.self.items c.in_ok-mean.mean
     c.loop-sources-test.true c.loop-sources.invariant
-    (subst (λ (s : Vec ℕ). is s c.in_ok-mean_of.field-0) c.sources-item.is
-    (subst (λ (xs : List ℕ). IsMean figures rules table.image.now (from_stops d xs) table.after table.until c.in_ok-mean_of.field-0) c.deref.ensures.value
-    c.in_ok-mean_of.ensures))
+    (subst (λ (s : Vec ℕ). is s c.in_ok-mean.mean) c.sources-item.is
+    (subst (λ (xs : List ℕ). IsMean figures rules table.image.now (from_stops d xs) table.after table.until c.in_ok-mean.mean) c.deref.ensures.value
+    c.in_ok-mean.ensures))
     c.in_ok-push.ensures.items

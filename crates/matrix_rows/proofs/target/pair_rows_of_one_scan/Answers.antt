@@ -8,17 +8,17 @@ use Rattle.matrix_rows.proofs.target.pair_rows_of_one_scan.Goals as goal
 
 pub pair_rows_of-requires-clause-asked : goal.pair_rows_of-requires-clause-asked
 pair_rows_of-requires-clause-asked g c =
-    subst (IsAskableBetween c.args.table.now.image.now.timetable.stops) (sym (c.in_ok-profiles.ensures.keeps.1 ∙ c.in_ok-destinations.ensures))
+    subst (IsAskableBetween c.args.table.now.plain.image.now.timetable.stops) (sym (c.in_ok-profiles.ensures.keeps.1 ∙ c.in_ok-destinations.ensures))
     c.requires.can.asked
 
 pub means_of-requires-clause-asked : goal.means_of-requires-clause-asked
 means_of-requires-clause-asked g c =
-    subst (IsAskableBetween c.args.table.now.image.now.timetable.stops) (sym (c.in_ok-profiles.ensures.keeps.1 ∙ c.in_ok-destinations.ensures))
+    subst (IsAskableBetween c.args.table.now.plain.image.now.timetable.stops) (sym (c.in_ok-profiles.ensures.keeps.1 ∙ c.in_ok-destinations.ensures))
     c.requires.can.asked
 
 pub pair_rows_of-requires-clause-means : goal.pair_rows_of-requires-clause-means
 pair_rows_of-requires-clause-means g c =
-    let table = c.args.table.now in
+    let table = c.args.table.now.plain in
     let found = asked_to_any c.in_ok-profiles.profiles in
     let figures = g.C.ShowsFigures.figures in
     let rules = g.C.Criterion.rules c.args.criterion.now in
@@ -29,7 +29,7 @@ pair_rows_of-requires-clause-means g c =
 
 pub returns : goal.returns
 returns g c =
-    let table = c.args.table.now in
+    let table = c.args.table.now.plain in
     subst (λ (d : SetQueryValue). IfOk c.pair_rows_of.result (λ text. AreRowsTo g.C.ShowsFigures.figures (g.C.Criterion.rules c.args.criterion.now) false
     table.image.now d table.sources.now text.items))
     (c.in_ok-profiles.ensures.keeps.1 ∙ c.in_ok-destinations.ensures) c.pair_rows_of.ensures

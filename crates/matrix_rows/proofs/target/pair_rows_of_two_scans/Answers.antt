@@ -8,17 +8,17 @@ use Rattle.matrix_rows.proofs.target.pair_rows_of_two_scans.Goals as goal
 
 pub pair_rows_of-requires-clause-asked : goal.pair_rows_of-requires-clause-asked
 pair_rows_of-requires-clause-asked g c =
-    subst (IsAskableBetween c.args.table.now.image.now.timetable.stops) (sym (c.in_ok-profiles.ensures.keeps.1 ∙ c.in_ok-destinations.ensures))
+    subst (IsAskableBetween c.args.table.now.plain.image.now.timetable.stops) (sym (c.in_ok-profiles.ensures.keeps.1 ∙ c.in_ok-destinations.ensures))
     c.requires.asked
 
 pub means_to-requires-clause-asked : goal.means_to-requires-clause-asked
 means_to-requires-clause-asked g c =
-    subst (IsAskableBetween c.args.table.now.image.now.timetable.stops) (sym c.in_ok-waiting.ensures)
-    (waiting_asked c.args.table.now.image.now.timetable.stops (destination c.args.table.now c.args.targets.now) c.requires.asked)
+    subst (IsAskableBetween c.args.table.now.plain.image.now.timetable.stops) (sym c.in_ok-waiting.ensures)
+    (waiting_asked c.args.table.now.plain.image.now.timetable.stops (destination c.args.table.now.plain c.args.targets.now) c.requires.asked)
 
 pub pair_rows_of-requires-clause-means : goal.pair_rows_of-requires-clause-means
 pair_rows_of-requires-clause-means g c =
-    let table = c.args.table.now in
+    let table = c.args.table.now.plain in
     let found = asked_to_any c.in_ok-profiles.profiles in
     let figures = g.C.ShowsFigures.figures in
     let rules = g.C.Criterion.rules c.args.criterion.now in
@@ -31,7 +31,7 @@ pair_rows_of-requires-clause-means g c =
 
 pub returns : goal.returns
 returns g c =
-    let table = c.args.table.now in
+    let table = c.args.table.now.plain in
     subst (λ (d : SetQueryValue). IfOk c.pair_rows_of.result (λ text. AreRowsTo g.C.ShowsFigures.figures (g.C.Criterion.rules c.args.criterion.now) false
     table.image.now d table.sources.now text.items))
     (c.in_ok-profiles.ensures.keeps.1 ∙ c.in_ok-destinations.ensures) c.pair_rows_of.ensures

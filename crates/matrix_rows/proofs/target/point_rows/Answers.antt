@@ -5,12 +5,12 @@ use Rattle.matrix_rows.proofs.target.point_rows.Goals as goal
 
 pub point_rows_of-requires-clause-asked : goal.point_rows_of-requires-clause-asked
 point_rows_of-requires-clause-asked g c =
-    subst (IsAskableBetween c.args.table.now.image.now.timetable.stops) (sym (c.in_ok-profiles.ensures.keeps.1 ∙ c.in_ok-destinations.ensures))
+    subst (IsAskableBetween c.args.table.now.plain.image.now.timetable.stops) (sym (c.in_ok-profiles.ensures.keeps.1 ∙ c.in_ok-destinations.ensures))
     c.requires.asked
 
 pub returns : goal.returns
 returns g c =
-    let table = c.args.table.now in
+    let table = c.args.table.now.plain in
     subst (λ (d : SetQueryValue). IfOk c.point_rows_of.result (λ text. AreRowsTo g.C.ShowsFigures.figures (g.C.Criterion.rules c.args.criterion.now) true
     table.image.now d table.sources.now text.items))
     (c.in_ok-profiles.ensures.keeps.1 ∙ c.in_ok-destinations.ensures) c.point_rows_of.ensures

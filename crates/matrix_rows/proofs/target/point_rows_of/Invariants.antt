@@ -7,6 +7,6 @@ use Rattle.matrix_rows.proofs.target.point_rows_of.Given as goal
 abbrev pub invariant-loop-list_index : goal.invariant-loop-list_index
 invariant-loop-list_index g l = record {
   whole : AreWhole l.rows;
-  rows : AreRowsTo g.C.ShowsFigures.figures (g.C.Criterion.rules l.criterion) true l.table.image.now (asked_to_any l.profiles)
-      (take l.list_index l.table.sources.now) (text_of l.rows);
+  rows : AreRowsTo g.C.ShowsFigures.figures (g.C.Criterion.rules l.criterion) true l.table.plain.image.now (asked_to_any l.profiles)
+      (take l.list_index l.table.plain.sources.now) (text_of l.rows);
 }

@@ -1,4 +1,5 @@
 use Rattle.std.proofs.Common.{◌∙◌, ap, false, subst, sym}
+use Rattle.std.specs.Cow.{cow_slice_items}
 use Rattle.csv.specs.Writing.{default_writer, row_text}
 use Rattle.profile_scan.specs.Everywhere.{asked_to_any}
 use Rattle.travel_times.specs.Fields.{pair_fields}
@@ -27,12 +28,12 @@ returns-clause-added g c = λ before set same rows.
     let names = answered.image.now.names in
     let figures = g.C.ShowsFigures.figures in
     let sources = c.args.sources.now in
-    let points = c.in_ok-points.points.items in
+    let points = cow_slice_items c.in_ok-points.points in
     let walk = c.least_walk.result in
     on_done c.put_pair.result
     (λ adds. set_has_rows figures (g.C.Criterion.rules answered.criterion.now) false answered.image.now d
     set sources before (text_of c.args.rows.now)
-    (row_text default_writer (pair_fields c.as_str.result.now answered.to.now c.deref-2.result.now c.args.mean walk))
+    (row_text default_writer (pair_fields c.args.from.now answered.to.now c.deref.result.now c.args.mean walk))
     (text_of c.put_pair.new.rows) same
     (λ met. c.if-meet.ensures (subst (Meet sources) (sym c.targets.ensures) met))
     rows
@@ -43,10 +44,10 @@ returns-clause-added g c = λ before set same rows.
       answer = c.in_ok-points.ensures;
       waited = c.requires.mean;
       direct = c.least_walk.ensures;
-      text_is = same_pair c.as_str.result.now (set_bytes names sources) answered.to.now (set_bytes names d.targets)
-          c.deref-2.result.now (spans_of figures points) c.args.mean walk
-          (c.as_str.ensures.value ∙ c.in_ok-from.ensures) c.requires.to
-          (c.deref-2.ensures.value ∙ c.in_ok-spans.ensures ∙ ap (spans_of figures) c.deref.ensures.value);
+      text_is = same_pair c.args.from.now (set_bytes names sources) answered.to.now (set_bytes names d.targets)
+          c.deref.result.now (spans_of figures points) c.args.mean walk
+          c.requires.from c.requires.to
+          (c.deref.ensures.value ∙ c.in_ok-put_spans.ensures ∙ ap (spans_of figures) c.as_slice.ensures.value);
     })
     adds.text_is)
     c.put_pair.ensures

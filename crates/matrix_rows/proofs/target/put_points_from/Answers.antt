@@ -1,4 +1,5 @@
-use Rattle.std.proofs.Common.{◌∙◌, subst, sym, true}
+use Rattle.std.proofs.Common.{subst, sym, true}
+use Rattle.std.specs.Cow.{cow_slice_items}
 use Rattle.std.specs.List.{flat_map}
 use Rattle.profile_scan.specs.Everywhere.{asked_to_any}
 use Rattle.travel_times.specs.Rows.{text_of}
@@ -22,18 +23,18 @@ returns-clause-added g c = λ before set same rows.
     let names = answered.image.now.names in
     let figures = g.C.ShowsFigures.figures in
     let sources = c.args.sources.now in
-    let points = c.in_ok-points.points.items in
+    let points = cow_slice_items c.in_ok-points.points in
     on_done c.put_points.result
     (λ adds. set_has_rows figures (g.C.Criterion.rules answered.criterion.now) true answered.image.now d
-    set sources before (text_of c.args.rows.now) (flat_map (point_row figures c.as_str.result.now answered.to.now) c.deref.result.now)
+    set sources before (text_of c.args.rows.now) (flat_map (point_row figures c.args.from.now answered.to.now) c.as_slice.result.now)
     (text_of c.put_points.new.rows) same
     (λ met. c.if-meet.ensures (subst (Meet sources) (sym c.targets.ensures) met))
     rows
     (record {
       points = points;
       answer = c.in_ok-points.ensures;
-      text_is = same_points figures c.as_str.result.now (set_bytes names sources) answered.to.now (set_bytes names d.targets)
-          c.deref.result.now points (c.as_str.ensures.value ∙ c.in_ok-from.ensures) c.requires.to c.deref.ensures.value;
+      text_is = same_points figures c.args.from.now (set_bytes names sources) answered.to.now (set_bytes names d.targets)
+          c.as_slice.result.now points c.requires.from c.requires.to c.as_slice.ensures.value;
     })
     adds.text_is)
     c.put_points.ensures

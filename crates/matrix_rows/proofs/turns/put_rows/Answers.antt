@@ -12,11 +12,11 @@ rows_to-requires c =
     let target = c.index-run-index.result in
     let there : Contains run target =
     subst (λ (t : Vec ℕ). Contains run t) (sym c.index-run-index.is) (Contains-get_or run c.args.index target c.requires.index) in
-    subst (CanBeMade c.args.table.now) (sym c.deref.ensures.value) (c.requires.can target there)
+    subst (CanBeMade c.args.table.now.plain) (sym c.deref.ensures.value) (c.requires.can target there)
 
 pub returns : goal.returns
 returns c =
     let run = c.args.run.now in
     let target = c.index-run-index.result in
-    rows_pushed c.args.table.now run c.args.made.now.items c.push.new.self.items _ target c.deref.result.now c.in_ok-push.ensures.items
+    rows_pushed c.args.table.now.plain run c.args.made.now.items c.push.new.self.items _ target c.deref.result.now c.in_ok-push.ensures.items
     (slice_get_read run (length run) c.args.index target refl c.requires.index c.index-run-index.is) c.deref.ensures.value c.in_ok-text.ensures

@@ -6,4 +6,4 @@ use Rattle.matrix_rows.proofs.whole.write_run.Given as goal
 -- the rows of the targets so far are written
 abbrev pub invariant-loop-index : goal.invariant-loop-index
 invariant-loop-index g l =
-    (rows : List ℕ) × AreRowsOf l.table (take l.index l.run) rows × Appends (g.W.Write.contents l.fn.out) (g.W.Write.contents l.out) rows
+    (rows : List ℕ) × AreRowsOf l.table.plain (take l.index l.run) rows × Appends (g.W.Write.contents l.fn.out) (g.W.Write.contents l.out) rows

@@ -1,0 +1,13 @@
+//! A table with the names of its sources.
+
+ghost use Rattle.matrix_rows.specs.Tables.{AreNamed};
+
+use crate::table::TravelTable;
+
+/// A table, and what each of its sets of sources is called.
+#[derive(Clone, Copy)]
+pub(crate) struct NamedTable<'a> {
+    pub plain: TravelTable<'a>,
+    pub names: &'a [String],
+    ghost named: { AreNamed plain.image.now.names plain.sources.now names.now },
+}
