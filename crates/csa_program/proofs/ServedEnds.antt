@@ -50,6 +50,11 @@ pub ok_then : {A E : Type 0} (result : Result A E) (P Q : A → Type 0) → ((a 
 ok_then (Ok a) P Q then is = then a is
 ok_then (Err e) P Q then is = tt
 
+pub ok_then_all : {A E : Type 0} (result : Result A E) (P Q R S : A → Type 0) → ((a : A) → P a → Q a → R a → S a)
+    → IfOk result P → IfOk result Q → IfOk result R → IfOk result S
+ok_then_all (Ok a) P Q R S then p q r = then a p q r
+ok_then_all (Err e) P Q R S then p q r = tt
+
 left_none : (failed is_endless : Bool) (left : ℕ) → failed ≡ false → (failed ≡ true) ⊎ ((is_endless ≡ false) × (left ≡ 0))
     → (is_endless ≡ false) × (left ≡ 0)
 left_none failed is_endless left whole (inl fails) = absurd (true≢false (sym fails ∙ whole))

@@ -9,7 +9,7 @@ ghost use Rattle.command_requests.specs.declared.statuses.TheConstants.{ACCEPTED
 ghost use Rattle.shelf_steps.specs.Handed.{handed};
 ghost use Rattle.shelf_steps.specs.declared.views.View.{View};
 ghost use Rattle.epochs.specs.ShelfSeats.{SeatsHanded};
-ghost use Rattle.workers.specs.Headline.{AllLoaded, AllServed, AreReadyAt, IsLeftAt, server_input_of};
+ghost use Rattle.workers.specs.Headline.{AreReadyAt, IsRunAt, server_input_of};
 ghost use Rattle.workers.specs.Sessions.{MayClose};
 ghost use Rattle.epochs.specs.ShelfWords.{shelf_loader, shelf_seats};
 ghost use Rattle.workers.specs.Words.{files_of, loads_of, outcomes_of, sessions_of};
@@ -353,16 +353,17 @@ fn serve_all<
 >
     requires ready { AreReadyAt B.table (server_input_of clients made.0 made.2.items made.1 folders.now) }
     requires new { SeatsHanded made.0 (length made.2.items) made.2.items }
-    requires closes { MayClose (sessions_of form C.words C.Reader.remaining C.Writer.contents shelf_seats) made.0 }
+    requires closes { MayClose (sessions_of form C.words C.Reader.remaining C.Writer.contents shelf_seats)
+        made.2.items }
     ensures many { IfOk result (λ run_result. K.words.came clients ≡ [] → length run_result.served ≡ length
         (K.words.came run_result.clients)) }
-    ensures left { IfOk result (IsLeftAt K.words (server_input_of clients made.0 made.2.items made.1 folders.now)) }
-    ensures served { IfOk result (AllServed (sessions_of form C.words C.Reader.remaining C.Writer.contents shelf_seats)
-        K.words ⟦<Folders<'f, H> as Feeds>⟧.words (server_input_of clients made.0 made.2.items made.1 folders.now)) }
-    ensures loaded { IfOk result (AllLoaded (loads_of ⟦<Folders<'f, H> as Feeds>⟧.words
-        (outcomes_of (files_of ⟦<FolderFiles<'f, H> as FeedFiles>⟧.holds ⟦<FolderFiles<'f, H> as FeedFiles>⟧.reads
+    ensures run { IfOk result (IsRunAt (sessions_of form C.words C.Reader.remaining C.Writer.contents shelf_seats)
+        K.words (loads_of ⟦<Folders<'f, H> as Feeds>⟧.words
+        (outcomes_of (files_of
+        ⟦<FolderFiles<'f, H> as FeedFiles>⟧.holds ⟦<FolderFiles<'f, H> as FeedFiles>⟧.reads
         ⟦<FolderFiles<'f, H> as FeedFiles>⟧.failures ⟦<FolderFiles<'f, H> as FeedFiles>⟧.failed)
-        shelf_loader shelf_seats.version)) (server_input_of clients made.0 made.2.items made.1 folders.now)) }
+        shelf_loader shelf_seats.version))
+        (server_input_of clients made.0 made.2.items made.1 folders.now)) }
 {
     let (shelves, loader, seats) = made;
     run_shelves::<B, _, _, _, _, _, _>(

@@ -9,7 +9,7 @@ use Rattle.session.specs.Sessions.{LastRelease, Serves, state_of}
 use Rattle.session.specs.Exchanges.{seat_state}
 use Rattle.workers.specs.Ends.{Session, end_of}
 use Rattle.workers.specs.Loading.{IsEarly, IsNotPublished}
-use Rattle.workers.specs.Sessions.{AreServed, IsServedAt, IsSession, MayClose, WorkerState}
+use Rattle.workers.specs.Sessions.{AreServed, IsServedAt, IsSession, MayCloseFrom, WorkerState}
 use Rattle.workers.specs.Words.{SessionWords}
 use Rattle.workers.specs.declared.refusal.LoadRefusal.{LoadRefusal}
 use Rattle.workers.specs.declared.served.SessionEnd.{SessionEnd}
@@ -77,11 +77,11 @@ module _ {C R W T S N : Type 0} (words : SessionWords C R W T S N) where
       (subst (λ (list : List (Session R W)). Are (has ++ client ∷ []) list) (sym adds) all)
 
   -- the reader and the writer of a session that was served may be closed
-  pub may_close : (shelves : T) (client : C) (streams : Option (Streams R W)) (end : SessionEnd) (a b : WorkerState S) → MayClose words shelves
-      → words.seats.fits shelves a.seat → words.seats.fits shelves b.seat → IsServedAt words client (streams, end) a b
+  pub may_close : (clients : List C) (sessions : List (Session R W)) (client : C) (streams : Option (Streams R W)) (end : SessionEnd)
+      (start a b : WorkerState S) → MayCloseFrom words start → AreServed words clients sessions start a → IsServedAt words client (streams, end) a b
       → IfSome streams (λ now. words.clients.closes (inner_of now.reader) (inner_of now.writer) end)
-  may_close shelves client None end a b may first last served = tt
-  may_close shelves client (Some now) end a b may first last served = may client now end a b first last served
+  may_close clients sessions client None end start a b may before served = tt
+  may_close clients sessions client (Some now) end start a b may before served = may clients sessions client now end a b before served
 
 -- what is answered before a publish was tried leaves the loader's seat as it was
 pub not_published : (answers : List LoaderAnswer) (refusal : LoadRefusal) → IsEarly refusal → IsNotPublished answers refusal answers

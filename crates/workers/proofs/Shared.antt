@@ -174,11 +174,12 @@ keeper_next {N} queue keeper keeper_then left left_then worker used used_then or
     back ∙ ap With before ∙ ap (Kept (put_by used ++ orders.end.items)) shorter ∙ ap (λ list. Kept list (length left_then)) (sym put)
 
 -- an end more goes out, to one worker more
-pub keeper_out : {N H : Type 0} (queue : QueueId N) (keeper keeper_then : KeeperValue N) (workers workers_then : List H) (worker : H)
-    → IsKeeperOf queue [] (length workers) keeper → keeper_then ≡ with_one_out keeper → workers_then ≡ workers ++ worker ∷ []
-    → IsKeeperOf queue [] (length workers_then) keeper_then
-keeper_out {N} queue keeper keeper_then workers workers_then worker before more grows =
+pub keeper_out : {N H : Type 0} (keeper keeper_then : KeeperValue N) (workers workers_then : List H) (worker : H)
+    → IsKeeperOf keeper.queue [] (length workers) keeper → keeper_then ≡ with_one_out keeper → workers_then ≡ workers ++ worker ∷ []
+    → IsKeeperOf keeper_then.queue [] (length workers_then) keeper_then
+keeper_out {N} keeper keeper_then workers workers_then worker before more grows =
     let longer : length workers_then ≡ length workers + 1 = ap length grows ∙ length-append workers (worker ∷ []) in
-    let Out : ℕ → KeeperValue N = λ out. record { queue = queue; put = []; out = out; closings = 0 } in
+    let queue : keeper.queue ≡ keeper_then.queue = sym (ap (λ (k : KeeperValue N). k.queue) more) in
+    let Out : QueueId N → ℕ → KeeperValue N = λ q out. record { queue = q; put = []; out = out; closings = 0 } in
     let Also : KeeperValue N → KeeperValue N = λ k. with_one_out k in
-    more ∙ ap Also before ∙ ap Out (sym longer)
+    more ∙ ap Also before ∙ ap (Out keeper.queue) (sym longer) ∙ ap (λ q. Out q (length workers_then)) queue

@@ -1,6 +1,5 @@
 -- Orders that are carried out.
-use Rattle.std.specs.Prelude.{◌≡◌, ◌≤◌, ◌+◌, ◌++◌, ◌∷◌, ℕ, true, List, [], Option, Result, MatchOption, length, map}
-use Rattle.feed_loader.specs.Faults.{failed_by, failed_in}
+use Rattle.std.specs.Prelude.{◌≡◌, ◌≤◌, ◌++◌, ◌∷◌, ℕ, true, List, [], Option, Result, MatchOption, length, map}
 use Rattle.feed_loader.specs.declared.plan.Plan.{Plan}
 use Rattle.load_orders.specs.Keeping.{QueueId}
 use Rattle.load_orders.specs.Answering.{AnsweredValue, IsSentBack, LoaderOrdersValue}
@@ -10,16 +9,11 @@ use Rattle.orders.specs.Ordering.{order_fault_number}
 use Rattle.orders.specs.declared.fault.OrderFault.{OrderFault}
 use Rattle.workers.specs.Drawing.{IsDrawnAt}
 use Rattle.workers.specs.Learned.{LoaderLearns}
-use Rattle.workers.specs.Loading.{IsOutcome, load_answer, load_state, reading}
+use Rattle.workers.specs.Loading.{FilesGoOn, IsOutcome, load_answer, load_state}
 use Rattle.workers.specs.Words.{LoadWords}
 use Rattle.workers.specs.declared.drawing.DrawnFiles.{DrawnFiles}
 use Rattle.workers.specs.declared.loading.LoadedVersion.{LoadedVersion}
 use Rattle.workers.specs.declared.refusal.LoadRefusal.{LoadRefusal}
-
--- a read of a feed's files failed exactly if the outcome says so, and it was of the file that the outcome names
-abbrev pub FailedAsReported : {D T : Type 0} → (D → ℕ) → (D → List (List ℕ)) → D → D → Result T LoadRefusal → Type 0
-FailedAsReported failures failed files files_then outcome =
-    (failures files_then ≡ failures files + failed_in (reading outcome)) × (failed files_then ≡ failed_by (failed files) (reading outcome))
 
 -- where loads take place: these feeds, and the queue from which their orders come
 pub record LoadInput (F D T L N : Type 0) : Type 1 where
@@ -67,7 +61,7 @@ module _ {F D T L N : Type 0} (load_input : LoadInput F D T L N) where
     pub are_files : load_input.words.feeds.are_files load_input.feeds load.feed drawn.first.value
     pub is_plan : load_input.words.feeds.is_plan load_input.feeds plan
     pub comes : IsOutcome load_input.words.outcomes plan (load_state drawn.first.value a) outcome (load_state drawn.files b)
-    pub failed : FailedAsReported load_input.words.outcomes.files.failures load_input.words.outcomes.files.failed drawn.first.value drawn.files outcome
+    pub files_are : FilesGoOn load_input.words.outcomes.files drawn.first.value outcome drawn.files
     pub answer_is : load.answer ≡ load_answer outcome
 
   -- there is no such feed, and no files are drawn
@@ -83,6 +77,16 @@ module _ {F D T L N : Type 0} (load_input : LoadInput F D T L N) where
   pub record IsCarriedOut (handled : HandledOrder D N) (a b : L) : Type 0 where
     pub sent : IsSentBack handled.order.answer_channel handled.answered.answer handled.answered.sent
     pub load : IsLoadOf (load_value handled.order.feed handled.taken handled.files handled.answered.answer) a b
+
+  -- this order, the last that was taken, is carried out, and the loader's end of the queue changes by the answer alone
+  pub record Handles (order : Order N) (a b : LoadsValue D N × L) : Type 0 where
+    pub answer : AnsweredValue N
+    pub files : Option (DrawnFiles D N)
+    pub queue_is : b.0.orders.queue ≡ a.0.orders.queue
+    pub taken_are : b.0.orders.taken ≡ a.0.orders.taken
+    pub answers_are : b.0.orders.answered ≡ a.0.orders.answered ++ answer ∷ []
+    pub files_are : b.0.used ≡ a.0.used ++ files ∷ []
+    pub carried : IsCarriedOut (handled_order_of order a.0.orders.taken files answer) a.1 b.1
 
   -- after these earlier orders of the queue, further ones are carried out in turn, each once, and each with files of its own
   abbrev pub AreCarriedOut : List (Order N) → List (HandledOrder D N) → L → L → Type 0

@@ -1,21 +1,24 @@
 -- What a server did, from what it was started with to what is left.
-use Rattle.std.specs.Prelude.{◌≡◌, ◌≤◌, ℕ, List, All, length}
+use Rattle.std.specs.Prelude.{◌≡◌, ◌≤◌, ℕ, Some, List, All, length}
 use mathlib.Core.Option.{some}
 use lib.ListN.{get_elem?}
 use Rattle.atomic_table.specs.Seated.{TableId}
+use Rattle.epochs.specs.Pinned.{IsLeftAlone}
 use Rattle.epochs.specs.SeatHistory.{Grows}
 use Rattle.epochs.specs.ShelfLoads.{ShelfLoaderValue}
-use Rattle.epochs.specs.ShelfSeats.{NoticeValue, ShelfSeatValue}
+use Rattle.epochs.specs.ShelfSeats.{NoticeValue, ShelfSeatValue, ShowsWhatItKnows}
 use Rattle.epochs.specs.ShelfWords.{shelf_loader, shelf_seats}
 use Rattle.epochs.specs.Words.{LoaderWords, SeatWords}
 use Rattle.shelf_steps.specs.EventHistory.{all_of}
 use Rattle.shelf_steps.specs.Events.{known_of}
-use Rattle.shelf_steps.specs.Laws.{Shelved}
+use Rattle.image_layout.specs.Image.{ImageValue}
+use Rattle.shelf_steps.specs.Laws.{IsLoader, Shelved}
 use Rattle.shelf_steps.specs.Rule.{KeepsRule}
+use Rattle.shelf_steps.specs.declared.views.LoaderView.{LoaderView}
 use Rattle.workers.specs.Carrying.{AreLoaded, load_input_of, loads_value}
 use Rattle.workers.specs.Ordering.{AreAllTaken, route_to}
 use Rattle.workers.specs.Sessions.{AreServedSince, worker_starts, work_of}
-use Rattle.workers.specs.Words.{FeedWords, LoadWords, SessionWords, SourceWords}
+use Rattle.workers.specs.Words.{FeedWords, IsExhausted, LoadWords, SessionWords, SourceWords}
 use Rattle.workers.specs.declared.outcome.ServingOutcome.{ServingOutcome}
 
 -- what a server is started with
@@ -45,8 +48,7 @@ module _ {C R W K T S L N F D : Type 0} where
   -- no further client comes, and what held of their source holds still; and the seats are of the same shelves
   pub record IsLeft (seats : SeatWords T S N) (loader : LoaderWords T L) (source : SourceWords K C) (input : ServerInput K T S L F)
       (left : ServingOutcome R W K S L N D) : Type 0 where
-    pub none_left : source.none_left left.clients
-    pub holds : (fact : source.Fact) → source.holds input.clients fact → source.holds left.clients fact
+    pub clients : IsExhausted source input.clients left.clients
     pub fit : All (seats.fits input.shelves) left.seats.items
     pub loader_fits : loader.fits input.shelves left.loader
 
@@ -62,6 +64,15 @@ KnowOneHistory loader seat =
     (table : Shelved) (i j : ℕ) (r : KeepsRule table) → get_elem? table.views i ≡ some seat.view → get_elem? table.views j ≡ some loader.view
     → Grows (known_of seat.view) (all_of r.history) × Grows (known_of loader.view) (all_of r.history)
 
+-- while a seat of these shelves shows that it holds a version, that version is left alone, at each moment between two steps of any seats. This binds
+-- every body: whatever workers and the loader do, a table of shelves changes by steps of its seats alone, and each step keeps the rule that `r` stands
+-- for; so `table` is whatever a run of these shelves can come to, and there is no way to free what this law leaves alone
+abbrev pub PinnedAreLeftAloneAt : TableId → Type 0
+PinnedAreLeftAloneAt shelves =
+    (seat : ShelfSeatValue) (version : ℕ) (image : ImageValue) (table : Shelved) (l : LoaderView) (i : ℕ) (r : KeepsRule table)
+    → seat.table ≡ shelves → ShowsWhatItKnows seat → seat.shown.held ≡ Some (version, image)
+    → IsLoader table l → get_elem? table.views i ≡ some seat.view → IsLeftAlone seat version image table l r
+
 -- as `IsLeft`, at shelves without a lock; and the histories by which the sessions' profiles are exact and that of what the loader published are one
 abbrev pub IsLeftAt : {C R W K F D : Type 0} → SourceWords K C → ServerInput K TableId ShelfSeatValue ShelfLoaderValue F
     → ServingOutcome R W K ShelfSeatValue ShelfLoaderValue NoticeValue D → Type 0
@@ -72,3 +83,18 @@ pub record AllLoaded {R W K T S L N F D : Type 0} (words : LoadWords F D T L N) 
     : Type 0 where
   pub taken : AreAllTaken left.asked left.orders
   pub loaded : AreLoaded (load_input_of words input.feeds left.orders.queue) input.loader (loads_value left.orders left.used) left.loader
+
+-- a whole run of a server, at any shelves: what is left, all who came were served, and all that they ordered was loaded
+pub record IsRun {C R W K T S L N F D : Type 0} (words : SessionWords C R W T S N) (source : SourceWords K C) (loads : LoadWords F D T L N)
+    (input : ServerInput K T S L F) (ran : ServingOutcome R W K S L N D) : Type 0 where
+  pub left : IsLeft words.seats loads.outcomes.loader source input ran
+  pub served : AllServed words source loads.feeds input ran
+  pub loaded : AllLoaded loads input ran
+
+-- a whole run of a server at shelves without a lock
+pub record IsRunAt {C R W K F D : Type 0} (words : SessionWords C R W TableId ShelfSeatValue NoticeValue) (source : SourceWords K C)
+    (loads : LoadWords F D TableId ShelfLoaderValue NoticeValue) (input : ServerInput K TableId ShelfSeatValue ShelfLoaderValue F)
+    (ran : ServingOutcome R W K ShelfSeatValue ShelfLoaderValue NoticeValue D) : Type 0 where
+  pub left : IsLeftAt source input ran
+  pub served : AllServed words source loads.feeds input ran
+  pub loaded : AllLoaded loads input ran

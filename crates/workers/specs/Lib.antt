@@ -8,4 +8,5 @@ pub mod Ordering
 pub mod Drawing
 pub mod Learned
 pub mod Lines
+pub mod Posts
 pub mod Headline

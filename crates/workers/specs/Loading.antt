@@ -1,12 +1,13 @@
 -- What comes of an order to load a feed.
-use Rattle.std.specs.Prelude.{◌≡◌, ◌⊎◌, ℕ, List, Option, Some, None, Result, Ok, Err, MatchOption}
+use Rattle.std.specs.Prelude.{◌≡◌, ◌≤◌, ◌+◌, ◌⊎◌, ℕ, List, Option, Some, None, Result, Ok, Err, MatchOption}
 use Rattle.image_layout.specs.Image.{ImageValue}
+use Rattle.connections.specs.declared.days.TheConstants.{MAX_DAYS}
 use Rattle.connections.specs.declared.report.Report.{Report}
 use Rattle.feed_files.specs.Files.{FileRead}
 use Rattle.feed_files.specs.Reading.{Content, Tells}
 use Rattle.feed_files.specs.Reads.{AllWereRead, AreRead, SomeWereRead}
 use Rattle.gtfs_rows.specs.declared.fault.Table.{Table}
-use Rattle.feed_loader.specs.Faults.{fault_number}
+use Rattle.feed_loader.specs.Faults.{failed_by, failed_in, fault_number}
 use Rattle.feed_loader.specs.Refused.{IsLoadRefusal, IsLoaded, IsWantOfMemory}
 use Rattle.feed_loader.specs.declared.fault.LoadFault.{LoadFault}
 use Rattle.feed_loader.specs.declared.plan.Plan.{Plan}
@@ -16,9 +17,14 @@ use Rattle.epochs.specs.Seats.{PublishStep, RefuseStep, CollectStep}
 use Rattle.epochs.specs.declared.collected.Collected.{Collected}
 use Rattle.epochs.specs.declared.faults.PublishFault.{PublishFault}
 use Rattle.epochs.specs.declared.seats.LoaderAnswer.{LoaderAnswer}
-use Rattle.workers.specs.Words.{Holds, OutcomeWords}
+use Rattle.workers.specs.Words.{FileWords, Holds, OutcomeWords}
 use Rattle.workers.specs.declared.loading.LoadedVersion.{LoadedVersion}
 use Rattle.workers.specs.declared.refusal.LoadRefusal.{LoadRefusal}
+
+-- the plan is for one day at least, and for no more than an image can have
+pub record HasDays (plan : Plan) : Type 0 where
+  pub some : 1 ≤ plan.days
+  pub few : plan.days ≤ MAX_DAYS
 
 -- the image of what the files hold, and its counts
 abbrev pub IsImageOf : Content → Plan → ImageValue → Report → Type 0
@@ -49,13 +55,16 @@ IsNotPublished before (LoadRefusal.Publish fault) after = ((after ≡ before) ×
 abbrev pub ShowsContent : Holds → List FileRead → List FileRead → Content → Type 0
 ShowsContent holds old new content = Tells holds content ⊎ ((ts : List Table) × AreRead content ts old new)
 
+-- each file was read once, and what the files show has this image, with these counts
+pub record IsMadeOf (holds : Holds) (old new : List FileRead) (plan : Plan) (made : ImageValue × Report) : Type 0 where
+  pub all_read : AllWereRead old new
+  pub is_image : (content : Content) → ShowsContent holds old new content → IsImageOf content plan made.0 made.1
+
 -- what a refusal says of the files: that what they show is refused so; or, if the publish was refused, that each was read once, and that what they
 -- show has an image
 abbrev pub IsRefusalOf : Holds → List FileRead → List FileRead → Plan → LoadRefusal → Type 0
 IsRefusalOf holds old new plan (LoadRefusal.Load fault) = (content : Content) → ShowsContent holds old new content → MayRefuse content plan fault
-IsRefusalOf holds old new plan (LoadRefusal.Publish fault) =
-    (image : ImageValue) × (report : Report) × AllWereRead old new
-    × ((content : Content) → ShowsContent holds old new content → IsImageOf content plan image report)
+IsRefusalOf holds old new plan (LoadRefusal.Publish fault) = (made : ImageValue × Report) × IsMadeOf holds old new plan made
 
 -- what a load changes: the feed's files, and the loader's seat
 pub record LoadState (D L : Type 0) : Type 0 where
@@ -70,9 +79,8 @@ load_state files loader = record { files = files; loader = loader }
 abbrev pub IsOutcome : {D T L N : Type 0} → OutcomeWords D T L N → Plan → LoadState D L
     → Result (LoadedVersion × Option N) LoadRefusal → LoadState D L → Type 0
 IsOutcome words plan a (Ok loaded) b =
-    (image : ImageValue) × AllWereRead (words.files.reads a.files) (words.files.reads b.files)
-    × ((content : Content) → ShowsContent (words.files.holds a.files) (words.files.reads a.files) (words.files.reads b.files) content
-    → IsImageOf content plan image loaded.0.report)
+    (image : ImageValue)
+    × IsMadeOf (words.files.holds a.files) (words.files.reads a.files) (words.files.reads b.files) plan (image, loaded.0.report)
     × IsPublished (words.loader.answers a.loader) image loaded.0.version (words.loader.answers b.loader)
     × MatchOption loaded.1 ⊥ (λ notice. words.version notice ≡ loaded.0.version)
 IsOutcome words plan a (Err refusal) b =
@@ -102,3 +110,10 @@ reading_refused (LoadRefusal.Publish fault) = Ok tt
 abbrev pub reading : {T : Type 0} → Result T LoadRefusal → Result (Unit {0}) LoadFault
 reading (Ok t) = Ok tt
 reading (Err refusal) = reading_refused refusal
+
+-- what a load leaves of the files: they are known to hold what they held; and a read of them failed exactly if the outcome says so, and it was of the
+-- file that the outcome names
+pub record FilesGoOn {D T : Type 0} (words : FileWords D) (a : D) (outcome : Result T LoadRefusal) (b : D) : Type 0 where
+  pub holds : words.holds b ≡ words.holds a
+  pub failures : words.failures b ≡ words.failures a + failed_in (reading outcome)
+  pub failed : words.failed b ≡ failed_by (words.failed a) (reading outcome)

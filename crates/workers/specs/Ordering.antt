@@ -3,10 +3,9 @@ use Rattle.std.specs.Prelude.{◌≡◌, ℕ, List, String, IsPermutation, flat_
 use Rattle.std.specs.Global.{Global}
 use Rattle.handoff.specs.Queue.{IsQueue}
 use Rattle.load_orders.specs.Asking.{HasAsked, OrderRoute, WorkerOrdersValue, route_of}
-use Rattle.load_orders.specs.Keeping.{EndValue, KeeperValue, QueueId}
+use Rattle.load_orders.specs.Keeping.{KeeperValue, QueueId}
 use Rattle.load_orders.specs.Answering.{LoaderOrdersValue}
 use Rattle.load_orders.specs.declared.queue.Order.{Order}
-use Rattle.workers.specs.declared.shares.RouteTo.{RouteTo}
 
 -- orders of feeds of these names, by this queue
 abbrev pub route_to : {N : Type 0} → List (String Global) → QueueId N → OrderRoute N
@@ -15,10 +14,6 @@ route_to names queue = record { names = map string_bytes names; queue = queue }
 -- a worker's orders go this way, and each order that was asked for did at this queue what its answer says
 abbrev pub IsAskedBy : {N : Type 0} → (N → ℕ) → OrderRoute N → WorkerOrdersValue N → Type 0
 IsAskedBy noted route orders = (route_of orders ≡ route) × HasAsked (IsQueue 4) noted orders
-
--- two routes to the same queue, for the same feeds
-abbrev pub GoesBy : {N F : Type 0} → RouteTo (EndValue N) F → RouteTo (KeeperValue N) F → Type 0
-GoesBy route other = (route.end.value.queue ≡ other.end.value.queue) × (route.feeds.value ≡ other.feeds.value)
 
 -- the orders that were put at these workers' ends of the queue, end after end
 abbrev pub put_by : {N : Type 0} → List (WorkerOrdersValue N) → List (Order N)

@@ -1,7 +1,8 @@
 -- What clients' sessions do.
-use Rattle.std.specs.Prelude.{◌≡◌, ◌++◌, ◌∷◌, ℕ, Some, None, List, [], Result, Ok, Err, IsPermutation, MatchOption, flat_map, map}
+use Rattle.std.specs.Prelude.{◌≡◌, ◌++◌, ◌∷◌, ℕ, Some, None, List, [], All, Result, Ok, Err, IsPermutation, MatchOption, flat_map, map}
 use Rattle.client_queue.specs.declared.queue.DealerView.{DealerView}
 use Rattle.epochs.specs.Seats.{SeatValue}
+use Rattle.handoff.specs.Ends.{QueueId, TakerValue}
 use Rattle.lines.specs.Counting.{inner_of}
 use Rattle.load_orders.specs.Asking.{OrderRoute, WorkerOrdersValue}
 use Rattle.orders.specs.Ordering.{OrderValue}
@@ -120,18 +121,37 @@ module _ {C R W T S N : Type 0} (words : SessionWords C R W T S N) where
     pub profiles : TellPublished (words.seats.known b.seat) (words.seats.shown a.seat) (words.seats.shown b.seat)
     pub idle : (words.seats.shown a.seat).held ≡ None → (words.seats.shown b.seat).held ≡ None
 
-  -- whatever session was served at a seat of these shelves, its reader and its writer may be closed as they are then
-  abbrev pub MayClose : T → Type 0
-  MayClose shelves = (client : C) (now : Streams R W) (end : SessionEnd) (a b : WorkerState S)
-      → words.seats.fits shelves a.seat → words.seats.fits shelves b.seat → IsServedAt client (Some now, end) a b
-      → words.clients.closes (inner_of now.reader) (inner_of now.writer) end
-
   -- the clients are served at this seat one after the other, each in one of these sessions
   abbrev pub AreServed : List C → List (Session R W) → WorkerState S → WorkerState S → Type 0
   AreServed [] [] a b = b ≡ a
   AreServed (client ∷ clients) (session ∷ sessions) a b =
       (m : WorkerState S) × IsServedAt client session a m × AreServed clients sessions m b
   AreServed _ _ a b = ⊥
+
+  -- whatever sessions were served one after the other from here on, the reader and the writer of the last may be closed as they are then, as those of
+  -- a session that ended as this one did
+  abbrev pub MayCloseFrom : WorkerState S → Type 0
+  MayCloseFrom start = (clients : List C) (sessions : List (Session R W)) (client : C) (now : Streams R W) (end : SessionEnd) (a b : WorkerState S)
+      → AreServed clients sessions start a → IsServedAt client (Some now, end) a b → words.clients.closes (inner_of now.reader) (inner_of now.writer) end
+
+  -- a client's reader and writer may be closed after whatever sessions are served from the first on at one of these seats
+  abbrev pub MayClose : List S → Type 0
+  MayClose seats = All (λ seat. MayCloseFrom (worker_state seat [])) seats
+
+  -- at these shelves a worker's end of the queue of clients, at which none was taken yet, and a seat, from which on clients may be closed; and no
+  -- session was noted yet
+  pub record IsReadyToServe (shelves : T) (taker : TakerValue C) (sessions : List (Session R W)) (start : WorkerState S) : Type 0 where
+    pub fits : words.seats.fits shelves start.seat
+    pub none_taken : taker.taken ≡ []
+    pub none_served : sessions ≡ []
+    pub closes : MayCloseFrom start
+
+  -- the clients that were taken from this queue, all who came, were served at a seat of these shelves
+  pub record HaveBeenServed (shelves : T) (queue : QueueId C) (share : TakerValue C × List (Session R W)) (a b : WorkerState S) : Type 0 where
+    pub fits : words.seats.fits shelves b.seat
+    pub queue_is : share.0.queue ≡ queue
+    pub served : AreServed share.0.taken share.1 a b
+    pub exact : (words.seats.shown a.seat).held ≡ None → AreExact share.0.taken share.1 a b
 
   -- a worker's share: the sessions are those of these clients at its seat. If the seat held nothing at first, each profile in them is answered
   -- exactly. All that was ordered in them was asked of these orders, which go the way of this post

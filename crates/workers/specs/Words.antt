@@ -71,3 +71,8 @@ outcomes_of files loader version = record { files = files; loader = loader; vers
 
 abbrev pub loads_of : {F D T L N : Type 0} → FeedWords F D → OutcomeWords D T L N → LoadWords F D T L N
 loads_of feeds outcomes = record { feeds = feeds; outcomes = outcomes }
+
+-- no further client comes, and what held of their source holds still
+pub record IsExhausted {K C : Type 0} (source : SourceWords K C) (before after : K) : Type 0 where
+  pub none_left : source.none_left after
+  pub holds : (fact : source.Fact) → source.holds before fact → source.holds after fact

@@ -1,16 +1,15 @@
 //! The loader: order after order.
 
-ghost use Rattle.std.specs.Prelude.{◌≡◌, ◌≤◌, ◌∷◌, ◌++◌, [], ℕ, OnOk, Option, Result, length};
+ghost use Rattle.std.specs.Prelude.{◌≡◌, [], OnOk};
 ghost use Rattle.std.specs.Io.KnownBytes.{Appends};
 ghost use Rattle.feed_loader.specs.declared.plan.Plan.{Plan};
-ghost use Rattle.load_orders.specs.Answering.{AnsweredValue};
-ghost use Rattle.workers.specs.Carrying.{AreLoaded, FailedAsReported, IsCarriedOut, IsLoadOf};
-ghost use Rattle.workers.specs.Carrying.{load_input_of, handled_order_of, load_value, loads_value};
+ghost use Rattle.workers.specs.Carrying.{Handles, IsLoadOf, load_input_of, load_value, loads_value};
+ghost use Rattle.workers.specs.Drawing.{AreLoadedBy, AreUnread};
 ghost use Rattle.workers.specs.Learned.{LoaderGoesOn};
 ghost use Rattle.workers.specs.Lines.{outcome_line};
-ghost use Rattle.workers.specs.Loading.{IsOutcome, load_answer, load_state};
+ghost use Rattle.workers.specs.Loading.{load_answer};
+ghost use Rattle.workers.specs.Posts.{IsLoaderDone, loader_post_of};
 ghost use Rattle.workers.specs.Words.{files_of, loads_of, outcomes_of};
-ghost use Rattle.workers.specs.declared.drawing.DrawnFiles.{DrawnFiles};
 
 use crate::drawing::{DrawnFiles, UsedFiles};
 use crate::feeds::Feeds;
@@ -47,12 +46,12 @@ impl<'a, R: Wait, N: Drop, T: Versions<Notice = N> + Loads, F: Feeds> LoadContex
     ) -> (LoaderOrders<N>, T::Loader, UsedFiles<F::Files, N>, E)
         requires loads { T.Loads.words.fits self.now.shelves.now seat }
         requires none { (orders.taken ≡ []) × (orders.answered ≡ []) × (used ≡ []) }
-        ensures loads { T.Loads.words.fits self.now.shelves.now result.1 }
-        ensures queue { result.0.queue ≡ orders.queue }
-        ensures loaded { AreLoaded (load_input_of (loads_of F.words
-            (outcomes_of (files_of F.Files.holds F.Files.reads F.Files.failures F.Files.failed) T.Loads.words
-            T.Versions.words.version))
-            self.now.feeds.now result.0.queue) seat (loads_value result.0 result.2) result.1 }
+        ensures { IsLoaderDone (loads_of F.words
+            (outcomes_of
+            (files_of F.Files.holds F.Files.reads F.Files.failures F.Files.failed)
+            T.Loads.words T.Versions.words.version))
+            (loader_post_of self.now.shelves.now seat self.now.feeds.now orders.queue) (loads_value result.0 result.2)
+            result.1 }
     {
         for _ in self.rt.forever() {
             match orders.next(self.rt) {
@@ -77,15 +76,12 @@ impl<'a, R: Wait, N: Drop, T: Versions<Notice = N> + Loads, F: Feeds> LoadContex
     )
         requires { T.Loads.words.fits self.now.shelves.now seat.old }
         ensures seat { LoaderGoesOn T.Loads.words self.now.shelves.now seat.old seat.new }
-        ensures queue { orders.new.queue ≡ orders.old.queue }
-        ensures taken { orders.new.taken ≡ orders.old.taken }
-        ensures carried { (answer : AnsweredValue N) × (files : Option (DrawnFiles F.Files N))
-            × (orders.new.answered ≡ orders.old.answered ++ answer ∷ []) × (used.new ≡ used.old ++ files ∷ [])
-            × IsCarriedOut (load_input_of (loads_of F.words
-            (outcomes_of (files_of F.Files.holds F.Files.reads F.Files.failures F.Files.failed) T.Loads.words
-            T.Versions.words.version))
-            self.now.feeds.now orders.old.queue) (handled_order_of order orders.old.taken files answer) seat.old
-            seat.new }
+        ensures carried { Handles (load_input_of (loads_of F.words
+            (outcomes_of
+            (files_of F.Files.holds F.Files.reads F.Files.failures F.Files.failed)
+            T.Loads.words T.Versions.words.version))
+            self.now.feeds.now orders.old.queue) order (loads_value orders.old used.old, seat.old)
+            (loads_value orders.new used.new, seat.new) }
     {
         let (answer, files) = self.load_at(order.feed, orders, seat, errors);
         used.note(&files);
@@ -104,8 +100,9 @@ impl<'a, R: Wait, N: Drop, T: Versions<Notice = N> + Loads, F: Feeds> LoadContex
         requires { T.Loads.words.fits self.now.shelves.now seat.old }
         ensures seat { LoaderGoesOn T.Loads.words self.now.shelves.now seat.old seat.new }
         ensures load { IsLoadOf (load_input_of (loads_of F.words
-            (outcomes_of (files_of F.Files.holds F.Files.reads F.Files.failures F.Files.failed) T.Loads.words
-            T.Versions.words.version))
+            (outcomes_of
+            (files_of F.Files.holds F.Files.reads F.Files.failures F.Files.failed)
+            T.Loads.words T.Versions.words.version))
             self.now.feeds.now orders.now.queue) (load_value index orders.now.taken result.1
             result.0) seat.old seat.new }
     {
@@ -139,16 +136,13 @@ impl<'a, R: Wait, N: Drop, T: Versions<Notice = N> + Loads, F: Feeds> LoadContex
         seat: &mut T::Loader,
     ) -> Result<(LoadedVersion, Option<N>), LoadRefusal>
         requires loads { T.Loads.words.fits self.now.shelves.now seat.old }
-        requires new { files.old.files ≡ files.old.first.value }
-        requires failures { F.Files.failures files.old.files ≡ 0 }
+        requires unread { AreUnread (files_of F.Files.holds F.Files.reads F.Files.failures F.Files.failed) files.old }
         ensures seat { LoaderGoesOn T.Loads.words self.now.shelves.now seat.old seat.new }
-        ensures first { files.new.first ≡ files.old.first }
-        ensures end { files.new.end ≡ files.old.end }
-        ensures outcome { (plan : Plan) × F.words.is_plan self.now.feeds.now plan
-            × IsOutcome (outcomes_of (files_of F.Files.holds F.Files.reads F.Files.failures F.Files.failed)
+        ensures load { (plan : Plan) × F.words.is_plan self.now.feeds.now plan
+            × AreLoadedBy (outcomes_of
+            (files_of F.Files.holds F.Files.reads F.Files.failures F.Files.failed)
             T.Loads.words T.Versions.words.version)
-            plan (load_state files.new.first.value seat.old) result (load_state files.new.files seat.new)
-            × FailedAsReported F.Files.failures F.Files.failed files.new.first.value files.new.files result }
+            plan (files.old, seat.old) result (files.new, seat.new) }
     {
         match self.feeds.plan(self.alloc) {
             Ok(plan) => files.load(self.alloc, &plan, self.shelves, seat),

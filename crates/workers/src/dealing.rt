@@ -2,6 +2,7 @@
 
 ghost use Rattle.std.specs.Prelude.{◌≡◌, ◌+◌, ◌++◌, List};
 ghost use Rattle.workers.specs.Dealing.{IsClosedFor, IsPutSince};
+ghost use Rattle.workers.specs.Words.{IsExhausted};
 
 use crate::clients::Clients;
 use client_queue::Dealer;
@@ -16,8 +17,7 @@ pub(crate) fn deal_all<R: Wait, C: Drop, K: Clients<C> + Drop>(
     takers: usize,
 ) -> K
     requires { dealer.old.view.closings ≡ 0 }
-    ensures none_left { K.words.none_left result }
-    ensures holds { (fact : K.words.Fact) → K.words.holds clients fact → K.words.holds result fact }
+    ensures source { IsExhausted K.words clients result }
     ensures put { (since : List C) × (K.words.came result ≡ K.words.came clients ++ since)
         × IsClosedFor takers since dealer.old dealer.new }
 {
@@ -33,8 +33,7 @@ fn put_all<R: Wait, C: Drop, K: Clients<C> + Drop>(
     dealer: &mut Dealer<C>,
 ) -> K
     requires { dealer.old.view.closings ≡ 0 }
-    ensures none_left { K.words.none_left result }
-    ensures holds { (fact : K.words.Fact) → K.words.holds clients fact → K.words.holds result fact }
+    ensures source { IsExhausted K.words clients result }
     ensures put { IsPutSince (K.words.came clients) (K.words.came result) dealer.old dealer.new }
 {
     for _ in rt.forever() {

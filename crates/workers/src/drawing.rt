@@ -1,11 +1,9 @@
 //! A feed's files are drawn for an order, and used for that one alone.
 
-ghost use Rattle.std.specs.Prelude.{◌≡◌, ◌<◌, ◌≤◌, ◌-◌, ◌^◌, length, MatchOption};
-ghost use Rattle.connections.specs.declared.days.TheConstants.{MAX_DAYS};
-ghost use Rattle.workers.specs.Carrying.{FailedAsReported};
-ghost use Rattle.workers.specs.Drawing.{IsDrawnAt};
+ghost use Rattle.std.specs.Prelude.{◌≤◌, length, MatchOption};
+ghost use Rattle.workers.specs.Drawing.{AreLoadedBy, AreUnread, IsDrawnAt};
 ghost use Rattle.workers.specs.Learned.{LoaderGoesOn};
-ghost use Rattle.workers.specs.Loading.{IsOutcome, load_state};
+ghost use Rattle.workers.specs.Loading.{HasDays};
 ghost use Rattle.workers.specs.Words.{files_of, outcomes_of};
 
 use crate::feeds::Feeds;
@@ -38,9 +36,9 @@ impl<D: FeedFiles, N: Drop> DrawnFiles<D, N> {
         index: usize,
         orders: &LoaderOrders<N>,
     ) -> Option<DrawnFiles<D, N>>
-        ensures { MatchOption result (length (F.words.named feeds.now) ≤ index) (λ drawn.
-            (drawn.files ≡ drawn.first.value)
-            × (D.failures drawn.files ≡ 0) × F.words.are_files feeds.now index drawn.first.value
+        ensures { MatchOption result (length (F.words.named feeds.now) ≤ index) (λ drawn. AreUnread
+            (files_of D.holds D.reads D.failures D.failed) drawn
+            × F.words.are_files feeds.now index drawn.first.value
             × IsDrawnAt orders.now.queue orders.now.taken drawn) }
     {
         match feeds.files(index) {
@@ -62,17 +60,12 @@ impl<D: FeedFiles, N: Drop> DrawnFiles<D, N> {
         loader: &mut T::Loader,
     ) -> Result<(LoadedVersion, Option<N>), LoadRefusal>
         requires loads { T.Loads.words.fits shelves.now loader.old }
-        requires new { self.old.files ≡ self.old.first.value }
-        requires failures { D.failures self.old.files < 2 ^ 64 - 1 }
-        requires some { 1 ≤ plan.now.days }
-        requires few { plan.now.days ≤ MAX_DAYS }
+        requires unread { AreUnread (files_of D.holds D.reads D.failures D.failed) self.old }
+        requires days { HasDays plan.now }
         ensures seat { LoaderGoesOn T.Loads.words shelves.now loader.old loader.new }
-        ensures first { self.new.first ≡ self.old.first }
-        ensures end { self.new.end ≡ self.old.end }
-        ensures outcome { IsOutcome (outcomes_of
-            (files_of D.holds D.reads D.failures D.failed) T.Loads.words T.Versions.words.version)
-            plan.now (load_state self.new.first.value loader.old) result (load_state self.new.files loader.new) }
-        ensures failed_so { FailedAsReported D.failures D.failed self.new.first.value self.new.files result }
+        ensures load { AreLoadedBy (outcomes_of (files_of D.holds D.reads D.failures D.failed)
+            T.Loads.words T.Versions.words.version)
+            plan.now (self.old, loader.old) result (self.new, loader.new) }
     {
         load_one(alloc, &mut self.files, plan, shelves, loader)
     }

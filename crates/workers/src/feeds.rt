@@ -1,8 +1,8 @@
 //! The feeds that may be ordered.
 
-ghost use Rattle.std.specs.Prelude.{◌≡◌, ◌≤◌, length, IfOk, IfErr, MatchOption};
-ghost use Rattle.connections.specs.declared.days.TheConstants.{MAX_DAYS};
+ghost use Rattle.std.specs.Prelude.{◌≡◌, ◌≤◌, length, IfOk, MatchOption, MatchResult};
 ghost use Rattle.feed_loader.specs.declared.plan.Plan.{Plan};
+ghost use Rattle.workers.specs.Loading.{HasDays};
 ghost use Rattle.workers.specs.Words.{FeedWords};
 
 use crate::loading::LoadedVersion;
@@ -27,10 +27,9 @@ pub trait Feeds {
     /// The plan by which the next feed is loaded. It is asked for anew before each load, since it may depend on a
     /// clock. Running out of memory is the only error, and even then there is such a plan.
     fn plan(&self, alloc: Global) -> Result<Plan, AllocError>
-        ensures plan { IfOk result (words.is_plan self.now) }
-        ensures some { IfOk result (λ plan. 1 ≤ plan.days) }
-        ensures few { IfOk result (λ plan. plan.days ≤ MAX_DAYS) }
-        ensures possible { IfErr result (λ _. (plan : Plan) × words.is_plan self.now plan) };
+        ensures plan { MatchResult result (words.is_plan self.now)
+            (λ _. (plan : Plan) × words.is_plan self.now plan) }
+        ensures days { IfOk result HasDays };
 
     /// The files of the feed at the index, of which no read has failed yet. None only where there is no such feed.
     fn files(&self, index: usize) -> Option<Self::Files>

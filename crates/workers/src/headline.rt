@@ -1,8 +1,8 @@
 //! Workers at shelves without a lock, under a name that the caller picks.
 
 ghost use Rattle.std.specs.Prelude.{◌≡◌, [], All, IfOk};
-ghost use Rattle.epochs.specs.Pinned.{PinnedAreLeftAlone};
-ghost use Rattle.workers.specs.Headline.{AllLoaded, AllServed, AreReadyAt, IsLeftAt, KnowOneHistory, server_input_of};
+ghost use Rattle.workers.specs.Headline.{AllLoaded, AllServed, AreReadyAt, IsLeftAt, KnowOneHistory};
+ghost use Rattle.workers.specs.Headline.{PinnedAreLeftAloneAt, server_input_of};
 ghost use Rattle.workers.specs.Sessions.{MayClose};
 ghost use Rattle.epochs.specs.ShelfWords.{shelf_loader, shelf_seats};
 ghost use Rattle.workers.specs.Words.{files_of, loads_of, outcomes_of, sessions_of};
@@ -29,7 +29,8 @@ use std::thread::Threads;
 /// `station_answers::answer_between`. Each clause is one name of `specs/Headline.antt`, `Sessions` or `epochs`:
 ///
 /// - `ready`: 1 to 16 seats and the loader's are of these shelves.
-/// - `closes`: a client's reader and writer may be closed after whatever session may be served over them.
+/// - `closes`: a client's reader and writer may be closed after whatever sessions are served from the first on at one
+///   of these seats, as those of a session that ended as the last one did.
 /// - `left`: no further client comes, and what held of their source holds still; the seats are of these shelves, and
 ///   the histories that `served` and `loaded` speak of are one.
 /// - `served`: each client who came was dealt to exactly one worker and had one session at its seat. Each line that was
@@ -37,7 +38,7 @@ use std::thread::Threads;
 ///   published as the version that the reply names.
 /// - `loaded`: the loader took exactly the orders that the sessions put, each once, and carried out each. Each image
 ///   that it published is that of the bytes that the files of the ordered feed gave.
-/// - `pinned`: no image is collected while a seat has it pinned.
+/// - `pinned`: no image is collected while a seat of these shelves has it pinned.
 pub fn run_shelves<
     B: ShelvesName + Send + Sync,
     C: Client + Drop + Send,
@@ -62,7 +63,7 @@ pub fn run_shelves<
     WorkersFault,
 >
     requires ready { AreReadyAt B.table (server_input_of clients shelves seats.items loader feeds.now) }
-    requires closes { MayClose (sessions_of form C.words C.Reader.remaining C.Writer.contents shelf_seats) shelves }
+    requires closes { MayClose (sessions_of form C.words C.Reader.remaining C.Writer.contents shelf_seats) seats.items }
     ensures left { IfOk result (IsLeftAt K.words (server_input_of clients shelves seats.items loader feeds.now)) }
     ensures served { IfOk result (AllServed (sessions_of form C.words C.Reader.remaining C.Writer.contents shelf_seats)
         K.words F.words (server_input_of clients shelves seats.items loader feeds.now)) }
@@ -70,9 +71,9 @@ pub fn run_shelves<
         (outcomes_of (files_of F.Files.holds F.Files.reads F.Files.failures F.Files.failed) shelf_loader
         shelf_seats.version))
         (server_input_of clients shelves seats.items loader feeds.now)) }
-    ensures pinned { PinnedAreLeftAlone }
+    ensures pinned { PinnedAreLeftAloneAt shelves }
 {
-    pinned_images_are_left_alone();
+    know_pins(&shelves);
     let room = Vec::with_capacity(alloc, seats.len())?;
     let seats = named_seats::<B>(alloc, seats)?;
     let shelves = NamedShelves::<B>::of(shelves);
@@ -92,6 +93,13 @@ pub fn run_shelves<
         asked: run_result.asked,
         used: run_result.used,
     })
+}
+
+// Does nothing: its contract is the law that no image is collected while a seat of these shelves has it pinned.
+fn know_pins(shelves: &Shelves)
+    ensures { PinnedAreLeftAloneAt shelves.now }
+{
+    pinned_images_are_left_alone();
 }
 
 // Does nothing: its contract is the law that what the seats know are beginnings of one history.

@@ -1,15 +1,12 @@
 //! A feed is loaded and published.
 
-ghost use Rattle.std.specs.Prelude.{◌≡◌, ◌<◌, ◌≤◌, ◌+◌, ◌-◌, ◌^◌, IfOk, IfErr, MatchOption, MatchResult, OnOk};
+ghost use Rattle.std.specs.Prelude.{◌≡◌, ◌<◌, ◌-◌, ◌^◌, IfOk, MatchOption, MatchResult};
 ghost use Rattle.std.specs.Arc.{arc_value};
-ghost use Rattle.connections.specs.declared.days.TheConstants.{MAX_DAYS};
-ghost use Rattle.feed_files.specs.Reading.{Content};
-ghost use Rattle.feed_files.specs.Reads.{AllWereRead, SomeWereRead};
-ghost use Rattle.feed_loader.specs.Faults.{failed_by, failed_in};
+ghost use Rattle.feed_files.specs.Reads.{SomeWereRead};
 ghost use Rattle.epochs.specs.Seats.{RefuseStep};
 ghost use Rattle.workers.specs.Learned.{LoaderGoesOn};
-ghost use Rattle.workers.specs.Loading.{ShowsContent, reading};
-ghost use Rattle.workers.specs.Loading.{IsEarly, IsImageOf, IsOutcome, IsPublished, IsRefusalOf, load_state};
+ghost use Rattle.workers.specs.Loading.{FilesGoOn, HasDays, IsEarly, IsMadeOf, IsOutcome, IsPublished, IsRefusalOf};
+ghost use Rattle.workers.specs.Loading.{load_state};
 ghost use Rattle.workers.specs.Words.{files_of, outcomes_of};
 
 use crate::refusal::LoadRefusal;
@@ -37,14 +34,11 @@ pub fn load_one<F: FeedFiles, N, T: Versions<Notice = N> + Loads>(
 ) -> Result<(LoadedVersion, Option<N>), LoadRefusal>
     requires loads { T.Loads.words.fits shelves.now loader.old }
     requires failures { F.failures files.old < 2 ^ 64 - 1 }
-    requires some { 1 ≤ plan.now.days }
-    requires few { plan.now.days ≤ MAX_DAYS }
+    requires days { HasDays plan.now }
     ensures seat { LoaderGoesOn T.Loads.words shelves.now loader.old loader.new }
-    ensures same { F.holds files.new ≡ F.holds files.old }
-    ensures failures { F.failures files.new ≡ F.failures files.old + failed_in (reading result) }
-    ensures failed { F.failed files.new ≡ failed_by (F.failed files.old) (reading result) }
-    ensures outcome { IsOutcome (outcomes_of (files_of F.holds F.reads F.failures F.failed) T.Loads.words
-        T.Versions.words.version)
+    ensures files { FilesGoOn (files_of F.holds F.reads F.failures F.failed) files.old result files.new }
+    ensures outcome { IsOutcome (outcomes_of (files_of F.holds F.reads F.failures F.failed)
+        T.Loads.words T.Versions.words.version)
         plan.now (load_state files.old loader.old) result (load_state files.new loader.new) }
 {
     match shared_image(alloc, files, plan) {
@@ -63,19 +57,14 @@ fn shared_image<F: FeedFiles>(
     plan: &Plan,
 ) -> Result<(Arc<Verified, Global>, Report), LoadRefusal>
     requires failures { F.failures files.old < 2 ^ 64 - 1 }
-    requires some { 1 ≤ plan.now.days }
-    requires few { plan.now.days ≤ MAX_DAYS }
-    ensures same { F.holds files.new ≡ F.holds files.old }
-    ensures failures { F.failures files.new ≡ F.failures files.old + failed_in (reading result) }
-    ensures failed { F.failed files.new ≡ failed_by (F.failed files.old) (reading result) }
-    ensures all_read { OnOk result (AllWereRead (F.reads files.old) (F.reads files.new)) }
-    ensures first_read { SomeWereRead (F.reads files.old) (F.reads files.new) }
-    ensures ok { (content : Content) → ShowsContent (F.holds files.old) (F.reads files.old)
-        (F.reads files.new) content
-        → IfOk result (λ made. IsImageOf content plan.now (arc_value made.0) made.1) }
-    ensures err { IfErr result
-        (IsRefusalOf (F.holds files.old) (F.reads files.old) (F.reads files.new) plan.now) }
-    ensures early { IfErr result IsEarly }
+    requires days { HasDays plan.now }
+    ensures files { FilesGoOn (files_of F.holds F.reads F.failures F.failed) files.old result files.new }
+    ensures read { SomeWereRead (F.reads files.old) (F.reads files.new) }
+    ensures made { MatchResult result
+        (λ made. IsMadeOf (F.holds files.old) (F.reads files.old) (F.reads files.new) plan.now
+        (arc_value made.0, made.1))
+        (λ refusal. IsEarly refusal
+        × IsRefusalOf (F.holds files.old) (F.reads files.old) (F.reads files.new) plan.now refusal) }
 {
     let (image, report) = match load(alloc, files, plan) {
         Ok(made) => made,

@@ -2,10 +2,10 @@
 
 ghost use denote.Param.Send.{IsSend, IsSync};
 ghost use Rattle.std.specs.Prelude.{◌≡◌, ◌++◌, ◌∷◌, [], IfOk, OnOk};
-ghost use Rattle.workers.specs.Carrying.{AreLoaded, load_input_of, loads_value};
-ghost use Rattle.workers.specs.Headline.{AllLoaded, AllServed, AreReady, IsLeft, server_input_of};
-ghost use Rattle.workers.specs.Ordering.{route_to};
-ghost use Rattle.workers.specs.Sessions.{IsShare, MayClose, worker_start, share_of};
+ghost use Rattle.workers.specs.Carrying.{loads_value};
+ghost use Rattle.workers.specs.Headline.{AreReady, IsRun, server_input_of};
+ghost use Rattle.workers.specs.Posts.{IsLoaderDone, IsWorked, loader_post_of, place_of, post_of};
+ghost use Rattle.workers.specs.Sessions.{IsReadyToServe, MayClose, share_of, worker_state};
 ghost use Rattle.workers.specs.Words.{files_of, loads_of, outcomes_of, sessions_of};
 
 use crate::carrying::LoadContext;
@@ -15,7 +15,7 @@ use crate::feeds::Feeds;
 use crate::outcome::ServingOutcome;
 use crate::served::Served;
 use crate::serving::SessionWorker;
-use crate::shares::{LoadsAt, RouteTo, Share, ShareAt, close_and_join, deal_and_join};
+use crate::shares::{LoaderPost, Share, WorkerPost, close_and_join, deal_and_join};
 use client_queue::client_queue;
 use epochs::{Loads, Versions};
 use load_orders::{GhostList, LoaderOrders, UsedOrders, WorkerOrders, order_queue};
@@ -70,20 +70,13 @@ where
     T::Seat: Send + Drop,
     T::Loader: Send + Drop,
     T::Notice: Send + Drop,
-    requires ready { AreReady
-        T.Versions.words T.Loads.words
+    requires ready { AreReady T.Versions.words T.Loads.words
         (server_input_of clients shelves.now seats.items loader feeds.now) }
     requires closes { MayClose (sessions_of form C.words C.Reader.remaining C.Writer.contents T.Versions.words)
-        shelves.now }
-    ensures left { IfOk result (IsLeft
-        T.Versions.words T.Loads.words K.words
-        (server_input_of clients shelves.now seats.items loader feeds.now)) }
-    ensures served { IfOk result (AllServed (sessions_of form C.words C.Reader.remaining C.Writer.contents
-        T.Versions.words) K.words F.words
-        (server_input_of clients shelves.now seats.items loader feeds.now)) }
-    ensures loaded { IfOk result (AllLoaded (loads_of F.words
-        (outcomes_of (files_of F.Files.holds F.Files.reads F.Files.failures F.Files.failed) T.Loads.words
-        T.Versions.words.version))
+        seats.items }
+    ensures { IfOk result (IsRun (sessions_of form C.words C.Reader.remaining C.Writer.contents T.Versions.words)
+        K.words (loads_of F.words (outcomes_of
+        (files_of F.Files.holds F.Files.reads F.Files.failures F.Files.failed) T.Loads.words T.Versions.words.version))
         (server_input_of clients shelves.now seats.items loader feeds.now)) }
 {
     thread::scope(
@@ -97,46 +90,39 @@ where
                 × IsSend T.Loader.row
                 × IsSend T.Notice.row × IsSend C.row × IsSend C.Reader.row × IsSend C.Writer.row
                 × IsSend F.Files.row × IsSend E.row
-                × AreReady
-                T.Versions.words T.Loads.words
+                × AreReady T.Versions.words T.Loads.words
                 (server_input_of clients shelves.now seats.items loader feeds.now)
                 × MayClose (sessions_of form C.words C.Reader.remaining C.Writer.contents T.Versions.words)
-                shelves.now }
-            ensures left { IfOk result (IsLeft
-                T.Versions.words T.Loads.words K.words
-                (server_input_of clients shelves.entry.now seats.items loader feeds.entry.now)) }
-            ensures served { IfOk result (AllServed
+                seats.items }
+            ensures { IfOk result (IsRun
                 (sessions_of form C.words C.Reader.remaining C.Writer.contents T.Versions.words)
-                K.words F.words
-                (server_input_of clients shelves.entry.now seats.items loader feeds.entry.now)) }
-            ensures loaded { IfOk result (AllLoaded
-                (loads_of F.words (outcomes_of
-                (files_of F.Files.holds F.Files.reads F.Files.failures F.Files.failed) T.Loads.words
-                T.Versions.words.version))
+                K.words (loads_of F.words (outcomes_of
+                (files_of F.Files.holds F.Files.reads F.Files.failures F.Files.failed)
+                T.Loads.words T.Versions.words.version))
                 (server_input_of clients shelves.entry.now seats.items loader feeds.entry.now)) }
         {
             let mut dealer = client_queue(alloc)?;
             let room = Vec::with_capacity(alloc, seats.len())?;
             let (mut asks, orders) = order_queue(alloc)?;
             let loader_seat = loader;
-            let promise = LoadsAt::<T, F, T::Notice>::of(shelves, &loader_seat, feeds, &orders);
-            let route = RouteTo::of(&asks, feeds);
+            let loader_post = LoaderPost::of(shelves, &loader_seat, feeds, &orders);
             // Made here, since what a thread returns has to be of types that it captures.
             let unused = GhostList::none();
             let started = scope.spawn_with(
-                promise,
+                loader_post,
                 move || -> (
                     LoaderOrders<T::Notice>,
                     T::Loader,
                     UsedFiles<F::Files, T::Notice>,
                 )
-                    requires { T.Loads.words.fits shelves.now loader_seat × (orders.taken ≡ []) × (orders.answered ≡ [])
-                        × (unused ≡ []) }
-                    ensures { T.Loads.words.fits shelves.entry.now result.1 × (result.0.queue ≡ orders.queue)
-                        × AreLoaded (load_input_of (loads_of F.words
-                        (outcomes_of (files_of F.Files.holds F.Files.reads F.Files.failures F.Files.failed)
+                    requires { T.Loads.words.fits shelves.now loader_seat
+                        × (orders.taken ≡ []) × (orders.answered ≡ []) × (unused ≡ []) }
+                    ensures { IsLoaderDone
+                        (loads_of F.words (outcomes_of
+                        (files_of F.Files.holds F.Files.reads F.Files.failures F.Files.failed)
                         T.Loads.words T.Versions.words.version))
-                        feeds.entry.now result.0.queue) loader_seat (loads_value result.0 result.2) result.1 }
+                        (loader_post_of shelves.entry.now loader_seat feeds.entry.now orders.queue)
+                        (loads_value result.0 result.2) result.1 }
                 {
                     let loading = LoadContext {
                         rt,
@@ -161,20 +147,19 @@ where
                 let taker = dealer.taker()?;
                 let end = asks.another_end()?;
                 // Made here too.
-                let none_held_yet = Served::new();
-                let way = RouteTo::of(&end, feeds);
+                let none_served_yet = Served::new();
+                let worker_post = WorkerPost::of(shelves, form, &taker, feeds, &end, &seat);
                 let begun = scope.spawn_with(
-                    ShareAt::<C, T::Notice, T, F>::of(shelves, &taker, &seat, form, way),
+                    worker_post,
                     move || -> (Share<C, T::Seat>, UsedOrders<T::Notice>)
-                        requires { T.Versions.words.fits shelves.now seat × (taker.taken ≡ []) × (none_held_yet ≡ [])
-                            × (end.items ≡ [])
-                            × MayClose (sessions_of form C.words C.Reader.remaining C.Writer.contents T.Versions.words)
-                            shelves.now }
-                        ensures { (result.0.taker.queue ≡ taker.queue)
-                            × T.Versions.words.fits shelves.entry.now result.0.seat
-                            × IsShare (sessions_of form C.words C.Reader.remaining C.Writer.contents T.Versions.words)
-                            (worker_start seat (route_to (F.words.named feeds.entry.now) end.queue))
-                            result.0.taker.taken (share_of result.0.served result.0.seat result.1) }
+                        requires { IsReadyToServe
+                            (sessions_of form C.words C.Reader.remaining C.Writer.contents T.Versions.words)
+                            shelves.now taker none_served_yet (worker_state seat [])
+                            × (end.items ≡ []) }
+                        ensures { IsWorked
+                            (sessions_of form C.words C.Reader.remaining C.Writer.contents T.Versions.words) F.words
+                            (post_of (place_of shelves.entry.now form taker.queue feeds.entry.now end.queue) seat)
+                            result.0.taker (share_of result.0.served result.0.seat result.1) }
                     {
                         let session_server = SessionServer {
                             alloc,
@@ -184,7 +169,7 @@ where
                         };
                         let orders = WorkerOrders::new(rt, alloc, feeds.names(), shelves, end);
                         let worker = SessionWorker { rt, session_server };
-                        let (share, orders) = worker.work(taker, seat, orders, none_held_yet);
+                        let (share, orders) = worker.work(taker, seat, orders, none_served_yet);
                         (share, orders.into_used())
                     },
                 );
@@ -194,7 +179,7 @@ where
                 push_worker(&mut workers, worker)?;
             }
             let served = deal_and_join(
-                rt, shelves, form, clients, dealer, workers, room, &mut asks, route,
+                rt, shelves, form, feeds, clients, dealer, workers, room, &mut asks,
             );
             match served {
                 Ok((clients, served, seats, asked)) => match close_and_join(rt, asks, loading) {

@@ -1,9 +1,9 @@
 //! A worker: client after client on its seat.
 
-ghost use Rattle.std.specs.Prelude.{◌≡◌, ◌∷◌, ◌++◌, [], None, IfSome};
+ghost use Rattle.std.specs.Prelude.{◌≡◌, ◌∷◌, ◌++◌, [], IfSome};
 ghost use Rattle.lines.specs.Counting.{inner_of};
 ghost use Rattle.session.specs.Exchanges.{AgreeOnNotices};
-ghost use Rattle.workers.specs.Sessions.{AreExact, AreServed, IsServedAt, MayClose, worker_state};
+ghost use Rattle.workers.specs.Sessions.{HaveBeenServed, IsReadyToServe, IsServedAt, worker_state};
 ghost use Rattle.workers.specs.Words.{sessions_of};
 
 use crate::clients::{Client, ConnFault};
@@ -69,22 +69,14 @@ impl<'a, R: Wait, N: Drop, T: Versions<Notice = N>, G: Gate> SessionWorker<'a, R
         mut orders: O,
         mut served: Served<C::Reader, C::Writer>,
     ) -> (Share<C, T::Seat>, O)
-        requires fits { T.words.fits self.now.session_server.shelves.now seat }
+        requires ready { IsReadyToServe (sessions_of self.now.session_server.form C.words C.Reader.remaining
+            C.Writer.contents T.words)
+            self.now.session_server.shelves.now taker served (worker_state seat (O.asked orders)) }
         requires notices { AgreeOnNotices O.notice_version T.words.version }
-        requires none { (taker.taken ≡ []) × (served ≡ []) }
-        requires closes { MayClose (sessions_of self.now.session_server.form C.words C.Reader.remaining
-            C.Writer.contents T.words)
-            self.now.session_server.shelves.now }
-        ensures fits { T.words.fits self.now.session_server.shelves.now result.0.seat }
-        ensures queue { result.0.taker.queue ≡ taker.queue }
         ensures route { O.route result.1 ≡ O.route orders }
-        ensures served { AreServed (sessions_of self.now.session_server.form C.words C.Reader.remaining
+        ensures served { HaveBeenServed (sessions_of self.now.session_server.form C.words C.Reader.remaining
             C.Writer.contents T.words)
-            result.0.taker.taken result.0.served
-            (worker_state seat (O.asked orders)) (worker_state result.0.seat (O.asked result.1)) }
-        ensures exact { (T.words.shown seat).held ≡ None → AreExact
-            (sessions_of self.now.session_server.form C.words C.Reader.remaining C.Writer.contents T.words)
-            result.0.taker.taken result.0.served
+            self.now.session_server.shelves.now taker.queue (result.0.taker, result.0.served)
             (worker_state seat (O.asked orders)) (worker_state result.0.seat (O.asked result.1)) }
     {
         for _ in self.rt.forever() {

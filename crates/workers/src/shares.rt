@@ -1,11 +1,11 @@
 //! What the workers and the loader hand on when they are joined.
 
-ghost use Rattle.std.specs.Prelude.{◌≡◌, ◌≤◌, [], All, IsPermutation, length, map, IfOk, IfSome};
+ghost use Rattle.std.specs.Prelude.{◌≡◌, IsPermutation, length, map, IfOk, IfSome};
 ghost use Rattle.client_queue.specs.Ends.{nothing_put};
-ghost use Rattle.workers.specs.Carrying.{AreLoaded, load_input_of, loads_value};
-ghost use Rattle.workers.specs.Ordering.{GoesBy, IsKeeperOf, put_by, route_to};
+ghost use Rattle.workers.specs.Carrying.{loads_value};
+ghost use Rattle.workers.specs.Posts.{AreBack, AreOut, IsLoaderDone, place_of, route_at};
 ghost use Rattle.workers.specs.Sessions.{AreAllServed, AreServedSince, IsReadyToJoin, worker_starts, work_of};
-ghost use Rattle.workers.specs.Words.{files_of, loads_of, outcomes_of, sessions_of};
+ghost use Rattle.workers.specs.Words.{IsExhausted, files_of, loads_of, outcomes_of, sessions_of};
 
 use crate::clients::{Client, Clients};
 use crate::dealing::deal_all;
@@ -18,6 +18,7 @@ use epochs::{Loads, Versions};
 use feed_loader::FeedFiles;
 use load_orders::{GhostList, LoaderOrders, OrderEnd, OrderKeeper, UsedLoader, UsedOrders};
 use session::ReplyForm;
+use std::marker::Model;
 use std::snapshot::Snapshot;
 use std::sync::Wait;
 use std::thread::{Promise, PromisedHandle, Threads};
@@ -30,103 +31,99 @@ pub(crate) struct Share<C: Client + Drop, S> {
     pub seat: S,
 }
 
-/// Where workers' orders go, as contracts see it: to the queue of this end, for these feeds.
+/// A worker's post, which is the promise of its thread: at its seat of these shelves the worker serves the clients that
+/// it takes at this end of their queue, with replies in this form, and asks for loads of these feeds at this end of the
+/// queue of orders.
 #[derive(Drop)]
-pub(crate) struct RouteTo<E, F> {
-    pub end: Snapshot<E>,
-    pub feeds: Snapshot<F>,
+pub(crate) struct WorkerPost<C: Drop, N: Drop, T, S, F> {
+    shelves: Snapshot<T>,
+    form: ReplyForm,
+    taker: Snapshot<Taker<C>>,
+    feeds: Snapshot<F>,
+    end: Snapshot<OrderEnd<N>>,
+    seat: Snapshot<S>,
 }
 
-impl<E, F> RouteTo<E, F> {
-    /// To the queue of this end, for these feeds.
-    pub(crate) fn of(end: &E, feeds: &F) -> RouteTo<E, F>
-        ensures end { result.end.value ≡ end.now }
-        ensures feeds { result.feeds.value ≡ feeds.now }
-    {
-        RouteTo {
-            end: Snapshot::of(end),
-            feeds: Snapshot::of(feeds),
-        }
-    }
+impl<C: Drop, N: Drop, T, S, F> Model for WorkerPost<C, N, T, S, F> {
+    ghost use Rattle.workers.specs.Posts.{PostValue, place_of, post_of};
+
+    ghost Value = { PostValue T S C N F };
+
+    ghost view = { λ post. post_of
+        (place_of post.shelves.value post.form post.taker.value.queue post.feeds.value post.end.value.queue)
+        post.seat.value };
 }
 
-/// The promise of a worker's thread: the worker's share is the sessions of the clients that it took at this end of the
-/// queue, served at its seat of these shelves, from what the seat was when the worker began, with replies in this form;
-/// and it asked for loads by orders that go this way.
-#[derive(Drop)]
-pub(crate) struct ShareAt<C: Drop, N: Drop, T: Versions, F> {
-    pub shelves: Snapshot<T>,
-    pub taker: Snapshot<Taker<C>>,
-    pub seat: Snapshot<T::Seat>,
-    pub form: ReplyForm,
-    pub route: RouteTo<OrderEnd<N>, F>,
-}
+impl<C: Drop, N: Drop, T, S, F> WorkerPost<C, N, T, S, F> {
+    ghost use Rattle.workers.specs.Posts.{place_of, post_of};
 
-impl<C: Drop, N: Drop, T: Versions, F> ShareAt<C, N, T, F> {
-    /// At this end of the queue and this seat of these shelves, as they are now.
+    /// With what is given as it is now.
     pub(crate) fn of(
         shelves: &T,
-        taker: &Taker<C>,
-        seat: &T::Seat,
         form: ReplyForm,
-        route: RouteTo<OrderEnd<N>, F>,
-    ) -> ShareAt<C, N, T, F>
-        ensures shelves { result.shelves.value ≡ shelves.now }
-        ensures taker { result.taker.value ≡ taker.now }
-        ensures seat { result.seat.value ≡ seat.now }
-        ensures form { result.form ≡ form }
-        ensures route { result.route ≡ route }
+        taker: &Taker<C>,
+        feeds: &F,
+        end: &OrderEnd<N>,
+        seat: &S,
+    ) -> WorkerPost<C, N, T, S, F>
+        ensures { result
+            ≡ post_of (place_of shelves.now form taker.now.queue feeds.now end.now.queue) seat.now }
     {
-        ShareAt {
+        WorkerPost {
             shelves: Snapshot::of(shelves),
-            taker: Snapshot::of(taker),
-            seat: Snapshot::of(seat),
             form,
-            route,
+            taker: Snapshot::of(taker),
+            feeds: Snapshot::of(feeds),
+            end: Snapshot::of(end),
+            seat: Snapshot::of(seat),
         }
     }
 }
 
-impl<C: Client + Drop, S, N: Drop, T: Versions<Seat = S, Notice = N>, F: Feeds> Promise<
+impl<C: Client + Drop, N: Drop, S, T: Versions<Seat = S, Notice = N>, F: Feeds> Promise<
     (Share<C, S>, UsedOrders<N>),
-> for ShareAt<C, N, T, F> {
-    ghost use Rattle.std.specs.Prelude.{◌≡◌};
-    ghost use Rattle.workers.specs.Ordering.{route_to};
-    ghost use Rattle.workers.specs.Sessions.{IsShare, worker_start, share_of};
-    ghost use Rattle.workers.specs.Words.{sessions_of};
+> for WorkerPost<C, N, T, S, F> {
+    ghost use Rattle.workers.specs.Posts.{IsWorked};
+    ghost use Rattle.workers.specs.Sessions.{share_of};
+    ghost use Rattle.workers.specs.Words.{files_of, sessions_of};
 
-    ghost kept_by = { λ promise done. (done.0.taker.queue ≡ promise.taker.value.queue)
-        × T.words.fits promise.shelves.value done.0.seat
-        × IsShare (sessions_of promise.form C.words C.Reader.remaining C.Writer.contents T.words)
-        (worker_start promise.seat.value
-        (route_to (F.words.named promise.route.feeds.value) promise.route.end.value.queue))
-        done.0.taker.taken (share_of done.0.served done.0.seat done.1) };
+    ghost kept_by = { λ post done. IsWorked
+        (sessions_of post.place.form C.words C.Reader.remaining C.Writer.contents T.words) F.words post done.0.taker
+        (share_of done.0.served done.0.seat done.1) };
 }
 
-/// The promise of the loader's thread: all orders of these feeds that came to the loader were carried out, from what
-/// its seat of these shelves was when it began.
+/// The loader's post, which is the promise of its thread: at its seat of these shelves the loader loads these feeds, as
+/// the orders say that come to this end of their queue.
 #[derive(Drop)]
-pub(crate) struct LoadsAt<T: Loads, F, N: Drop> {
-    pub shelves: Snapshot<T>,
-    pub seat: Snapshot<T::Loader>,
-    pub feeds: Snapshot<F>,
-    pub orders: Snapshot<LoaderOrders<N>>,
+pub(crate) struct LoaderPost<T, L, F, N: Drop> {
+    shelves: Snapshot<T>,
+    seat: Snapshot<L>,
+    feeds: Snapshot<F>,
+    orders: Snapshot<LoaderOrders<N>>,
 }
 
-impl<T: Loads, F, N: Drop> LoadsAt<T, F, N> {
-    /// With this seat of these shelves, as they are now, these feeds, and the queue of this end.
+impl<T, L, F, N: Drop> Model for LoaderPost<T, L, F, N> {
+    ghost use Rattle.workers.specs.Posts.{LoaderPostValue, loader_post_of};
+
+    ghost Value = { LoaderPostValue T L F N };
+
+    ghost view = { λ post. loader_post_of
+        post.shelves.value post.seat.value post.feeds.value post.orders.value.queue };
+}
+
+impl<T, L, F, N: Drop> LoaderPost<T, L, F, N> {
+    ghost use Rattle.workers.specs.Posts.{loader_post_of};
+
+    /// With what is given as it is now.
     pub(crate) fn of(
         shelves: &T,
-        seat: &T::Loader,
+        seat: &L,
         feeds: &F,
         orders: &LoaderOrders<N>,
-    ) -> LoadsAt<T, F, N>
-        ensures shelves { result.shelves.value ≡ shelves.now }
-        ensures seat { result.seat.value ≡ seat.now }
-        ensures feeds { result.feeds.value ≡ feeds.now }
-        ensures orders { result.orders.value ≡ orders.now }
+    ) -> LoaderPost<T, L, F, N>
+        ensures { result ≡ loader_post_of shelves.now seat.now feeds.now orders.now.queue }
     {
-        LoadsAt {
+        LoaderPost {
             shelves: Snapshot::of(shelves),
             seat: Snapshot::of(seat),
             feeds: Snapshot::of(feeds),
@@ -141,16 +138,15 @@ impl<
     D: FeedFiles,
     T: Versions<Notice = N> + Loads<Loader = L>,
     F: Feeds<Files = D>,
-> Promise<(LoaderOrders<N>, L, UsedFiles<D, N>)> for LoadsAt<T, F, N> {
-    ghost use Rattle.std.specs.Prelude.{◌≡◌};
-    ghost use Rattle.workers.specs.Carrying.{AreLoaded, load_input_of, loads_value};
+> Promise<(LoaderOrders<N>, L, UsedFiles<D, N>)> for LoaderPost<T, L, F, N> {
+    ghost use Rattle.workers.specs.Carrying.{loads_value};
+    ghost use Rattle.workers.specs.Posts.{IsLoaderDone};
     ghost use Rattle.workers.specs.Words.{files_of, loads_of, outcomes_of};
 
-    ghost kept_by = { λ promise done. T.Loads.words.fits promise.shelves.value done.1
-        × (done.0.queue ≡ promise.orders.value.queue)
-        × AreLoaded (load_input_of (loads_of F.words
-        (outcomes_of (files_of D.holds D.reads D.failures D.failed) T.Loads.words T.Versions.words.version))
-        promise.feeds.value done.0.queue) promise.seat.value (loads_value done.0 done.2) done.1 };
+    ghost kept_by = { λ post done. IsLoaderDone
+        (loads_of F.words (outcomes_of (files_of D.holds D.reads D.failures D.failed)
+        T.Loads.words T.Versions.words.version))
+        post (loads_value done.0 done.2) done.1 };
 }
 
 /// Puts all clients in the queue, closes it for each worker, and joins the workers. Returns the clients' source, the
@@ -168,12 +164,12 @@ pub(crate) fn deal_and_join<
     rt: &R,
     shelves: &T,
     form: ReplyForm,
+    feeds: &F,
     clients: K,
     mut dealer: Dealer<C>,
-    workers: Vec<PromisedHandle<(Share<C, S>, UsedOrders<N>), ShareAt<C, N, T, F>>>,
+    workers: Vec<PromisedHandle<(Share<C, S>, UsedOrders<N>), WorkerPost<C, N, T, S, F>>>,
     room: Vec<S>,
     asks: &mut OrderKeeper<N>,
-    route: RouteTo<OrderKeeper<N>, F>,
 ) -> Result<
     (
         K,
@@ -183,28 +179,23 @@ pub(crate) fn deal_and_join<
     ),
     WorkersFault,
 >
-    requires shelves { All (λ worker. worker.promise.shelves.value ≡ shelves.now) workers.items }
-    requires forms { All (λ worker. worker.promise.form ≡ form) workers.items }
-    requires queues { All (λ worker. worker.promise.taker.value.queue ≡ dealer.queue) workers.items }
-    requires routes { All (λ worker. GoesBy worker.promise.route route) workers.items }
-    requires some { 1 ≤ length workers.items }
-    requires out { dealer.view ≡ record nothing_put { out = length workers.items } }
-    requires room { room.items ≡ [] }
-    requires keeper { IsKeeperOf route.end.value.queue [] (length workers.items) asks.old }
-    ensures back { IfOk result (λ run_result. IsKeeperOf route.end.value.queue (put_by run_result.3) 0 asks.new) }
-    ensures none_left { IfOk result (λ run_result. K.words.none_left run_result.0) }
-    ensures holds { IfOk result (λ run_result. (fact : K.words.Fact) → K.words.holds clients fact
-        → K.words.holds run_result.0 fact) }
-    ensures fits { IfOk result (λ run_result. All (T.words.fits shelves.now) run_result.2.items) }
+    requires workers { AreOut (λ worker. worker.promise)
+        (place_of shelves.now form dealer.queue feeds.now asks.old.queue) workers.items asks.old room.items }
+    requires dealer { dealer.view ≡ record nothing_put { out = length workers.items } }
+    ensures source { IfOk result (λ run_result. IsExhausted K.words clients run_result.0) }
     ensures served { IfOk result (λ run_result. AreServedSince
         (sessions_of form C.words C.Reader.remaining C.Writer.contents T.words) (K.words.came clients)
         (K.words.came run_result.0)
-        (worker_starts (map (λ worker. worker.promise.seat.value) workers.items)
-        (route_to (F.words.named route.feeds.value) route.end.value.queue))
+        (worker_starts (map (λ worker. worker.promise.seat) workers.items)
+        (route_at F.words (place_of shelves.now form dealer.queue feeds.now asks.old.queue)))
         (work_of run_result.1 run_result.2.items run_result.3)) }
+    ensures back { IfOk result (λ run_result. AreBack
+        (sessions_of form C.words C.Reader.remaining C.Writer.contents T.words)
+        (place_of shelves.now form dealer.queue feeds.now asks.old.queue)
+        (work_of run_result.1 run_result.2.items run_result.3) asks.new) }
 {
     let source = deal_all(rt, clients, &mut dealer, workers.len());
-    match join_workers(rt, shelves, form, dealer, workers, room, asks, route) {
+    match join_workers(rt, shelves, form, feeds, dealer, workers, room, asks) {
         Ok((served, seats, orders)) => Ok((source, served, seats, orders)),
         Err(fault) => Err(fault),
     }
@@ -223,11 +214,11 @@ fn join_workers<
     rt: &R,
     shelves: &T,
     form: ReplyForm,
+    feeds: &F,
     mut dealer: Dealer<C>,
-    workers: Vec<PromisedHandle<(Share<C, S>, UsedOrders<N>), ShareAt<C, N, T, F>>>,
+    workers: Vec<PromisedHandle<(Share<C, S>, UsedOrders<N>), WorkerPost<C, N, T, S, F>>>,
     room: Vec<S>,
     asks: &mut OrderKeeper<N>,
-    route: RouteTo<OrderKeeper<N>, F>,
 ) -> Result<
     (
         Served<C::Reader, C::Writer>,
@@ -236,21 +227,18 @@ fn join_workers<
     ),
     WorkersFault,
 >
-    requires shelves { All (λ worker. worker.promise.shelves.value ≡ shelves.now) workers.items }
-    requires forms { All (λ worker. worker.promise.form ≡ form) workers.items }
-    requires queues { All (λ worker. worker.promise.taker.value.queue ≡ dealer.queue) workers.items }
-    requires routes { All (λ worker. GoesBy worker.promise.route route) workers.items }
-    requires some { 1 ≤ length workers.items }
-    requires out { IsReadyToJoin dealer.view (length workers.items) }
-    requires room { room.items ≡ [] }
-    requires keeper { IsKeeperOf route.end.value.queue [] (length workers.items) asks.old }
-    ensures back { IfOk result (λ joined. IsKeeperOf route.end.value.queue (put_by joined.2) 0 asks.new) }
-    ensures fits { IfOk result (λ joined. All (T.words.fits shelves.now) joined.1.items) }
+    requires workers { AreOut (λ worker. worker.promise)
+        (place_of shelves.now form dealer.queue feeds.now asks.old.queue) workers.items asks.old room.items }
+    requires dealer { IsReadyToJoin dealer.view (length workers.items) }
     ensures served { IfOk result (λ joined. AreAllServed
         (sessions_of form C.words C.Reader.remaining C.Writer.contents T.words) dealer.view.sent
-        (worker_starts (map (λ worker. worker.promise.seat.value) workers.items)
-        (route_to (F.words.named route.feeds.value) route.end.value.queue))
+        (worker_starts (map (λ worker. worker.promise.seat) workers.items)
+        (route_at F.words (place_of shelves.now form dealer.queue feeds.now asks.old.queue)))
         (work_of joined.0 joined.1.items joined.2)) }
+    ensures back { IfOk result (λ joined. AreBack
+        (sessions_of form C.words C.Reader.remaining C.Writer.contents T.words)
+        (place_of shelves.now form dealer.queue feeds.now asks.old.queue)
+        (work_of joined.0 joined.1.items joined.2) asks.new) }
 {
     let mut served = Served::new();
     let mut seats = room;
@@ -292,16 +280,15 @@ pub(crate) fn close_and_join<
 >(
     rt: &R,
     mut asks: OrderKeeper<N>,
-    loading: PromisedHandle<(LoaderOrders<N>, L, UsedFiles<D, N>), LoadsAt<T, F, N>>,
+    loading: PromisedHandle<(LoaderOrders<N>, L, UsedFiles<D, N>), LoaderPost<T, L, F, N>>,
 ) -> Option<(UsedLoader<N>, L, UsedFiles<D, N>)>
-    requires queue { loading.promise.orders.value.queue ≡ asks.queue }
+    requires queue { loading.promise.queue ≡ asks.queue }
     requires back { asks.out ≡ 0 }
     ensures all { IfSome result (λ done. IsPermutation asks.put done.0.taken) }
-    ensures queue { IfSome result (λ done. done.0.queue ≡ asks.queue) }
-    ensures loads { IfSome result (λ done. T.Loads.words.fits loading.promise.shelves.value done.1) }
-    ensures loaded { IfSome result (λ done. AreLoaded (load_input_of (loads_of F.words
-        (outcomes_of (files_of D.holds D.reads D.failures D.failed) T.Loads.words T.Versions.words.version))
-        loading.promise.feeds.value done.0.queue) loading.promise.seat.value (loads_value done.0 done.2) done.1) }
+    ensures loaded { IfSome result (λ done. IsLoaderDone
+        (loads_of F.words (outcomes_of (files_of D.holds D.reads D.failures D.failed)
+        T.Loads.words T.Versions.words.version))
+        loading.promise (loads_value done.0 done.2) done.1) }
 {
     asks.close(rt);
     let (orders, seat, used) = loading.join(rt);

@@ -16,7 +16,7 @@ returns-clause-many g c wanted counted =
     (sym c.requires.none_came) counted in
     let many = shown.many c.requires.none_came ∙ sym (length-map last.came (λ visitor. visitor.number)) in
     as_many wanted last.left last.accepted last.is_endless last.failed (map (λ visitor. visitor.number) last.came) _
-    (shown.left.0.holds wanted was) shown.left.0.none_left many
+    (shown.run.left.0.clients.holds wanted was) shown.run.left.0.clients.none_left many
 
 -- the sessions of all who came to the acceptor
 pub returns-clause-sessions : goal.returns-clause-sessions
@@ -25,4 +25,4 @@ returns-clause-sessions g c =
     all_sessions _ _ _ c.form_of-form.result _
     c.args.acceptor.came run_result.clients.came (route_to c.args.folders.now.names.items run_result.orders.queue) c.args.made.2.items run_result.seats.items
     run_result.asked
-    run_result.served c.form_of-form.ensures c.requires.none_came c.in_ok-run_result.ensures.served
+    run_result.served c.form_of-form.ensures c.requires.none_came c.in_ok-run_result.ensures.run.served

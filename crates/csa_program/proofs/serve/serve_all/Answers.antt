@@ -3,7 +3,7 @@ use Rattle.workers.specs.Ordering.{route_to}
 use Rattle.workers.specs.Sessions.{worker_starts, work_of}
 use Rattle.epochs.specs.ShelfWords.{shelf_seats}
 use Rattle.workers.specs.Words.{sessions_of}
-use Rattle.csa_program.proofs.ServedEnds.{ok_then, sessions_many}
+use Rattle.csa_program.proofs.ServedEnds.{ok_then, ok_then_all, sessions_many}
 use Rattle.csa_program.proofs.serve.serve_all.Goals as goal
 
 -- one session for each client who came
@@ -15,3 +15,9 @@ returns-clause-many g c =
     (g.K.Clients.words.came c.args.clients) (g.K.Clients.words.came run_result.clients)
     (worker_starts c.args.made.2.items (route_to c.args.folders.now.names.items run_result.orders.queue))
     (work_of run_result.served run_result.seats.items run_result.asked) served none) c.run_shelves.ensures.served
+
+-- what the run was, in one record
+pub returns-clause-run : goal.returns-clause-run
+returns-clause-run g c =
+    ok_then_all c.run_shelves.result _ _ _ _ (λ run_result left served loaded. record { left = left; served = served; loaded = loaded })
+    c.run_shelves.ensures.left c.run_shelves.ensures.served c.run_shelves.ensures.loaded

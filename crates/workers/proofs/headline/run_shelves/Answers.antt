@@ -1,4 +1,7 @@
-use Rattle.std.proofs.Common.{◌≡◌, ◌∙◌, All, subst}
+use Rattle.std.proofs.Common.{◌≡◌, ◌∙◌, All, subst, sym}
+use Rattle.epochs.specs.ShelfWords.{shelf_seats}
+use Rattle.workers.specs.Sessions.{MayClose}
+use Rattle.workers.specs.Words.{sessions_of}
 use Rattle.workers.proofs.headline.run_shelves.Goals as goal
 
 -- the seats and the loader's are of the shelves of this name
@@ -9,7 +12,8 @@ named_seats-requires g c =
 pub of-loader-requires : goal.of-loader-requires
 of-loader-requires g c = c.requires.ready.ready.loader_fits ∙ c.requires.ready.named
 
--- a seat that fits the shelves under their name is of these shelves
+-- the seats are the same under their shelves' name
 pub run_workers-requires-clause-closes : goal.run_workers-requires-clause-closes
-run_workers-requires-clause-closes g c κs within = λ client now end a b first last served.
-    c.requires.closes client now end a b (first ∙ c.of-shelves.ensures) (last ∙ c.of-shelves.ensures) served
+run_workers-requires-clause-closes g c κs within =
+    subst (λ items. MayClose (sessions_of c.args.form g.C.Client.words g.C.Reader.Read.remaining g.C.Writer.Write.contents shelf_seats) items)
+    (sym c.in_ok-seats.ensures) c.requires.closes

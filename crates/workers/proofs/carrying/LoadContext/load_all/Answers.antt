@@ -38,20 +38,20 @@ loop-preserved g c =
     (files_of g.F.Files.FeedFiles.holds g.F.Files.FeedFiles.reads g.F.Files.FeedFiles.failures g.F.Files.FeedFiles.failed)
     g.T.Loads.words g.T.Versions.words.version) in
     let feeds = c.args.self.now.feeds.now in
-    let one = c.load_feed.ensures in
+    let one = c.load_feed.ensures.carried in
     let next = c.in-Some-next.ensures in
     let at_queue = next.queue ∙ c.loop.invariant.queue in
-    let handled = handled_order_of c.in-Some-next.order c.next-in-loop.new.self.taken one.carried.1 one.carried.0 in
+    let handled = handled_order_of c.in-Some-next.order c.next-in-loop.new.self.taken one.files one.answer in
     let added = subst (λ (queue : QueueId _). IsCarriedOut (load_input_of words feeds queue) handled c.loop.seat c.load_feed.new.seat) at_queue
-    one.carried.4 in
+    one.carried in
     record {
       next = tt;
       finite = tt;
-      queue = one.queue ∙ at_queue;
-      seat = loader_goes_on _ _ _ _ _ c.loop.invariant.seat one.seat;
+      queue = one.queue_is ∙ at_queue;
+      seat = loader_goes_on _ _ _ _ _ c.loop.invariant.seat c.load_feed.ensures.seat;
       carried = carries_also (load_input_of words feeds c.args.orders.queue) c.args.seat c.loop.seat c.load_feed.new.seat
           (loads_value c.loop.orders c.loop.used) (loads_value c.load_feed.new.orders c.load_feed.new.used) handled c.loop.invariant.carried
-          next.taken (one.taken ∙ next.taken) (one.carried.2 ∙ ap (λ list. list ++ one.carried.0 ∷ []) next.answered) one.carried.3 added;
+          next.taken (one.taken_are ∙ next.taken) (one.answers_are ∙ ap (λ list. list ++ one.answer ∷ []) next.answered) one.files_are added;
     }
 
 -- none came any more
@@ -63,8 +63,8 @@ returns-in-None-next g c =
     let last = c.in-None-next.ensures in
     let at_queue = last.queue ∙ c.loop.invariant.queue in
     record {
-      loads = c.loop.invariant.seat.fits;
       queue = at_queue;
+      fits = c.loop.invariant.seat.fits;
       loaded = record {
         over = last.over;
         carried = carried_same words c.args.self.now.feeds.now c.args.orders.queue c.next-in-loop.new.self.queue c.args.seat c.loop.seat

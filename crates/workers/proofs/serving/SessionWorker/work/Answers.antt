@@ -11,10 +11,10 @@ loop-init g c = record {
   finite = tt;
   queue = refl;
   route = refl;
-  fits = c.requires.fits;
+  fits = c.requires.ready.fits;
   served = serves_none (sessions_of c.args.self.now.session_server.form g.C.Client.words g.C.Reader.Read.remaining g.C.Writer.Write.contents
       g.T.Versions.words)
-      _ _ (worker_state c.args.seat (g.O.Orders.asked c.args.orders)) c.requires.none.0 c.requires.none.1;
+      _ _ (worker_state c.args.seat (g.O.Orders.asked c.args.orders)) c.requires.ready.none_taken c.requires.ready.none_served;
 }
 
 -- a client more was taken and served
@@ -43,17 +43,23 @@ close-requires-clause-closes g c =
     g.T.Versions.words in
     let one = c.serve_client-streams in
     let asked = g.O.Orders.asked in
-    λ lifetimes outlive. may_close words c.args.self.now.session_server.shelves.now c.in-Some-next.client one.result.0 one.result.1
-    (worker_state c.loop.seat (asked c.loop.orders)) (worker_state one.new.seat (asked one.new.orders))
-    c.requires.closes c.loop.invariant.fits one.ensures.fits one.ensures.session
+    λ lifetimes outlive. may_close words c.loop.taker.taken c.loop.served c.in-Some-next.client one.result.0 one.result.1
+    (worker_state c.args.seat (asked c.args.orders)) (worker_state c.loop.seat (asked c.loop.orders)) (worker_state one.new.seat (asked one.new.orders))
+    c.requires.ready.closes c.loop.invariant.served one.ensures.session
 
--- what was reported exactly while a client was served is so still
-pub returns-in-None-next-clause-exact : goal.returns-in-None-next-clause-exact
-returns-in-None-next-clause-exact g c = λ idle.
+-- none came any more; and what was reported exactly while a client was served is so still
+pub returns-in-None-next-clause-served : goal.returns-in-None-next-clause-served
+returns-in-None-next-clause-served g c =
     let words = sessions_of c.args.self.now.session_server.form g.C.Client.words g.C.Reader.Read.remaining g.C.Writer.Write.contents
     g.T.Versions.words in
     let asked = g.O.Orders.asked in
     let a = worker_state c.args.seat (asked c.args.orders) in
     let b = worker_state c.loop.seat (asked c.loop.orders) in
-    exact words _ c.loop.served a b idle
-    (subst (λ clients. AreServed words clients c.loop.served a b) (sym c.in-None-next.ensures.taken) c.loop.invariant.served)
+    let last = c.in-None-next.ensures in
+    let served = subst (λ clients. AreServed words clients c.loop.served a b) (sym last.taken) c.loop.invariant.served in
+    record {
+      fits = c.loop.invariant.fits;
+      queue_is = last.queue ∙ c.loop.invariant.queue;
+      served = served;
+      exact = λ idle. exact words _ c.loop.served a b idle served;
+    }
