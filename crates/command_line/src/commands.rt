@@ -1,9 +1,9 @@
 //! The commands as `clap` knows them: their words, options and help.
 
-ghost use Rattle.std.specs.Prelude.{◌≡◌, map};
-ghost use Rattle.clap.specs.Words.{rule_of};
-ghost use Rattle.command_line.specs.Grammar.{flag, image_shapes, maybe_word, other_shapes, rule_of_argument};
-ghost use Rattle.command_line.specs.Grammar.{shape_of_task, stops_shapes, words};
+ghost use Rattle.std.specs.Prelude.{◌≡◌, Bool, IfOk, false, fold, map};
+ghost use Rattle.clap.specs.Words.{app_of, rule_of, shape_of, with_subcommand};
+ghost use Rattle.command_line.specs.Grammar.{csa_app, flag, image_shapes, maybe_word, other_shapes, rule_of_argument};
+ghost use Rattle.command_line.specs.Grammar.{shape_of_task, stop, stops_shapes, with_rules, words};
 
 use crate::texts;
 use clap::{Arg, ArgAction, Command};
@@ -20,7 +20,7 @@ pub(crate) enum Argument {
     Words(&'static str, &'static str, &'static str),
     /// An option with a value.
     Option(&'static str, &'static str, &'static str),
-    /// An option whose value is a stop_id, which may begin with a hyphen.
+    /// An option whose value is a stop_id, which may begin with a hyphen if the words have such a one.
     Stop(&'static str, &'static str, &'static str),
     /// The same; the option may be given several times.
     Stops(&'static str, &'static str, &'static str),
@@ -404,25 +404,25 @@ const OTHER_TASKS: [Task; 6] = [
 
 // A slice, since a loop over the list itself puts the whole list into each goal.
 fn image_tasks() -> &'static [Task]
-    ensures { map shape_of_task result.now ≡ image_shapes }
+    ensures { (hyphens : Bool) → map (shape_of_task hyphens) result.now ≡ image_shapes hyphens }
 {
     &IMAGE_TASKS
 }
 
 fn stops_tasks() -> &'static [Task]
-    ensures { map shape_of_task result.now ≡ stops_shapes }
+    ensures { (hyphens : Bool) → map (shape_of_task hyphens) result.now ≡ stops_shapes hyphens }
 {
     &STOPS_TASKS
 }
 
 fn other_tasks() -> &'static [Task]
-    ensures { map shape_of_task result.now ≡ other_shapes }
+    ensures { (hyphens : Bool) → map (shape_of_task hyphens) result.now ≡ other_shapes hyphens }
 {
     &OTHER_TASKS
 }
 
 fn value<'a>(alloc: Global, id: &'a str, name: &'a str, help: &'a str) -> Arg<'a>
-    ensures { rule_of result ≡ maybe_word id.now }
+    ensures { (rule_of result ≡ maybe_word id.now) × (result.global ≡ false) }
 {
     Arg::new(alloc, id)
         .value_name(name)
@@ -431,7 +431,7 @@ fn value<'a>(alloc: Global, id: &'a str, name: &'a str, help: &'a str) -> Arg<'a
 }
 
 fn flag<'a>(alloc: Global, id: &'a str, help: &'a str) -> Arg<'a>
-    ensures { rule_of result ≡ flag id.now }
+    ensures { (rule_of result ≡ flag id.now) × (result.global ≡ false) }
 {
     Arg::new(alloc, id)
         .long(id)
@@ -440,28 +440,38 @@ fn flag<'a>(alloc: Global, id: &'a str, help: &'a str) -> Arg<'a>
 }
 
 fn words<'a>(alloc: Global, id: &'a str, name: &'a str, help: &'a str) -> Arg<'a>
-    ensures { rule_of result ≡ words id.now }
+    ensures { (rule_of result ≡ words id.now) × (result.global ≡ false) }
 {
     Arg::new(alloc, id).value_name(name).help(help).num_args(..)
 }
 
-fn arg_of<'a>(alloc: Global, argument: Argument) -> Arg<'a>
-    ensures { rule_of result ≡ rule_of_argument argument }
+// An option whose value may begin with a hyphen, if `hyphens`.
+fn stop<'a>(option: Arg<'a>, hyphens: bool) -> Arg<'a>
+    ensures { (rule_of result ≡ stop hyphens (rule_of option.entry)) × (result.global ≡ option.entry.global) }
+{
+    if hyphens {
+        option.allow_hyphen_values(true)
+    } else {
+        option
+    }
+}
+
+fn arg_of<'a>(alloc: Global, argument: Argument, hyphens: bool) -> Arg<'a>
+    ensures { (rule_of result ≡ rule_of_argument hyphens argument) × (result.global ≡ false) }
 {
     match argument {
         Argument::Positional(id, name, help) => value(alloc, id, name, help).required(true),
         Argument::MaybeWord(id, name, help) => value(alloc, id, name, help),
         Argument::Words(id, name, help) => words(alloc, id, name, help),
         Argument::Option(id, name, help) => value(alloc, id, name, help).long(id).required(true),
-        Argument::Stop(id, name, help) => value(alloc, id, name, help)
-            .long(id)
-            .required(true)
-            .allow_hyphen_values(true),
-        Argument::Stops(id, name, help) => value(alloc, id, name, help)
-            .long(id)
-            .required(true)
-            .allow_hyphen_values(true)
-            .action(ArgAction::Append),
+        Argument::Stop(id, name, help) => {
+            let option = value(alloc, id, name, help).long(id).required(true);
+            stop(option, hyphens)
+        }
+        Argument::Stops(id, name, help) => {
+            let option = value(alloc, id, name, help).long(id).required(true);
+            stop(option.action(ArgAction::Append), hyphens)
+        }
         Argument::MaybeOption(id, name, help) => value(alloc, id, name, help).long(id),
         Argument::Flag(id, help) => flag(alloc, id, help),
     }
@@ -471,19 +481,25 @@ fn with_arguments<'a>(
     alloc: Global,
     mut command: Command<'a>,
     arguments: &[Argument],
-) -> Result<Command<'a>, AllocError> {
+    hyphens: bool,
+) -> Result<Command<'a>, AllocError>
+    ensures { IfOk result (λ c. app_of c
+        ≡ with_rules (app_of command.entry) (map (rule_of_argument hyphens) arguments.now)) }
+{
     for argument in arguments {
-        command = command.arg(arg_of(alloc, *argument))?;
+        command = command.arg(arg_of(alloc, *argument, hyphens))?;
     }
     Ok(command)
 }
 
-fn command_of<'a>(alloc: Global, task: Task) -> Result<Command<'a>, AllocError> {
+fn command_of<'a>(alloc: Global, task: Task, hyphens: bool) -> Result<Command<'a>, AllocError>
+    ensures { IfOk result (λ c. shape_of c ≡ shape_of_task hyphens task) }
+{
     let mut command = Command::new(alloc, task.name)
         .about(task.about)
         .after_help(task.notes);
     for group in task.arguments {
-        command = with_arguments(alloc, command, group)?;
+        command = with_arguments(alloc, command, group, hyphens)?;
     }
     Ok(command)
 }
@@ -510,12 +526,12 @@ fn task_among(tasks: &[Task], name: &str) -> Option<Task> {
 fn usage_of(alloc: Global, task: Task) -> Result<String, AllocError> {
     let name = task.name;
     let whole = format!(in alloc; "csa {name}")?;
-    let mut command = command_of(alloc, task)?.bin_name(whole.as_str())?;
+    let mut command = command_of(alloc, task, false)?.bin_name(whole.as_str())?;
     command.render_usage()
 }
 
 fn program_usage(alloc: Global) -> Result<String, AllocError> {
-    let mut command = program(alloc)?;
+    let mut command = program(alloc, false)?;
     command.render_usage()
 }
 
@@ -536,21 +552,27 @@ fn with_tasks<'a>(
     alloc: Global,
     mut command: Command<'a>,
     tasks: &[Task],
-) -> Result<Command<'a>, AllocError> {
+    hyphens: bool,
+) -> Result<Command<'a>, AllocError>
+    ensures { IfOk result (λ c. app_of c
+        ≡ fold with_subcommand (app_of command.entry) (map (shape_of_task hyphens) tasks.now)) }
+{
     for task in tasks {
-        command = command.subcommand(command_of(alloc, *task)?)?;
+        command = command.subcommand(command_of(alloc, *task, hyphens)?)?;
     }
     Ok(command)
 }
 
-/// All commands.
-pub(crate) fn program<'a>(alloc: Global) -> Result<Command<'a>, AllocError> {
+/// All commands. If `hyphens`, a stop_id may begin with a hyphen where it is a word of its own.
+pub(crate) fn program<'a>(alloc: Global, hyphens: bool) -> Result<Command<'a>, AllocError>
+    ensures { IfOk result (λ c. app_of c ≡ csa_app hyphens) }
+{
     let command = Command::new(alloc, "csa")
         .about("Every best departure over verified public transport timetables")
         .after_help(texts::STATUSES)
         .version(texts::VERSION)
         .subcommand_required(true);
-    let command = with_tasks(alloc, command, image_tasks())?;
-    let command = with_tasks(alloc, command, stops_tasks())?;
-    with_tasks(alloc, command, other_tasks())
+    let command = with_tasks(alloc, command, image_tasks(), hyphens)?;
+    let command = with_tasks(alloc, command, stops_tasks(), hyphens)?;
+    with_tasks(alloc, command, other_tasks(), hyphens)
 }

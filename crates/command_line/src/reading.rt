@@ -1,5 +1,8 @@
 //! From words to a request, or to a message about them.
 
+ghost use Rattle.std.specs.Prelude.{◌≡◌, IfOk, map, true};
+ghost use Rattle.command_line.specs.Reading.{HasHyphenValue, IsHyphenated, Names, is_stop_option};
+
 use crate::commands::{is_command, program};
 use crate::messages::unread_of;
 use crate::requests::request_in;
@@ -28,13 +31,42 @@ fn command_in<'a, S: AsStr>(words: &'a [S]) -> &'a str {
 }
 
 /// The request that the words make; the first word is the program's name.
-pub fn read<'a, S: AsStr>(alloc: Global, words: &'a [S]) -> Result<CommandRequest<'a>, NoCommand> {
-    let Ok(command) = program(alloc) else {
+pub fn read<'a, S: AsStr>(alloc: Global, words: &'a [S]) -> Result<CommandRequest<'a>, NoCommand>
+    ensures { ¬ (HasHyphenValue (map S.text words.entry.now)) → IfOk result (Names (map S.text words.entry.now)) }
+{
+    let Ok(command) = program(alloc, has_hyphen_value(words)) else {
         return Err(NoCommand::OutOfMemory);
     };
     match command.try_get_matches_from(words) {
         Ok(matches) => request_in(alloc, &matches),
         Err(error) => Err(unread(alloc, words, &error)),
+    }
+}
+
+/// Whether a word that begins with a hyphen follows `--from` or `--to`.
+fn has_hyphen_value<S: AsStr>(words: &[S]) -> bool
+    ensures { result ≡ true → HasHyphenValue (map S.text words.now) }
+{
+    for index in 1..words.len() {
+        if is_stop_option(words[index - 1].as_str()) && is_hyphenated(words[index].as_str()) {
+            return true;
+        }
+    }
+    false
+}
+
+fn is_stop_option(word: &str) -> bool
+    ensures { result ≡ is_stop_option word.now }
+{
+    word == "--from" || word == "--to"
+}
+
+fn is_hyphenated(word: &str) -> bool
+    ensures { result ≡ true → IsHyphenated word.now }
+{
+    match word.as_bytes() {
+        [b'-', ..] => true,
+        _ => false,
     }
 }
 
@@ -58,7 +90,7 @@ fn unknown_topic<S: AsStr>(words: &[S]) -> Option<&str> {
 
 /// The message about a topic of `csa help` that is no command: that of the command itself, which has a suggestion.
 fn unread_topic(alloc: Global, topic: &str, error: &Error) -> NoCommand {
-    let Ok(command) = program(alloc) else {
+    let Ok(command) = program(alloc, false) else {
         return NoCommand::OutOfMemory;
     };
     match command.try_get_matches_from(&["csa", topic]) {

@@ -1,7 +1,7 @@
 //! The request of each command, from the values of its arguments.
 
-ghost use Rattle.std.specs.Prelude.{◌≡◌, ◌<◌, IfOk, IfSome, MatchOption, length, map};
-ghost use Rattle.clap.specs.Words.{found_of, rows_of};
+ghost use Rattle.std.specs.Prelude.{◌≡◌, ◌<◌, IfOk, IfSome, IsSomeAnd, MatchOption, length, map};
+ghost use Rattle.clap.specs.Words.{found_of, rows_of, subcommand_rows_of};
 ghost use Rattle.command_requests.specs.declared.requests.DeparturesRequest.{DeparturesRequest};
 ghost use Rattle.command_line.specs.Requests.{AsksAnswer, AsksDepartures, HasDeparturesOptions, HasPictureRows};
 ghost use Rattle.command_line.specs.Requests.{HasPlan, HasProfileOptions, HasSeconds, HasStops, HasWorkers, IsBuild};
@@ -30,7 +30,10 @@ use std::alloc::Global;
 pub(crate) fn request_in<'a>(
     alloc: Global,
     matches: &ArgMatches<'a>,
-) -> Result<CommandRequest<'a>, NoCommand> {
+) -> Result<CommandRequest<'a>, NoCommand>
+    ensures { IfOk result (λ request. IsSomeAnd (subcommand_rows_of matches.now)
+        (λ command. IsRequest command.0 command.1 request)) }
+{
     match matches.subcommand() {
         Some((name, inner)) => named_request(alloc, name, inner),
         None => Err(wrong_value(alloc, "", matches)),

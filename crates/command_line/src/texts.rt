@@ -106,8 +106,8 @@ among the departures, and may be quicker than some of them.\n\
 With --from or --to given several times, at most 1000 times each, journeys may begin at any of the first stops and\n\
 end at any of the second: the departures are the best of all pairs, the walk is the shortest.\n\
 Clocks are HH:MM:SS after the image's base, the start of its first service day: 55:00:00 is 07:00 on the\n\
-third day. A warning says if no connection departs in the window, or if it ends after the last day on which one\n\
-does; --no-warnings leaves it out.\n\
+third day. A warning says if the image has no connections, if --until is before its first departure or --after\n\
+after its last, or if --until is after the day of its last; --no-warnings leaves it out.\n\
 \n\
 Example: csa profile examples/base.csa --from A --to C --after 08:00:00 --until 08:12:00 \
 --by 10:00:00 --criterion arrival+trips\n\
@@ -128,8 +128,8 @@ With --to given several times, at most 1000 times, journeys may end at any of th
 are the best to all of them, the walk is the shortest.\n\
 If a line of FILE is not a stop_id of the image, nothing is printed, standard error has its number and its text, and\n\
 the status is 2; if FILE cannot be read, it is 3.\n\
-A warning says if no connection departs in the window, or if it ends after the last day on which one does;\n\
---no-warnings leaves it out.\n\
+A warning says if the image has no connections, if --until is before its first departure or --after after its last,\n\
+or if --until is after the day of its last; --no-warnings leaves it out.\n\
 \n\
 Example: csa departures examples/base.csa --to C --after 08:00:00 --until 08:12:00 --by 10:00:00 \
 --criterion arrival\n\
@@ -158,6 +158,7 @@ Standard output has one line, `targets N sources N`, or the table if OUT is -.\n
 If a line of a FILE has what is not a stop_id of the image, standard error has its number and that text, and the\n\
 status is 2; if a FILE has no line, a line twice, or a stop_id twice in a line, it is 64.\n\
 A line of --to takes a scan, or two if --until is not --by; --by with the value of --until takes one.\n\
+Warnings are those of `csa departures`.\n\
 \n\
 Example: csa matrix examples/base.csa - --to targets --after 08:00:00 --until 08:12:00 --by 10:00:00 \
 --criterion arrival\n\

@@ -1,0 +1,27 @@
+-- What a whole command line asks for.
+use Rattle.std.specs.Prelude.{◌≡◌, ◌+◌, ◌||◌, ℕ, Bool, false, true, List, [], Some, IsSomeAnd, codes, slice_get}
+use Rattle.std.specs.Str.{bytes_eq}
+use Rattle.clap.specs.Faults.{fault_of}
+use Rattle.clap.specs.Simple.{subcommand_of}
+use Rattle.clap.specs.Walk.{Text}
+use Rattle.command_requests.specs.declared.requests.CommandRequest.{CommandRequest}
+use Rattle.command_line.specs.Grammar.{csa_app}
+use Rattle.command_line.specs.Requests.{IsRequest}
+
+-- an option whose value is a stop_id
+abbrev pub is_stop_option : Text → Bool
+is_stop_option word = bytes_eq word (codes "--from") || bytes_eq word (codes "--to")
+
+-- a hyphen (45) is first
+abbrev pub IsHyphenated : Text → Type 0
+IsHyphenated word = slice_get word 0 ≡ Some 45
+
+-- a word that begins with a hyphen follows one of these options
+abbrev pub HasHyphenValue : List Text → Type 0
+HasHyphenValue words = (i : ℕ) × IsSomeAnd (slice_get words i) (λ word. is_stop_option word ≡ true)
+    × IsSomeAnd (slice_get words (i + 1)) IsHyphenated
+
+-- the program takes the words, and the request is that of the command which they name and of the values that they give
+abbrev pub Names : List Text → CommandRequest → Type 0
+Names words request = (fault_of (csa_app false) words ≡ [])
+    × IsSomeAnd (subcommand_of (csa_app false) words) (λ command. IsRequest command.0 command.1 request)
