@@ -1,4 +1,4 @@
-use Rattle.std.proofs.Common.{arith, ◌∙◌}
+use Rattle.std.proofs.Common.{arith}
 use Rattle.clap.specs.Words.{app_of, rule_of}
 use Rattle.command_line.specs.Grammar.{rule_of_argument}
 use Rattle.command_line.proofs.Apps.{no_rules, rule_more}

@@ -1,4 +1,4 @@
-use Rattle.std.proofs.Common.{◌≡◌, ◌+◌, ◌-◌, ◌<◌, ◌∙◌, List, ap, arith, length, map, subst, sym, true, ℕ}
+use Rattle.std.proofs.Common.{◌≡◌, ◌+◌, ◌-◌, ◌<◌, ◌∙◌, List, arith, length, map, subst, sym, true, ℕ}
 use Rattle.std.specs.Prelude.{IsSomeAnd, slice_get}
 use Rattle.clap.specs.Words.{Text}
 use Rattle.command_line.specs.Reading.{IsHyphenated, is_stop_option}
