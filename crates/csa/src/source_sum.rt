@@ -2,4 +2,4 @@
 
 /// The sum of all sources but this file, as `release/sources --program` prints it. `release/stamp` writes it, and
 /// `.ci/run` compares it with the sources.
-pub const SOURCES: &str = "e6e9ca5debca362d7ec0b033719677ad1021f9a801b3633a3fbf3bd61e16042f";
+pub const SOURCES: &str = "594340eae377d93f39ce921086f5bce69636f24bbebc399cb6a12902440d04fc";

@@ -34,7 +34,7 @@ read_fresh rules entries met items met_items m v test met_is items_are is fresh 
     ∙ sym is ∙ fresh
 
 module _ {V : Type 0} (rules : Rules V) (ride : RiddenLabel V) where
-  fair_one : Admits rules ride.value → (r : RiddenLabel V) → Contains (ride ∷ []) r → Admits rules r.value
+  pub fair_one : Admits rules ride.value → (r : RiddenLabel V) → Contains (ride ∷ []) r → Admits rules r.value
   fair_one fair r h = elim (Contains-push_cases [] ride r h) [
     | inl n ↦ absurd (not_in_nil r n)
     | inr e ↦ subst (λ (z : RiddenLabel V). Admits rules z.value) e fair

@@ -5,67 +5,76 @@ use Rattle.std.proofs.lemmas.List.{get_or_default}
 use Rattle.std.proofs.lemmas.List.Elements.{Contains-push_cases}
 use Rattle.reasoning.proofs.ListLemmas.{not_in_nil, contains_first}
 use Rattle.criteria.specs.Laws.{Rules, Laws, Admits, IsSecs}
+use Rattle.bags.specs.declared.point.Point.{Point}
+use Rattle.bags.specs.Dominance.{IsCovered}
 use Rattle.fronts.specs.declared.entry.Item.{Item}
 use Rattle.fronts.specs.declared.entry.RiddenLabel.{RiddenLabel}
 use Rattle.fronts.specs.declared.entry.Step.{Step}
-use Rattle.fronts.specs.Front.{Covers, Extends}
-use Rattle.fronts.specs.Putting.{CoversAll}
-use Rattle.fronts.specs.Walking.{IsBoarding, TakesBoardings}
+use Rattle.fronts.specs.Front.{Extends}
+use Rattle.fronts.specs.Walking.{IsBoarding}
+use Rattle.fronts.specs.Lists.{point_of, TakesRidden}
 use Rattle.fronts.proofs.Walks.{boarding_stays}
 
 -- the first n ridden values are taken in
 pub record TakesFirst {V : Type 0} (rules : Rules V) (steps : List Step) (departure first walk secs : ℕ)
-    (ridden : List (RiddenLabel V)) (n : ℕ) (old new : List (Item V)) : Type 0 where
-  pub only : (p : Item V) → Contains new p → Contains old p ⊎ IsBoarding rules steps departure first walk secs ridden p
-  pub kept : CoversAll rules old new
-  pub covered : (k : ℕ) (d : RiddenLabel V) → k < n → Covers rules new departure (rules.walk secs (get_or ridden k d).value)
+    (ridden : List (RiddenLabel V)) (n : ℕ) (old new : List (Point V)) : Type 0 where
+  pub only : (p : Point V) → Contains new p
+      → Contains old p ⊎ ((item : Item V) × (point_of item ≡ p) × IsBoarding rules steps departure first walk secs ridden item)
+  pub kept : (d : ℕ) (v : V) → Admits rules v → IsCovered rules old d v → IsCovered rules new d v
+  pub covered : (k : ℕ) (d : RiddenLabel V) → k < n → IsCovered rules new departure (rules.walk secs (get_or ridden k d).value)
 
 module _ {V : Type 0} (rules : Rules V) (departure first walk secs : ℕ) (ridden : List (RiddenLabel V)) where
-  pub first_none : (steps : List Step) (list : List (Item V)) → TakesFirst rules steps departure first walk secs ridden 0 list list
+  pub first_none : (steps : List Step) (list : List (Point V)) → TakesFirst rules steps departure first walk secs ridden 0 list list
   first_none steps list = record {
     only = λ p h. inl h;
     kept = λ d v a c. c;
     covered = λ k d lt. absurd (omega arith);
   }
 
-  pub first_all : (steps : List Step) (n : ℕ) (old new : List (Item V)) → n ≡ length ridden
+  pub first_all : (steps : List Step) (n : ℕ) (old new : List (Point V)) → n ≡ length ridden
       → TakesFirst rules steps departure first walk secs ridden n old new
-      → TakesBoardings rules steps departure first walk secs ridden old new
+      → TakesRidden rules steps departure first walk secs ridden old new
   first_all steps n old new long takes = record {
     only = takes.only;
     kept = takes.kept;
     covered = λ r h. let lt = h.1 in
-        subst (λ (z : RiddenLabel V). Covers rules new departure (rules.walk secs z.value)) h.2 (takes.covered h.0 r (omega arith));
+        subst (λ (z : RiddenLabel V). IsCovered rules new departure (rules.walk secs z.value)) h.2 (takes.covered h.0 r (omega arith));
   }
 
   pub first_more : Laws rules → IsSecs secs → ((r : RiddenLabel V) → Contains ridden r → Admits rules r.value)
-      → (steps new_steps : List Step) (n : ℕ) (ride : RiddenLabel V) (old mid new : List (Item V)) → Extends steps new_steps
+      → (steps new_steps : List Step) (n : ℕ) (ride : RiddenLabel V) (old mid new : List (Point V)) → Extends steps new_steps
       → n < length ridden → ride ≡ get_or ridden n ride
       → TakesFirst rules steps departure first walk secs ridden n old mid
-      → TakesBoardings rules new_steps departure first walk secs (ride ∷ []) mid new
+      → TakesRidden rules new_steps departure first walk secs (ride ∷ []) mid new
       → TakesFirst rules new_steps departure first walk secs ridden (n + 1) old new
   first_more laws short fair steps new_steps n ride old mid new ext lt is before step = record {
     only = λ p h. elim (step.only p h) [
       | inl m ↦ elim (before.only p m) [
         | inl o ↦ inl o
-        | inr b ↦ inr (boarding_stays rules departure first walk secs ridden steps new_steps p ext b)
+        | inr b ↦ inr (b.0, b.1, boarding_stays rules departure first walk secs ridden steps new_steps b.0 ext b.2)
       ]
-      | inr b ↦ inr (record {
-        by = b.by;
-        is_ridden = elim (Contains-push_cases [] ride b.by b.is_ridden) [
-          | inl none ↦ absurd (not_in_nil b.by none)
-          | inr e ↦ subst (Contains ridden) e (n, lt, sym is)
-        ];
-        departs = b.departs;
-        worth = b.worth;
-        goes_on = b.goes_on;
-      })
+      | inr b ↦
+          let at = b.2 in
+          inr (
+            b.0,
+            b.1,
+            record {
+              by = at.by;
+              is_ridden = elim (Contains-push_cases [] ride at.by at.is_ridden) [
+                | inl none ↦ absurd (not_in_nil at.by none)
+                | inr e ↦ subst (Contains ridden) e (n, lt, sym is)
+              ];
+              departs = at.departs;
+              worth = at.worth;
+              goes_on = at.goes_on;
+            },
+          )
     ];
     kept = λ d v a c. step.kept d v a (before.kept d v a c);
     covered = λ k d low. elim (cases_order k n) [
       | inl e ↦
           let same : ride ≡ get_or ridden k d = is ∙ get_or_default ridden n ride d lt ∙ ap (λ i. get_or ridden i d) (sym e) in
-          subst (λ (z : RiddenLabel V). Covers rules new departure (rules.walk secs z.value)) same (step.covered ride (contains_first ride []))
+          subst (λ (z : RiddenLabel V). IsCovered rules new departure (rules.walk secs z.value)) same (step.covered ride (contains_first ride []))
       | inr o ↦ elim o [
         | inl less ↦
             let r = get_or ridden k d in

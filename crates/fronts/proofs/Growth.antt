@@ -1,13 +1,15 @@
 -- What stays as entries and items are added.
-use Rattle.std.proofs.Common.{◌≡◌, ℕ, zero, suc, ◌+◌, ◌<◌, ◌≤◌, List, ◌∷◌, ◌++◌, length, take, drop, slice_get, Option}
+use Rattle.std.proofs.Common.{◌≡◌, ℕ, zero, suc, ◌+◌, ◌<◌, ◌≤◌, List, ◌∷◌, ◌++◌, length, take, drop, map, slice_get, Option}
 use Rattle.std.proofs.Common.{Some, None, refl, sym, ◌∙◌, ap, ap₂, subst, arith, length-append, length-drop}
 use Rattle.std.proofs.lemmas.List.{take-append-le, drop-append-le}
-use Rattle.reasoning.proofs.ListLemmas.{slice_get-front}
+use Rattle.reasoning.proofs.ListLemmas.{slice_get-front, extends_none, extends_on}
 use Rattle.criteria.specs.Laws.{Rules}
 use Rattle.fronts.specs.declared.entry.Item.{Item}
 use Rattle.fronts.specs.declared.entry.FrontEntry.{FrontEntry}
 use Rattle.fronts.specs.Front.{own, front_of, front, next_in, next_of, departure_in, departure_of, points_to, points_from, Extends}
+use Rattle.fronts.specs.declared.front_lists.FrontLists.{FrontLists}
 use Rattle.fronts.specs.Entries.{AreEntries, IsLinked}
+use Rattle.fronts.specs.Lists.{lists_criterion, entries_of, items_of, steps_of, point_of, list_points, IsSound, AreMoreLists}
 
 pub extends_long : {X : Type 0} (old new : List X) → Extends old new → length old ≤ length new
 extends_long old new ext = let e = ap length ext.1 ∙ length-append old ext.0 in omega arith
@@ -77,3 +79,30 @@ module _ {V : Type 0} (rules : Rules V) (old_entries new_entries : List (FrontEn
 
   pub same_points : (m : ℕ) → m < length old_entries → points_from new_entries new_items m ≡ points_from old_entries old_items m
   same_points m lt = same_to m m lt
+
+module _ {K V : Type 0} (rules_of : K → Rules V) where
+  pub more_none : (lists : FrontLists K V) → IsSound rules_of lists → AreMoreLists rules_of lists lists
+  more_none lists sound = record {
+    sound = sound;
+    criterion = refl;
+    entries = extends_none (entries_of lists);
+    items = extends_none (items_of lists);
+    steps = extends_none (steps_of lists);
+  }
+
+  pub more_on : (old mid new : FrontLists K V) → AreMoreLists rules_of old mid → AreMoreLists rules_of mid new
+      → AreMoreLists rules_of old new
+  more_on old mid new before after = record {
+    sound = after.sound;
+    criterion = after.criterion ∙ before.criterion;
+    entries = extends_on (entries_of old) (entries_of mid) (entries_of new) before.entries after.entries;
+    items = extends_on (items_of old) (items_of mid) (items_of new) before.items after.items;
+    steps = extends_on (steps_of old) (steps_of mid) (steps_of new) before.steps after.steps;
+  }
+
+  -- the lists that were there stay as they were
+  pub same_lists : (old new : FrontLists K V) → IsSound rules_of old → AreMoreLists rules_of old new
+      → (index : ℕ) → index < length (entries_of old) → list_points new index ≡ list_points old index
+  same_lists old new sound more index lt =
+      ap (map point_of) (same_points (rules_of (lists_criterion old)) (entries_of old) (entries_of new) (items_of old)
+      (items_of new) sound more.entries more.items index lt)

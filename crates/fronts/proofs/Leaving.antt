@@ -1,6 +1,6 @@
 -- The points that others don't better, pushed one by one.
 use Rattle.std.proofs.Common.{◌≡◌, ℕ, ◌+◌, ◌-◌, ◌<◌, ◌≤◌, not, List, [], ◌∷◌, ◌++◌, length, take, drop, get_or}
-use Rattle.std.proofs.Common.{Contains, sym, ◌∙◌, ap, ap₂, arith, append_assoc, append-nil, length-drop}
+use Rattle.std.proofs.Common.{Contains, sym, ◌∙◌, ap, ap₂, arith, append_assoc, length-drop}
 use Rattle.std.proofs.lemmas.List.{take_more, get_or-drop, get_or-take, get_or_append_left, length-take-le}
 use Rattle.std.proofs.lemmas.List.Elements.{filter-append}
 use Rattle.criteria.specs.Laws.{Rules}

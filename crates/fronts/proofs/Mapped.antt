@@ -1,5 +1,6 @@
 -- Items as points.
-use Rattle.std.proofs.Common.{◌≡◌, ℕ, ◌<◌, ◌≤◌, true, List, [], ◌∷◌, length, take, drop, map, Contains, inl, inr, sym, ◌∙◌, ap, subst, arith}
+use Rattle.std.proofs.Common.{◌≡◌, ℕ, ◌<◌, ◌≤◌, true, List, [], ◌∷◌, length, take, drop, map, Contains, Result, Ok, Err, IfOk, inl, inr}
+use Rattle.std.proofs.Common.{sym, ◌∙◌, ap, subst, arith}
 use Rattle.std.proofs.lemmas.List.Elements.{Contains-append_cases, Contains-append_left, Contains-append_right, Contains-push, Contains-push_cases}
 use Rattle.std.proofs.lemmas.Option.{slice_get_cases}
 use Rattle.reasoning.proofs.ListLemmas.{not_in_nil}
@@ -15,7 +16,8 @@ use Rattle.fronts.specs.Entries.{AreEntries}
 use Rattle.fronts.specs.Labels.{SaysTotal}
 use Rattle.fronts.specs.Putting.{IsLate}
 use Rattle.fronts.specs.Walking.{TakesBoardings}
-use Rattle.fronts.specs.Lists.{point_of, IsBettered, TakesRidden}
+use Rattle.fronts.specs.declared.front_lists.FrontLists.{FrontLists}
+use Rattle.fronts.specs.Lists.{point_of, lists_criterion, entries_of, items_of, steps_of, IsBettered, TakesRidden, HasTaken}
 use Rattle.fronts.proofs.Points.{front_at, front_from, points_admitted}
 
 module _ {V : Type 0} where
@@ -60,6 +62,19 @@ module _ {V : Type 0} where
         ];
     kept = λ d v a c. covered_points rules new d v (takes.kept d v a (covered_items rules old d v c));
     covered = λ r h. covered_points rules new departure (rules.walk secs r.value) (takes.covered r h);
+  }
+
+  -- the same, of an insertion that may have run out of memory
+  pub taken_if_ok : {K E : Type 0} (rules_of : K → Rules V) (departure first walk secs : ℕ) (ridden : List (RiddenLabel V))
+      (old new : FrontLists K V) (head : ℕ) (result : Result ℕ E) → IfOk result (λ taken. taken < length (entries_of new))
+      → IfOk result (λ taken. TakesBoardings (rules_of (lists_criterion old)) (steps_of new) departure first walk secs ridden
+      (points_from (entries_of old) (items_of old) head) (points_from (entries_of new) (items_of new) taken))
+      → IfOk result (HasTaken rules_of departure first walk secs ridden old head new)
+  taken_if_ok rules_of departure first walk secs ridden old new head (Err e) within takes = tt
+  taken_if_ok rules_of departure first walk secs ridden old new head (Ok taken) within takes = record {
+    within = within;
+    takes = takes_points (rules_of (lists_criterion old)) (steps_of new) departure first walk secs ridden
+        (points_from (entries_of old) (items_of old) head) (points_from (entries_of new) (items_of new) taken) takes;
   }
 
   -- under a total order a front is one point

@@ -1,6 +1,6 @@
 -- What contracts see of lists of entries.
-use Rattle.std.specs.Prelude.{◌≡◌, ◌⊎◌, ℕ, List, Contains, map}
-use Rattle.criteria.specs.Laws.{Rules, Admits, NoWorse}
+use Rattle.std.specs.Prelude.{◌≡◌, ◌⊎◌, ℕ, ◌<◌, List, Contains, map, length}
+use Rattle.criteria.specs.Laws.{Rules, Admits, NoWorse, IsSecs}
 use Rattle.bags.specs.declared.point.Point.{Point}
 use Rattle.bags.specs.Dominance.{IsCovered}
 use Rattle.fronts.specs.declared.entry.Item.{Item}
@@ -9,7 +9,7 @@ use Rattle.fronts.specs.declared.entry.Step.{Step}
 use Rattle.fronts.specs.declared.entry.RiddenLabel.{RiddenLabel}
 use Rattle.fronts.specs.declared.front_lists.FrontLists.{FrontLists}
 use Rattle.fronts.specs.Entries.{AreEntries}
-use Rattle.fronts.specs.Front.{front, points_from}
+use Rattle.fronts.specs.Front.{front, points_from, Extends}
 use Rattle.fronts.specs.Walking.{IsBoarding}
 
 -- the criterion by which values are compared
@@ -57,3 +57,27 @@ pub record TakesRidden {V : Type 0} (rules : Rules V) (steps : List Step) (depar
       × IsBoarding rules steps departure first walk secs ridden item)
   pub kept : (d : ℕ) (v : V) → Admits rules v → IsCovered rules old d v → IsCovered rules new d v
   pub covered : (r : RiddenLabel V) → Contains ridden r → IsCovered rules new departure (rules.walk secs r.value)
+
+-- lists may take ridden values into the one that begins at `head`: they are sound, `head` is one of their entries, the footpath's seconds are legal,
+-- and the values are admitted
+pub record MayTake {K V : Type 0} (rules_of : K → Rules V) (lists : FrontLists K V) (head secs : ℕ)
+    (ridden : List (RiddenLabel V)) : Type 0 where
+  pub sound : IsSound rules_of lists
+  pub within : head < length (entries_of lists)
+  pub short : IsSecs secs
+  pub admitted : (r : RiddenLabel V) → Contains ridden r → Admits (rules_of (lists_criterion lists)) r.value
+
+-- lists grow: the new ones are sound and under the same criterion, and only add to the entries, items and steps
+pub record AreMoreLists {K V : Type 0} (rules_of : K → Rules V) (old new : FrontLists K V) : Type 0 where
+  pub sound : IsSound rules_of new
+  pub criterion : lists_criterion new ≡ lists_criterion old
+  pub entries : Extends (entries_of old) (entries_of new)
+  pub items : Extends (items_of old) (items_of new)
+  pub steps : Extends (steps_of old) (steps_of new)
+
+-- of the new lists, the one that begins at `taken` is what the old one from `head` on has become: it takes the ridden values in
+pub record HasTaken {K V : Type 0} (rules_of : K → Rules V) (departure first walk secs : ℕ) (ridden : List (RiddenLabel V))
+    (old : FrontLists K V) (head : ℕ) (new : FrontLists K V) (taken : ℕ) : Type 0 where
+  pub within : taken < length (entries_of new)
+  pub takes : TakesRidden (rules_of (lists_criterion old)) (steps_of new) departure first walk secs ridden
+      (list_points old head) (list_points new taken)

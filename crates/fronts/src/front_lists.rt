@@ -30,9 +30,8 @@ impl<C: Criterion> FrontLists<C> {
     ghost use Rattle.std.specs.Prelude.{slice_get, Some};
     ghost use Rattle.criteria.specs.Laws.{Admits, IsSecs};
     ghost use Rattle.fronts.specs.Front.{Extends, departure_of, points_from};
-    ghost use Rattle.fronts.specs.Walking.{TakesBoardings};
     ghost use Rattle.fronts.specs.Lists.{IsSound, lists_criterion, entries_of, items_of, steps_of, list_points};
-    ghost use Rattle.fronts.specs.Lists.{front_at, IsBettered, TakesRidden};
+    ghost use Rattle.fronts.specs.Lists.{front_at, IsBettered, TakesRidden, MayTake, AreMoreLists, HasTaken};
     ghost use Rattle.fronts.specs.Putting.{MayPut, IsUnion};
 
     /// Makes the empty list, and no other.
@@ -215,20 +214,10 @@ impl<C: Criterion> FrontLists<C> {
         boarding: Boarding,
         ridden: &[RiddenLabel<C::V>],
     ) -> Result<u32, AllocError>
-        requires sound { IsSound C.rules self.old }
-        requires head { head < length (entries_of self.old) }
-        requires secs { IsSecs boarding.secs }
-        requires ridden { (r : _) → Contains ridden.now r → Admits (C.rules (lists_criterion self.old)) r.value }
-        ensures sound { IsSound C.rules self.new }
-        ensures criterion { lists_criterion self.new ≡ lists_criterion self.old }
-        ensures more_entries { Extends (entries_of self.old) (entries_of self.new) }
-        ensures more_items { Extends (items_of self.old) (items_of self.new) }
-        ensures more_steps { Extends (steps_of self.old) (steps_of self.new) }
-        ensures within { IfOk result (λ new. new < length (entries_of self.new)) }
-        ensures takes { IfOk result (λ new. TakesBoardings (C.rules (lists_criterion self.old)) (steps_of self.new)
-            boarding.departure boarding.first boarding.walk boarding.secs ridden.now
-            (points_from (entries_of self.old) (items_of self.old) head)
-            (points_from (entries_of self.new) (items_of self.new) new)) }
+        requires may { MayTake C.rules self.old head boarding.secs ridden.now }
+        ensures more { AreMoreLists C.rules self.old self.new }
+        ensures taken { IfOk result (λ new. HasTaken C.rules boarding.departure boarding.first boarding.walk
+            boarding.secs ridden.now self.old head self.new new) }
     {
         let mut new = head;
         for k in 0..ridden.len() {
@@ -247,20 +236,10 @@ impl<C: Criterion> FrontLists<C> {
         boarding: Boarding,
         ride: RiddenLabel<C::V>,
     ) -> Result<u32, AllocError>
-        requires sound { IsSound C.rules self.old }
-        requires head { head < length (entries_of self.old) }
-        requires secs { IsSecs boarding.secs }
-        requires ride { Admits (C.rules (lists_criterion self.old)) ride.value }
-        ensures sound { IsSound C.rules self.new }
-        ensures criterion { lists_criterion self.new ≡ lists_criterion self.old }
-        ensures more_entries { Extends (entries_of self.old) (entries_of self.new) }
-        ensures more_items { Extends (items_of self.old) (items_of self.new) }
-        ensures more_steps { Extends (steps_of self.old) (steps_of self.new) }
-        ensures within { IfOk result (λ new. new < length (entries_of self.new)) }
-        ensures takes { IfOk result (λ new. TakesBoardings (C.rules (lists_criterion self.old)) (steps_of self.new)
-            boarding.departure boarding.first boarding.walk boarding.secs (ride ∷ [])
-            (points_from (entries_of self.old) (items_of self.old) head)
-            (points_from (entries_of self.new) (items_of self.new) new)) }
+        requires may { MayTake C.rules self.old head boarding.secs (ride ∷ []) }
+        ensures more { AreMoreLists C.rules self.old self.new }
+        ensures taken { IfOk result (λ new. HasTaken C.rules boarding.departure boarding.first boarding.walk
+            boarding.secs (ride ∷ []) self.old head self.new new) }
     {
         if self.entries[head as usize].departure >= boarding.departure {
             return self.insert_ahead(head, boarding, ride);
@@ -296,20 +275,10 @@ impl<C: Criterion> FrontLists<C> {
         secs: u32,
         ride: RiddenLabel<C::V>,
     ) -> Result<u32, AllocError>
-        requires sound { IsSound C.rules self.old }
-        requires head { head < length (entries_of self.old) }
-        requires secs { IsSecs secs }
-        requires ride { Admits (C.rules (lists_criterion self.old)) ride.value }
-        ensures sound { IsSound C.rules self.new }
-        ensures criterion { lists_criterion self.new ≡ lists_criterion self.old }
-        ensures more_entries { Extends (entries_of self.old) (entries_of self.new) }
-        ensures more_items { Extends (items_of self.old) (items_of self.new) }
-        ensures more_steps { Extends (steps_of self.old) (steps_of self.new) }
-        ensures within { IfOk result (λ new. new < length (entries_of self.new)) }
-        ensures takes { IfOk result (λ new. TakesBoardings (C.rules (lists_criterion self.old)) (steps_of self.new)
-            departure first walk secs (ride ∷ [])
-            (points_from (entries_of self.old) (items_of self.old) head)
-            (points_from (entries_of self.new) (items_of self.new) new)) }
+        requires may { MayTake C.rules self.old head secs (ride ∷ []) }
+        ensures more { AreMoreLists C.rules self.old self.new }
+        ensures taken { IfOk result (λ new. HasTaken C.rules departure first walk
+            secs (ride ∷ []) self.old head self.new new) }
     {
         let boarding = Boarding {
             departure,
@@ -341,21 +310,11 @@ impl<C: Criterion> FrontLists<C> {
         boarding: Boarding,
         ride: RiddenLabel<C::V>,
     ) -> Result<u32, AllocError>
-        requires sound { IsSound C.rules self.old }
-        requires head { head < length (entries_of self.old) }
+        requires may { MayTake C.rules self.old head boarding.secs (ride ∷ []) }
         requires ahead { boarding.departure ≤ departure_of (entries_of self.old) head }
-        requires secs { IsSecs boarding.secs }
-        requires ride { Admits (C.rules (lists_criterion self.old)) ride.value }
-        ensures sound { IsSound C.rules self.new }
-        ensures criterion { lists_criterion self.new ≡ lists_criterion self.old }
-        ensures more_entries { Extends (entries_of self.old) (entries_of self.new) }
-        ensures more_items { Extends (items_of self.old) (items_of self.new) }
-        ensures more_steps { Extends (steps_of self.old) (steps_of self.new) }
-        ensures within { IfOk result (λ new. new < length (entries_of self.new)) }
-        ensures takes { IfOk result (λ new. TakesBoardings (C.rules (lists_criterion self.old)) (steps_of self.new)
-            boarding.departure boarding.first boarding.walk boarding.secs (ride ∷ [])
-            (points_from (entries_of self.old) (items_of self.old) head)
-            (points_from (entries_of self.new) (items_of self.new) new)) }
+        ensures more { AreMoreLists C.rules self.old self.new }
+        ensures taken { IfOk result (λ new. HasTaken C.rules boarding.departure boarding.first boarding.walk
+            boarding.secs (ride ∷ []) self.old head self.new new) }
     {
         let value = self.criterion.walk(boarding.secs, &ride.value);
         let arena = Arena {
@@ -386,10 +345,7 @@ impl<C: Criterion> FrontLists<C> {
         requires sound { IsSound C.rules self.old }
         requires may { MayPut (C.rules (lists_criterion self.old)) (entries_of self.old) (items_of self.old) point.departure head
             (point ∷ []) }
-        ensures sound { IsSound C.rules self.new }
-        ensures criterion { lists_criterion self.new ≡ lists_criterion self.old }
-        ensures more_entries { Extends (entries_of self.old) (entries_of self.new) }
-        ensures more_items { Extends (items_of self.old) (items_of self.new) }
+        ensures more { AreMoreLists C.rules self.old self.new }
         ensures steps { steps_of self.new ≡ steps_of self.old }
         ensures within { IfOk result (λ new. new < length (entries_of self.new)) }
         ensures union { IfOk result (λ new. IsUnion (C.rules (lists_criterion self.old)) (point ∷ [])
