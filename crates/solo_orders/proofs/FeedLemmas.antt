@@ -1,4 +1,4 @@
--- The first feed of a name, and what is told of its load.
+-- The first feed of a name, and what is said of its load.
 use Rattle.std.proofs.Common.{◌≡◌, ◌<◌, ℕ, List, [], ◌∷◌, Option, Some, None, Result}
 use Rattle.std.proofs.Common.{Ok, Err, IfErr, IfOk, MatchOption, length, refl, sym, bytes_eq, get_or, string_bytes}
 use Rattle.std.specs.List.{remove}

@@ -193,7 +193,7 @@ fn made_text(alloc: Global, made: &Made, is_counted: bool) -> Result<String, All
     Ok(text)
 }
 
-// Feeds with further files, of which all is told, or only the counts.
+// Feeds with further files, of which all is printed, or only the counts.
 #[derive(Drop)]
 struct Feeds {
     further: &'static str,

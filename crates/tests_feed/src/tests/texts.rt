@@ -51,7 +51,7 @@ pub(crate) trait Reporter {
     fn reported<R: Abort>(&self, rt: &R, alloc: Global, case: Case<'_>) -> Result<String, Fail>;
 }
 
-/// Asserts that what is told of a case is what it expects.
+/// Asserts that what is printed of a case is what it expects.
 fn try_case<R: Abort, T: Reporter>(
     rt: &R,
     alloc: Global,
@@ -219,7 +219,7 @@ pub(crate) fn files_of(alloc: Global, feed: &str) -> Result<Vec<(&str, &[u8])>, 
     Ok(files)
 }
 
-/// The fault that memory ran out for the files themselves, told of the first file.
+/// The fault that memory ran out for the files themselves, reported of the first file.
 fn wanting() -> TableFault {
     TableFault {
         file: Table::Agency,

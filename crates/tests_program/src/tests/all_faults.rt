@@ -6,7 +6,7 @@ use std::test::Fail;
 
 /// Faults of several kinds in several files, and files as a whole.
 const ALL_FAULTS: &str = "
-# Without a fault nothing is told, and the output is the same.
+# Without a fault nothing is reported, and the output is the same.
 base
 run tables base_feed --all-faults
 answers tables agencies 1 stops 3 trips 2 stop_times 5 calendar 1 calendar_dates 0 transfers 0
@@ -120,7 +120,7 @@ answers refused 1 MissingFile agency.txt 0
 
 /// Faults in the times of several trips.
 const TIMES: &str = "
-# Of each trip whose times are wrong the first fault is told, also of one that isn't in trips.txt. A trip with a blank \
+# Of each trip whose times are wrong the first fault is reported, also of one that isn't in trips.txt. A trip with a blank \
 stop_id isn't judged.
 base
 run tables base_feed --all-faults
@@ -183,7 +183,7 @@ remove base_feed
 
 /// Many faults of one kind, and lines that end and quote in various ways.
 const MANY_FAULTS: &str = "
-# Of 150 faults of a kind 100 are told.
+# Of 150 faults of a kind 100 are listed.
 base
 run tables base_feed --all-faults
 file base_feed/stop_times.txt

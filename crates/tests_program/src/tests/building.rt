@@ -115,7 +115,7 @@ remove base_feed
 ";
 
 const FEEDS: &str = "
-# One trip that stands still for a while, as its times are told: each hop takes a second at least, or is refused.
+# One trip that stands still for a while, as its times say: each hop takes a second at least, or is refused.
 folder feed
 rows feed/agency.txt agency_timezone | Etc/UTC
 rows feed/stops.txt stop_id | A | B | C | D
@@ -210,7 +210,7 @@ answers points 0 read 0 walk 180
 remove feed.csa
 remove feed
 
-# The zone is judged before the folder is looked at; a zone file that can't be read is told too.
+# The zone is judged before the folder is looked at; a zone file that can't be read is reported too.
 run build no_such_feed none.csa --first 20240115 --days 1 --zone fixed:0
 tells csa: no_such_feed: no such file or folder
 answers refused 1 MissingFile agency.txt 0
@@ -224,7 +224,7 @@ run build no_such_feed none.csa --first 20240115 --days 1 --zone file:no_such_zo
 tells csa: no_such_zone can't be read: no such file or folder
 ends 3
 
-# A feed's file that can't be read is told with status 3; what is refused is told before the file that can't be written.
+# A feed's file that can't be read is reported with status 3; what is refused is reported before the file that can't be written.
 folder unread
 folder unread/agency.txt
 run build unread no_such_folder/unread.csa --first 20240115 --days 1 --zone fixed:0

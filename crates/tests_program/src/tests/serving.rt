@@ -48,7 +48,7 @@ ends 64
 run serve --image 'no such file' --port 0 --workers 2 --sessions 1 --first 20240115 --days 1 --zone fixed:0 slow=slow_feed
 complains 3
 
-# A zone that is none is told before an image that is none.
+# A zone that is none is refused before an image that is none.
 run serve --image - --port 0 --workers 2 --sessions 1 --first 20240115 --days 1 --zone posix:none slow=slow_feed
 tells csa: --zone: file:PATH must be a time zone file (TZif), posix:TEXT a rule such as CET-1CEST,M3.5.0,M10.5.0/3
 answers refused 21 BadZone

@@ -361,7 +361,7 @@ fn count<R: Machine>(rt: &R, stage: &mut Stage<'_>, text: &str) -> Result<(), Fa
         match numbered.as_str().split_once(' ') {
             Some(("has", row)) => write_line(rt, stage, row, "\n")?,
             Some(("tells", row)) => stage.tells(row)?,
-            _ => return Err(Fail::new("a line that is neither had nor told")),
+            _ => return Err(Fail::new("a line that is neither read nor written")),
         }
     }
     Ok(())

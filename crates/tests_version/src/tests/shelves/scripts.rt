@@ -109,7 +109,7 @@ fn add(reported: &mut String, answer: Result<String, AllocError>) -> Result<(), 
     reported.push_str(answer.as_str())
 }
 
-/// Adds what is told of a round, one answer after another.
+/// Adds what is noted of a round, one answer after another.
 fn add_round<S: Stage, R: Wait>(
     rt: &R,
     stage: &mut S,
