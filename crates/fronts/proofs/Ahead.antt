@@ -3,15 +3,15 @@ use Rattle.std.proofs.Common.{◌≡◌, ◌⊎◌, ℕ, zero, suc, ◌<◌, ◌
 use Rattle.std.proofs.Common.{Contains, inl, inr, refl, sym, ◌∙◌, ap, subst, arith}
 use Rattle.std.proofs.lemmas.List.Elements.{Contains-push, Contains-push_cases}
 use Rattle.reasoning.proofs.ListLemmas.{not_in_nil}
-use Rattle.criteria.specs.Laws.{Rules, Laws, Admits, IsSecs}
+use Rattle.criteria.specs.Laws.{Rules, Laws, Admits}
+use Rattle.fronts.specs.declared.entry.Boarding.{Boarding}
 use Rattle.fronts.specs.declared.entry.Item.{Item}
 use Rattle.fronts.specs.declared.entry.FrontEntry.{FrontEntry}
 use Rattle.fronts.specs.declared.entry.RiddenLabel.{RiddenLabel}
 use Rattle.fronts.specs.declared.entry.Step.{Step}
 use Rattle.fronts.specs.Front.{front, departure_of, points_from, Betters}
-use Rattle.fronts.specs.Entries.{AreEntries}
 use Rattle.fronts.specs.Putting.{betters, IsLate, MayPut, IsUnion}
-use Rattle.fronts.specs.Walking.{AllWalked, TakesBoardings}
+use Rattle.fronts.specs.Walking.{AllWalked, MayInsert, TakesBoardings}
 use Rattle.fronts.proofs.Walks.{boardings_none, boardings_more}
 use Rattle.fronts.proofs.OnePut.{betters_some}
 use Rattle.fronts.proofs.Inserted.{AreWalked, takes_none, takes_may, takes_put}
@@ -47,80 +47,81 @@ module _ {V : Type 0} (rules : Rules V) (ride : RiddenLabel V) where
   one_walked secs points kept low (suc k) d lt = absurd (omega arith)
 
   -- the value is bettered by a front of what departs at a time or later
-  pub late_none : (laws : Laws rules) (entries : List (FrontEntry V)) (items : List (Item V)) → AreEntries rules entries items
-      → (head departure first walk secs after : ℕ) → IsLate entries items head departure after → IsSecs secs
-      → Admits rules ride.value → (steps : List Step)
-      → Betters rules (front entries items after) (rules.walk secs ride.value)
-      → TakesBoardings rules steps departure first walk secs (ride ∷ []) (points_from entries items head) (points_from entries items head)
-  late_none laws entries items are head departure first walk secs after late short fair steps low =
-      let known : AreWalked rules entries items head departure first walk secs after (ride ∷ []) steps [] = record {
-        short = short;
-        fair = fair_one fair;
-        are = are;
+  pub late_none : (laws : Laws rules) (entries : List (FrontEntry V)) (items : List (Item V)) (head : ℕ) (boarding : Boarding)
+      → MayInsert rules entries items head boarding.secs (ride ∷ []) → (after : ℕ)
+      → IsLate entries items head boarding.departure after → (steps : List Step)
+      → Betters rules (front entries items after) (rules.walk boarding.secs ride.value)
+      → TakesBoardings rules steps boarding (ride ∷ []) (points_from entries items head) (points_from entries items head)
+  late_none laws entries items head boarding may after late steps low =
+      let known : AreWalked rules entries items head boarding after (ride ∷ []) steps [] = record {
+        may = may;
         late = late;
-        boarded = boardings_none rules departure first walk secs (ride ∷ []) steps [] refl;
-        fresh = λ p h. absurd (not_in_nil p h);
+        keeps = record {
+          boarded = boardings_none rules boarding (ride ∷ []) steps [] refl;
+          few = omega arith;
+          fresh = λ p h. absurd (not_in_nil p h);
+          all = one_walked boarding.secs (front entries items after) [] (inr low);
+        };
         alone = λ says. omega arith;
-        all = one_walked secs (front entries items after) [] (inr low);
       } in
-      takes_none rules laws entries items head departure first walk secs after (ride ∷ []) steps [] known refl
+      takes_none rules laws entries items head boarding after (ride ∷ []) steps [] known refl
 
 module _ {V : Type 0} (rules : Rules V) (laws : Laws rules) (entries : List (FrontEntry V)) (items : List (Item V))
-    (are : AreEntries rules entries items) (head departure first walk secs : ℕ) (ride : RiddenLabel V)
-    (within : head < length entries) (ahead : departure ≤ departure_of entries head) (short : IsSecs secs)
-    (fair : Admits rules ride.value) where
+    (head : ℕ) (boarding : Boarding) (ride : RiddenLabel V) (may : MayInsert rules entries items head boarding.secs (ride ∷ []))
+    (ahead : boarding.departure ≤ departure_of entries head) where
   -- the list itself is what departs then or later
-  late_here : IsLate entries items head departure head
-  late_here = record { within = within; late = ahead; only = λ p h. h; all = λ p h late. h }
+  late_here : IsLate entries items head boarding.departure head
+  late_here = record { within = may.within; late = ahead; only = λ p h. h; all = λ p h late. h }
 
   -- the value is bettered
-  pub ahead_none : (steps : List Step) → Betters rules (front entries items head) (rules.walk secs ride.value)
-      → TakesBoardings rules steps departure first walk secs (ride ∷ []) (points_from entries items head) (points_from entries items head)
-  ahead_none steps low = late_none rules ride laws entries items are head departure first walk secs head late_here short fair steps low
+  pub ahead_none : (steps : List Step) → Betters rules (front entries items head) (rules.walk boarding.secs ride.value)
+      → TakesBoardings rules steps boarding (ride ∷ []) (points_from entries items head) (points_from entries items head)
+  ahead_none steps low = late_none rules ride laws entries items head boarding may head late_here steps low
 
-  module _ (steps new : List Step) (tag : ℕ) (v : V) (worth : v ≡ rules.walk secs ride.value)
-      (pushed : new ≡ steps ++ record { first = first; label = ride.label; walk = walk } ∷ []) (numbered : tag ≡ length steps)
+  module _ (steps new : List Step) (tag : ℕ) (v : V) (worth : v ≡ rules.walk boarding.secs ride.value)
+      (pushed : new ≡ steps ++ record { first = boarding.first; label = ride.label; walk = boarding.walk } ∷ []) (numbered : tag ≡ length steps)
       (fresh : betters rules (front entries items head) v ≡ false) where
     -- the value, with its step's index
     value_kept : ℕ → List (Item V)
-    value_kept n = record { departure = departure; value = v; tag = n } ∷ []
+    value_kept n = record { departure = boarding.departure; value = v; tag = n } ∷ []
 
-    known_at : AreWalked rules entries items head departure first walk secs head (ride ∷ []) new (value_kept (length steps))
+    known_at : AreWalked rules entries items head boarding head (ride ∷ []) new (value_kept (length steps))
     unfolding value_kept
     known_at =
-        let admitted = subst (Admits rules) (sym worth) (laws.walk_admits secs ride.value short fair) in
-        let m = boardings_more rules departure first walk secs (ride ∷ []) laws steps new [] (value_kept (length steps)) v ride
-        (boardings_none rules departure first walk secs (ride ∷ []) steps [] refl) admitted (Contains-push [] ride) worth
+        let admitted = subst (Admits rules) (sym worth) (laws.walk_admits boarding.secs ride.value may.short (may.admitted ride (Contains-push [] ride))) in
+        let m = boardings_more rules boarding (ride ∷ []) laws steps new [] (value_kept (length steps)) v ride
+        (boardings_none rules boarding (ride ∷ []) steps [] refl) admitted (Contains-push [] ride) worth
         (record { steps_more = pushed; kept_more = refl }) in
         record {
-          short = short;
-          fair = fair_one rules ride fair;
-          are = are;
+          may = may;
           late = late_here;
-          boarded = m.0;
-          fresh = λ p h. elim (Contains-push_cases [] (record { departure = departure; value = v; tag = length steps }) p h) [
-            | inl n ↦ absurd (not_in_nil p n)
-            | inr e ↦ subst (λ (z : Item V). betters rules (front entries items head) z.value ≡ false) e fresh
-          ];
+          keeps = record {
+            boarded = m.0;
+            few = omega arith;
+            fresh = λ p h. elim (Contains-push_cases [] (record { departure = boarding.departure; value = v; tag = length steps }) p h) [
+              | inl n ↦ absurd (not_in_nil p n)
+              | inr e ↦ subst (λ (z : Item V). betters rules (front entries items head) z.value ≡ false) e fresh
+            ];
+            all = one_walked rules ride boarding.secs (front entries items head) (value_kept (length steps))
+                (inl (subst (Betters rules (value_kept (length steps))) worth m.2));
+          };
           alone = λ says. omega arith;
-          all = one_walked rules ride secs (front entries items head) (value_kept (length steps))
-              (inl (subst (Betters rules (value_kept (length steps))) worth m.2));
         }
 
-    known_one : AreWalked rules entries items head departure first walk secs head (ride ∷ []) new
-        (record { departure = departure; value = v; tag = tag } ∷ [])
+    known_one : AreWalked rules entries items head boarding head (ride ∷ []) new
+        (record { departure = boarding.departure; value = v; tag = tag } ∷ [])
     unfolding value_kept
-    known_one = subst (λ n. AreWalked rules entries items head departure first walk secs head (ride ∷ []) new (value_kept n))
+    known_one = subst (λ n. AreWalked rules entries items head boarding head (ride ∷ []) new (value_kept n))
         (sym numbered) known_at
 
     -- it may be put
-    pub ahead_may : MayPut rules entries items departure head (record { departure = departure; value = v; tag = tag } ∷ [])
-    ahead_may = takes_may rules laws entries items head departure first walk secs head (ride ∷ []) new
-        (record { departure = departure; value = v; tag = tag } ∷ []) known_one (omega arith)
+    pub ahead_may : MayPut rules entries items boarding.departure head (record { departure = boarding.departure; value = v; tag = tag } ∷ [])
+    ahead_may = takes_may rules laws entries items head boarding head (ride ∷ []) new
+        (record { departure = boarding.departure; value = v; tag = tag } ∷ []) known_one (omega arith)
 
     -- and is then taken in
     pub ahead_one : (put : List (Item V))
-        → IsUnion rules (record { departure = departure; value = v; tag = tag } ∷ []) (points_from entries items head) put
-        → TakesBoardings rules new departure first walk secs (ride ∷ []) (points_from entries items head) put
-    ahead_one put union = takes_put rules laws entries items head departure first walk secs head (ride ∷ []) new
-        (record { departure = departure; value = v; tag = tag } ∷ []) known_one put (λ d w a c. c) union
+        → IsUnion rules (record { departure = boarding.departure; value = v; tag = tag } ∷ []) (points_from entries items head) put
+        → TakesBoardings rules new boarding (ride ∷ []) (points_from entries items head) put
+    ahead_one put union = takes_put rules laws entries items head boarding head (ride ∷ []) new
+        (record { departure = boarding.departure; value = v; tag = tag } ∷ []) known_one put (λ d w a c. c) union

@@ -8,7 +8,7 @@ use Rattle.fronts.specs.declared.entry.Item.{Item}
 use Rattle.fronts.specs.declared.entry.FrontEntry.{FrontEntry}
 use Rattle.fronts.specs.Front.{own, front_of, front, next_in, next_of, departure_in, departure_of, points_to, points_from, Extends}
 use Rattle.fronts.specs.declared.front_lists.FrontLists.{FrontLists}
-use Rattle.fronts.specs.Entries.{AreEntries, IsLinked}
+use Rattle.fronts.specs.Entries.{AreEntries, AreMore, IsLinked}
 use Rattle.fronts.specs.Lists.{lists_criterion, entries_of, items_of, steps_of, point_of, list_points, IsSound, AreMoreLists}
 
 pub extends_long : {X : Type 0} (old new : List X) → Extends old new → length old ≤ length new
@@ -80,6 +80,26 @@ module _ {V : Type 0} (rules : Rules V) (old_entries new_entries : List (FrontEn
   pub same_points : (m : ℕ) → m < length old_entries → points_from new_entries new_items m ≡ points_from old_entries old_items m
   same_points m lt = same_to m m lt
 
+-- nothing is added
+pub same_entries : {V : Type 0} (rules : Rules V) (entries : List (FrontEntry V)) (items : List (Item V))
+    → AreEntries rules entries items → AreMore rules entries items entries items
+same_entries rules entries items are = record { sound = are; entries_more = extends_none entries; items_more = extends_none items }
+
+-- items alone are added
+pub items_added : {V : Type 0} (rules : Rules V) (entries : List (FrontEntry V)) (old new : List (Item V))
+    → AreEntries rules entries old → Extends old new → AreMore rules entries old entries new
+items_added rules entries old new are ext =
+    record { sound = are_more rules entries old new are ext; entries_more = extends_none entries; items_more = ext }
+
+-- and then more is
+pub still_more : {V : Type 0} (rules : Rules V) (old mid new : List (FrontEntry V)) (old_items mid_items new_items : List (Item V))
+    → AreMore rules old old_items mid mid_items → AreMore rules mid mid_items new new_items → AreMore rules old old_items new new_items
+still_more rules old mid new old_items mid_items new_items before after = record {
+  sound = after.sound;
+  entries_more = extends_on old mid new before.entries_more after.entries_more;
+  items_more = extends_on old_items mid_items new_items before.items_more after.items_more;
+}
+
 module _ {K V : Type 0} (rules_of : K → Rules V) where
   pub more_none : (lists : FrontLists K V) → IsSound rules_of lists → AreMoreLists rules_of lists lists
   more_none lists sound = record {
@@ -88,6 +108,18 @@ module _ {K V : Type 0} (rules_of : K → Rules V) where
     entries = extends_none (entries_of lists);
     items = extends_none (items_of lists);
     steps = extends_none (steps_of lists);
+  }
+
+  -- entries, items and steps are added
+  pub more_lists : (old new : FrontLists K V)
+      → AreMore (rules_of (lists_criterion old)) (entries_of old) (items_of old) (entries_of new) (items_of new)
+      → lists_criterion new ≡ lists_criterion old → Extends (steps_of old) (steps_of new) → AreMoreLists rules_of old new
+  more_lists old new more same steps = record {
+    sound = subst (λ k. AreEntries (rules_of k) (entries_of new) (items_of new)) (sym same) more.sound;
+    criterion = same;
+    entries = more.entries_more;
+    items = more.items_more;
+    steps = steps;
   }
 
   pub more_on : (old mid new : FrontLists K V) → AreMoreLists rules_of old mid → AreMoreLists rules_of mid new

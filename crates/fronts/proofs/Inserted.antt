@@ -1,18 +1,20 @@
 -- An insertion as a whole.
 use Rattle.std.proofs.Common.{◌≡◌, ◌⊎◌, ℕ, ◌<◌, ◌≤◌, List, [], ◌∷◌, length, get_or, Contains, false, inl, inr, ap, sym, ◌∙◌, subst, arith}
 use Rattle.std.proofs.lemmas.List.Elements.{Contains-append_cases, Contains-push_cases}
-use Rattle.reasoning.proofs.ListLemmas.{not_in_nil}
-use Rattle.criteria.specs.Laws.{Rules, Laws, Admits, IsSecs}
+use Rattle.reasoning.proofs.ListLemmas.{extends_none, not_in_nil}
+use Rattle.criteria.specs.Laws.{Rules, Laws, Admits}
+use Rattle.fronts.specs.declared.entry.Boarding.{Boarding}
 use Rattle.fronts.specs.declared.entry.Item.{Item}
 use Rattle.fronts.specs.declared.entry.FrontEntry.{FrontEntry}
 use Rattle.fronts.specs.declared.entry.RiddenLabel.{RiddenLabel}
 use Rattle.fronts.specs.declared.entry.Step.{Step}
 use Rattle.fronts.specs.Front.{front, next_of, departure_of, points_from, Betters, Covers, Extends}
 use Rattle.fronts.specs.Entries.{AreEntries}
-use Rattle.fronts.specs.Putting.{betters, IsLate, IsPath, DepartBefore, CoversAll, MayPut, IsUnion}
+use Rattle.fronts.specs.Putting.{IsLate, IsPath, DepartBefore, CoversAll, MayPut, IsUnion}
 use Rattle.fronts.specs.Labels.{SaysTotal}
-use Rattle.fronts.specs.Walking.{AreBoardings, AllWalked, TakesBoardings}
+use Rattle.fronts.specs.Walking.{MayInsert, AreKept, TakesBoardings}
 use Rattle.fronts.proofs.Growth.{extends_long, same_points, same_departure, same_next}
+use Rattle.fronts.proofs.Joining.{joined_here}
 use Rattle.fronts.proofs.Points.{of_front}
 
 path_within : {V : Type 0} (entries : List (FrontEntry V)) (head : ℕ) (bs : List ℕ) (m b : ℕ) → IsPath entries head bs m → Contains bs b → b < length entries
@@ -49,64 +51,56 @@ late_covers : {V : Type 0} (rules : Rules V) (entries : List (FrontEntry V)) (it
 late_covers rules entries items are departure m v early (p, h, w) =
     (let late = (are.each m).late p h in (p, of_front rules entries items are m p h, omega arith, w))
 
--- what is known of an insertion once its values are walked: those that no point of the list's front betters are kept
+-- what is known of an insertion once its values are walked
 pub record AreWalked {V : Type 0} (rules : Rules V) (entries : List (FrontEntry V)) (items : List (Item V))
-    (head departure first walk secs after : ℕ) (ridden : List (RiddenLabel V)) (steps : List Step)
+    (head : ℕ) (boarding : Boarding) (after : ℕ) (ridden : List (RiddenLabel V)) (steps : List Step)
     (kept : List (Item V)) : Type 0 where
-  pub short : IsSecs secs
-  pub fair : (r : RiddenLabel V) → Contains ridden r → Admits rules r.value
-  pub are : AreEntries rules entries items
-  pub late : IsLate entries items head departure after
-  pub boarded : AreBoardings rules steps departure first walk secs ridden kept
-  pub fresh : (p : Item V) → Contains kept p → betters rules (front entries items after) p.value ≡ false
+  pub may : MayInsert rules entries items head boarding.secs ridden
+  pub late : IsLate entries items head boarding.departure after
+  pub keeps : AreKept rules (front entries items after) steps boarding ridden kept
   pub alone : SaysTotal rules → length kept ≤ 1
-  pub all : AllWalked rules (front entries items after) secs ridden (length ridden) kept
 
 -- the same, where the list was passed and the values were walked in what was read of it
 pub walked : {V : Type 0} (rules : Rules V) (entries : List (FrontEntry V)) (items : List (Item V))
-    (head departure first walk secs after : ℕ) (ridden : List (RiddenLabel V)) (steps : List Step) (kept : List (Item V))
+    (head : ℕ) (boarding : Boarding) (after : ℕ) (ridden : List (RiddenLabel V)) (steps : List Step) (kept : List (Item V))
     (passed met : List (FrontEntry V)) (passed_items met_items : List (Item V))
-    → passed ≡ entries → passed_items ≡ items → met ≡ entries → met_items ≡ items → IsSecs secs
-    → ((r : RiddenLabel V) → Contains ridden r → Admits rules r.value) → AreEntries rules entries items
-    → IsLate passed passed_items head departure after
-    → AreBoardings rules steps departure first walk secs ridden kept
-    → ((p : Item V) → Contains kept p → betters rules (front met met_items after) p.value ≡ false)
-    → (SaysTotal rules → length kept ≤ 1)
-    → AllWalked rules (front met met_items after) secs ridden (length ridden) kept
-    → AreWalked rules entries items head departure first walk secs after ridden steps kept
-walked {V} rules entries items head departure first walk secs after ridden steps kept passed met passed_items met_items
-    passed_is passed_items_is met_is met_items_is short fair are late boarded fresh alone all = record {
-      short = short;
-      fair = fair;
-      are = are;
-      late = subst (λ es. IsLate es items head departure after) passed_is (subst (λ ps. IsLate passed ps head departure after) passed_items_is late);
-      boarded = boarded;
-      fresh = λ p h. sym (ap (λ es. betters rules (front es met_items after) p.value) met_is
-          ∙ ap (λ ps. betters rules (front entries ps after) p.value) met_items_is) ∙ fresh p h;
-      alone = alone;
-      all = subst (λ es. AllWalked rules (front es items after) secs ridden (length ridden) kept) met_is
-          (subst (λ ps. AllWalked rules (front met ps after) secs ridden (length ridden) kept) met_items_is all);
+    → passed ≡ entries → passed_items ≡ items → met ≡ entries → met_items ≡ items
+    → MayInsert rules entries items head boarding.secs ridden → (SaysTotal rules → length ridden ≤ 1)
+    → IsLate passed passed_items head boarding.departure after
+    → AreKept rules (front met met_items after) steps boarding ridden kept
+    → AreWalked rules entries items head boarding after ridden steps kept
+walked {V} rules entries items head boarding after ridden steps kept passed met passed_items met_items
+    passed_is passed_items_is met_is met_items_is may few late keeps = record {
+      may = may;
+      late = subst (λ es. IsLate es items head boarding.departure after) passed_is
+          (subst (λ ps. IsLate passed ps head boarding.departure after) passed_items_is late);
+      keeps = subst (λ es. AreKept rules (front es items after) steps boarding ridden kept) met_is
+          (subst (λ ps. AreKept rules (front met ps after) steps boarding ridden kept) met_items_is keeps);
+      alone = λ says. let most = few says in let fewer = keeps.few in omega arith;
     }
 
 module _ {V : Type 0} (rules : Rules V) (laws : Laws rules) (entries : List (FrontEntry V)) (items : List (Item V))
-    (head departure first walk secs after : ℕ) (ridden : List (RiddenLabel V)) (steps : List Step) (kept : List (Item V))
-    (are : AreWalked rules entries items head departure first walk secs after ridden steps kept) where
+    (head : ℕ) (boarding : Boarding) (after : ℕ) (ridden : List (RiddenLabel V)) (steps : List Step) (kept : List (Item V))
+    (are : AreWalked rules entries items head boarding after ridden steps kept) where
   kept_admitted : (p : Item V) → Contains kept p → Admits rules p.value
-  kept_admitted p h = let b = are.boarded p h in subst (Admits rules) (sym b.worth) (laws.walk_admits secs b.by.value are.short (are.fair b.by b.is_ridden))
+  kept_admitted p h =
+      let b = are.keeps.boarded p h in
+      subst (Admits rules) (sym b.worth) (laws.walk_admits boarding.secs b.by.value are.may.short (are.may.admitted b.by b.is_ridden))
 
   -- each of the values is bettered by what is kept, or covered already
   bettered : (r : RiddenLabel V) → Contains ridden r
-      → Betters rules kept (rules.walk secs r.value)
-      ⊎ Covers rules (points_from entries items after) departure (rules.walk secs r.value)
-  bettered r h = subst (λ (z : RiddenLabel V). Betters rules kept (rules.walk secs z.value)
-      ⊎ Covers rules (points_from entries items after) departure (rules.walk secs z.value)) h.2
-      (elim (are.all h.0 r h.1) [
+      → Betters rules kept (rules.walk boarding.secs r.value)
+      ⊎ Covers rules (points_from entries items after) boarding.departure (rules.walk boarding.secs r.value)
+  bettered r h = subst (λ (z : RiddenLabel V). Betters rules kept (rules.walk boarding.secs z.value)
+      ⊎ Covers rules (points_from entries items after) boarding.departure (rules.walk boarding.secs z.value)) h.2
+      (elim (are.keeps.all h.0 r h.1) [
         | inl b ↦ inl b
-        | inr b ↦ inr (late_covers rules entries items are.are departure after (rules.walk secs (get_or ridden h.0 r).value) are.late.late b)
+        | inr b ↦ inr (late_covers rules entries items are.may.sound boarding.departure after (rules.walk boarding.secs
+            (get_or ridden h.0 r).value) are.late.late b)
       ])
 
   -- nothing is kept
-  pub takes_none : length kept ≡ 0 → TakesBoardings rules steps departure first walk secs ridden
+  pub takes_none : length kept ≡ 0 → TakesBoardings rules steps boarding ridden
       (points_from entries items head) (points_from entries items head)
   takes_none none = record {
     only = λ p h. inl h;
@@ -117,14 +111,15 @@ module _ {V : Type 0} (rules : Rules V) (laws : Laws rules) (entries : List (Fro
     ];
   }
 
-  pub takes_may : 0 < length kept → MayPut rules entries items departure after kept
+  pub takes_may : 0 < length kept → MayPut rules entries items boarding.departure after kept
   takes_may some = record {
+    sound = are.may.sound;
     within = are.late.within;
     early = are.late.late;
     some = some;
-    departs = λ p h. (are.boarded p h).departs;
+    departs = λ p h. (are.keeps.boarded p h).departs;
     admitted = kept_admitted;
-    fresh = are.fresh;
+    fresh = are.keeps.fresh;
     alone = are.alone;
   }
 
@@ -132,41 +127,34 @@ module _ {V : Type 0} (rules : Rules V) (laws : Laws rules) (entries : List (Fro
       → Extends items two_items → IsUnion rules kept (points_from entries items after) put
       → CoversAll rules (points_from two two_items after) put
   takes_covers two two_items put ext ext_items union d v a c =
-      union.kept_second d v a (subst (λ ps. Covers rules ps d v) (same_points rules entries two items two_items are.are ext ext_items after are.late.within) c)
+      union.kept_second d v a (subst (λ ps. Covers rules ps d v) (same_points rules entries two items two_items are.may.sound ext ext_items after
+      are.late.within) c)
 
   pub takes_all : (two : List (FrontEntry V)) (two_items put new : List (Item V)) → Extends entries two
-      → Extends items two_items → head < length entries → IsUnion rules kept (points_from entries items after) put
+      → Extends items two_items → IsUnion rules kept (points_from entries items after) put
       → IsUnion rules (points_from two two_items head) put new
-      → TakesBoardings rules steps departure first walk secs ridden (points_from entries items head) new
-  takes_all two two_items put new ext ext_items head_in union joined =
-      let same = same_points rules entries two items two_items are.are ext ext_items head head_in in
+      → TakesBoardings rules steps boarding ridden (points_from entries items head) new
+  takes_all two two_items put new ext ext_items union joined =
+      let same = same_points rules entries two items two_items are.may.sound ext ext_items head are.may.within in
       record {
         only = λ p h. elim (joined.only p h) [
           | inl a ↦ inl (subst (λ ps. Contains ps p) same a)
-          | inr b ↦ elim (union.only p b) [ inl k ↦ inr (are.boarded p k) | inr a ↦ inl (are.late.only p a) ]
+          | inr b ↦ elim (union.only p b) [ inl k ↦ inr (are.keeps.boarded p k) | inr a ↦ inl (are.late.only p a) ]
         ];
         kept = λ d v a c. joined.kept_first d v a (subst (λ ps. Covers rules ps d v) (sym same) c);
         covered = λ r h.
-            let v = rules.walk secs r.value in
-            let a = laws.walk_admits secs r.value are.short (are.fair r h) in
-            joined.kept_second departure v a (elim (bettered r h) [
-              | inl k ↦ (let at = (are.boarded k.0 k.1).departs in union.kept_first departure v a (k.0, k.1, omega arith, k.2))
-              | inr c ↦ union.kept_second departure v a c
+            let v = rules.walk boarding.secs r.value in
+            let a = laws.walk_admits boarding.secs r.value are.may.short (are.may.admitted r h) in
+            joined.kept_second boarding.departure v a (elim (bettered r h) [
+              | inl k ↦ (let at = (are.keeps.boarded k.0 k.1).departs in union.kept_first boarding.departure v a (k.0, k.1, omega arith, k.2))
+              | inr c ↦ union.kept_second boarding.departure v a c
             ]);
       }
 
   -- what is kept is put before the whole list
   pub takes_put : (put : List (Item V)) → CoversAll rules (points_from entries items head) (points_from entries items after)
       → IsUnion rules kept (points_from entries items after) put
-      → TakesBoardings rules steps departure first walk secs ridden (points_from entries items head) put
-  takes_put put whole union = record {
-    only = λ p h. elim (union.only p h) [ inl k ↦ inr (are.boarded p k) | inr a ↦ inl (are.late.only p a) ];
-    kept = λ d v a c. union.kept_second d v a (whole d v a c);
-    covered = λ r h.
-        let v = rules.walk secs r.value in
-        let a = laws.walk_admits secs r.value are.short (are.fair r h) in
-        elim (bettered r h) [
-          | inl k ↦ (let at = (are.boarded k.0 k.1).departs in union.kept_first departure v a (k.0, k.1, omega arith, k.2))
-          | inr c ↦ union.kept_second departure v a c
-        ];
-  }
+      → TakesBoardings rules steps boarding ridden (points_from entries items head) put
+  takes_put put whole union =
+      takes_all entries items put put (extends_none entries) (extends_none items) union
+      (joined_here rules (points_from entries items head) put (λ d v a c. union.kept_second d v a (whole d v a c)))

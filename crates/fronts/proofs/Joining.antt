@@ -9,7 +9,7 @@ use Rattle.fronts.specs.declared.entry.Item.{Item}
 use Rattle.fronts.specs.declared.entry.FrontEntry.{FrontEntry}
 use Rattle.fronts.specs.Front.{front, next_of, departure_of, points_from, Betters, Covers, Extends}
 use Rattle.fronts.specs.Entries.{AreEntries}
-use Rattle.fronts.specs.Putting.{betters, left_by, CoversAll, MayPut, IsUnion}
+use Rattle.fronts.specs.Putting.{betters, left_by, CoversAll, MayPut, IsUnion, MayJoin}
 use Rattle.fronts.proofs.Growth.{same_points, same_next}
 use Rattle.fronts.proofs.Points.{of_front, of_next, front_or_next, front_betters_all, front_few, points_admitted}
 use Rattle.fronts.proofs.OnePut.{betters_some}
@@ -27,20 +27,18 @@ few_pass {X} test (x ∷ []) few = elim (cases_Bool (test x)) [
 few_pass test (x ∷ y ∷ xs) few = absurd (omega arith)
 
 module _ {V : Type 0} (rules : Rules V) (laws : Laws rules) (entries : List (FrontEntry V)) (items : List (Item V))
-    (are : AreEntries rules entries items) (from index : ℕ)
-    (early : departure_of entries from < departure_of entries index)
-    (covers : CoversAll rules (points_from entries items (next_of entries from)) (points_from entries items index))
+    (from index : ℕ) (may : MayJoin rules entries items from index)
     (kept : List (Item V)) (is : kept ≡ left_by rules (front entries items index) (front entries items from)) where
   -- a point of the front of what comes after is bettered
   next_bettered : (p : Item V) → Contains (points_from entries items (next_of entries from)) p → Betters rules (front entries items index) p.value
   next_bettered p h =
-      let a = points_admitted rules entries items are (next_of entries from) p h in
-      let c = covers p.departure p.value a (p, h, omega arith, laws.reflexive p.value a) in
-      let r = front_betters_all rules entries items are laws index c.0 c.1 in (
+      let a = points_admitted rules entries items may.sound (next_of entries from) p h in
+      let c = may.covers p.departure p.value a (p, h, omega arith, laws.reflexive p.value a) in
+      let r = front_betters_all rules entries items may.sound laws index c.0 c.1 in (
         r.0,
         r.1,
-        laws.transitive r.0.value c.0.value p.value ((are.each index).admitted r.0 r.1)
-            (points_admitted rules entries items are index c.0 c.1) a r.2 c.3,
+        laws.transitive r.0.value c.0.value p.value ((may.sound.each index).admitted r.0 r.1)
+            (points_admitted rules entries items may.sound index c.0 c.1) a r.2 c.3,
       )
 
   kept_is : (p : Item V) → Contains kept p → Contains (front entries items from) p × (p.departure ≡ departure_of entries from)
@@ -49,10 +47,10 @@ module _ {V : Type 0} (rules : Rules V) (laws : Laws rules) (entries : List (Fro
       (front entries items from) p (subst (λ ps. Contains ps p) is h) in
       let no : betters rules (front entries items index) p.value ≡ false = not-true (betters rules (front entries items index) p.value) f.1 in (
         f.0,
-        elim ((are.each from).from p f.0) [
+        elim ((may.sound.each from).from p f.0) [
           | inl e ↦ e
           | inr n ↦ absurd (true≢false (sym (betters_from rules (front entries items index) p.value
-              (next_bettered p (of_front rules entries items are (next_of entries from) p n))) ∙ no))
+              (next_bettered p (of_front rules entries items may.sound (next_of entries from) p n))) ∙ no))
         ],
       )
 
@@ -72,19 +70,19 @@ module _ {V : Type 0} (rules : Rules V) (laws : Laws rules) (entries : List (Fro
   -- what is covered by the entry's list, is by a kept point or by the other list
   still_covered : (d : ℕ) (v : V) → Admits rules v → Covers rules (points_from entries items from) d v
       → Covers rules kept d v ⊎ Covers rules (points_from entries items index) d v
-  still_covered d v a (p, h, late, w) = elim (front_or_next rules entries items are from p h) [
-    | inr n ↦ inr (covers d v a (p, n, late, w))
-    | inl f ↦ elim ((are.each from).from p f) [
-      | inr n ↦ inr (covers d v a (p, of_front rules entries items are (next_of entries from) p n, late, w))
+  still_covered d v a (p, h, late, w) = elim (front_or_next rules entries items may.sound from p h) [
+    | inr n ↦ inr (may.covers d v a (p, n, late, w))
+    | inl f ↦ elim ((may.sound.each from).from p f) [
+      | inr n ↦ inr (may.covers d v a (p, of_front rules entries items may.sound (next_of entries from) p n, late, w))
       | inl e ↦ elim (kept_or_bettered p f) [
         | inl k ↦ inl (p, k, late, w)
         | inr b ↦
-            let up = (are.each index).late b.0 b.1 in
+            let up = (may.sound.each index).late b.0 b.1 in
             inr (
               b.0,
-              of_front rules entries items are index b.0 b.1,
+              of_front rules entries items may.sound index b.0 b.1,
               omega arith,
-              laws.transitive b.0.value p.value v ((are.each index).admitted b.0 b.1) ((are.each from).admitted p f) a
+              laws.transitive b.0.value p.value v ((may.sound.each index).admitted b.0 b.1) ((may.sound.each from).admitted p f) a
                   b.2 w,
             )
       ]
@@ -99,17 +97,18 @@ module _ {V : Type 0} (rules : Rules V) (laws : Laws rules) (entries : List (Fro
     kept_second = λ d v a c. c;
   }
 
-  pub joined_may : 0 < length kept → index < length entries → MayPut rules entries items (departure_of entries from) index kept
-  joined_may some lt = record {
-    within = lt;
+  pub joined_may : 0 < length kept → MayPut rules entries items (departure_of entries from) index kept
+  joined_may some = record {
+    sound = may.sound;
+    within = may.within;
     early = omega arith;
     some = some;
     departs = λ p h. (kept_is p h).1;
-    admitted = λ p h. (are.each from).admitted p (kept_is p h).0;
+    admitted = λ p h. (may.sound.each from).admitted p (kept_is p h).0;
     fresh = kept_fresh;
     alone = λ says. subst (λ ps. length ps ≤ 1) (sym is)
         (few_pass (λ (q : Item V). not (betters rules (front entries items index) q.value)) (front entries items from)
-        (front_few rules entries items are says from));
+        (front_few rules entries items may.sound says from));
   }
 
   -- what is kept is put before the list
@@ -117,7 +116,7 @@ module _ {V : Type 0} (rules : Rules V) (laws : Laws rules) (entries : List (Fro
       → IsUnion rules (points_from entries items from) (points_from entries items index) new
   joined_put new put = record {
     only = λ p h. elim (put.only p h) [
-      | inl k ↦ inl (of_front rules entries items are from p (kept_is p k).0)
+      | inl k ↦ inl (of_front rules entries items may.sound from p (kept_is p k).0)
       | inr old ↦ inr old
     ];
     kept_first = λ d v a c. elim (still_covered d v a c) [ inl k ↦ put.kept_first d v a k | inr o ↦ put.kept_second d v a o ];

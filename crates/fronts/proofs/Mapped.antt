@@ -7,6 +7,7 @@ use Rattle.reasoning.proofs.ListLemmas.{not_in_nil}
 use Rattle.criteria.specs.Laws.{Rules, Laws, Admits}
 use Rattle.bags.specs.declared.point.Point.{Point}
 use Rattle.bags.specs.Dominance.{IsCovered}
+use Rattle.fronts.specs.declared.entry.Boarding.{Boarding}
 use Rattle.fronts.specs.declared.entry.Item.{Item}
 use Rattle.fronts.specs.declared.entry.FrontEntry.{FrontEntry}
 use Rattle.fronts.specs.declared.entry.RiddenLabel.{RiddenLabel}
@@ -50,10 +51,10 @@ module _ {V : Type 0} where
       let x = from_points xs p h in
       (x.0, x.1, subst (λ (z : Point V). d ≤ z.departure) (sym x.2) late, subst (λ (z : Point V). rules.no_worse z.value v ≡ true) (sym x.2) w)
 
-  pub takes_points : (rules : Rules V) (steps : List Step) (departure first walk secs : ℕ) (ridden : List (RiddenLabel V))
-      (old new : List (Item V)) → TakesBoardings rules steps departure first walk secs ridden old new
-      → TakesRidden rules steps departure first walk secs ridden (map point_of old) (map point_of new)
-  takes_points rules steps departure first walk secs ridden old new takes = record {
+  pub takes_points : (rules : Rules V) (steps : List Step) (boarding : Boarding) (ridden : List (RiddenLabel V))
+      (old new : List (Item V)) → TakesBoardings rules steps boarding ridden old new
+      → TakesRidden rules steps boarding ridden (map point_of old) (map point_of new)
+  takes_points rules steps boarding ridden old new takes = record {
     only = λ p h.
         let x = from_points new p h in
         elim (takes.only x.0 x.1) [
@@ -61,19 +62,19 @@ module _ {V : Type 0} where
           | inr b ↦ inr (x.0, x.2, b)
         ];
     kept = λ d v a c. covered_points rules new d v (takes.kept d v a (covered_items rules old d v c));
-    covered = λ r h. covered_points rules new departure (rules.walk secs r.value) (takes.covered r h);
+    covered = λ r h. covered_points rules new boarding.departure (rules.walk boarding.secs r.value) (takes.covered r h);
   }
 
   -- the same, of an insertion that may have run out of memory
-  pub taken_if_ok : {K E : Type 0} (rules_of : K → Rules V) (departure first walk secs : ℕ) (ridden : List (RiddenLabel V))
+  pub taken_if_ok : {K E : Type 0} (rules_of : K → Rules V) (boarding : Boarding) (ridden : List (RiddenLabel V))
       (old new : FrontLists K V) (head : ℕ) (result : Result ℕ E) → IfOk result (λ taken. taken < length (entries_of new))
-      → IfOk result (λ taken. TakesBoardings (rules_of (lists_criterion old)) (steps_of new) departure first walk secs ridden
+      → IfOk result (λ taken. TakesBoardings (rules_of (lists_criterion old)) (steps_of new) boarding ridden
       (points_from (entries_of old) (items_of old) head) (points_from (entries_of new) (items_of new) taken))
-      → IfOk result (HasTaken rules_of departure first walk secs ridden old head new)
-  taken_if_ok rules_of departure first walk secs ridden old new head (Err e) within takes = tt
-  taken_if_ok rules_of departure first walk secs ridden old new head (Ok taken) within takes = record {
+      → IfOk result (HasTaken rules_of boarding ridden old head new)
+  taken_if_ok rules_of boarding ridden old new head (Err e) within takes = tt
+  taken_if_ok rules_of boarding ridden old new head (Ok taken) within takes = record {
     within = within;
-    takes = takes_points (rules_of (lists_criterion old)) (steps_of new) departure first walk secs ridden
+    takes = takes_points (rules_of (lists_criterion old)) (steps_of new) boarding ridden
         (points_from (entries_of old) (items_of old) head) (points_from (entries_of new) (items_of new) taken) takes;
   }
 

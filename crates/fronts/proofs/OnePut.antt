@@ -10,9 +10,9 @@ use Rattle.criteria.specs.Laws.{Rules, Laws, Admits}
 use Rattle.fronts.specs.declared.entry.Item.{Item}
 use Rattle.fronts.specs.declared.entry.FrontEntry.{FrontEntry}
 use Rattle.fronts.specs.Front.{own, front, next_in, next_of, departure_in, departure_of, points_from, Betters, Extends}
-use Rattle.fronts.specs.Entries.{IsLinked, AreEntries}
+use Rattle.fronts.specs.Entries.{IsLinked, AreEntries, AreMore}
 use Rattle.fronts.specs.Labels.{SaysTotal}
-use Rattle.fronts.specs.Putting.{betters, outdoes_alone, left_by, MayPut, IsUnion, Follows}
+use Rattle.fronts.specs.Putting.{betters, outdoes_alone, left_by, MayPut, IsUnion, IsJoined, Follows}
 use Rattle.fronts.proofs.Growth.{same_points}
 use Rattle.fronts.proofs.Points.{of_front, of_next, front_or_next, unrolled, next_within, departs_at, next_at, first_betters, rest_betters}
 use Rattle.fronts.proofs.Pushing.{front_new, pushed}
@@ -239,13 +239,12 @@ follows_at entries m departure after e lt is f =
 -- what a list is, with a front put before it
 pub record IsPut {V : Type 0} (rules : Rules V) (old now : List (FrontEntry V)) (items more : List (Item V))
     (departure m : ℕ) (points : List (Item V)) (index : ℕ) : Type 0 where
-  pub are : AreEntries rules now more
-  pub within : index < length now
+  pub more_are : AreMore rules old items now more
   pub departs : departure_of now index ≡ departure
-  pub union : IsUnion rules points (points_from old items m) (points_from now more index)
+  pub joined : IsJoined rules points (points_from old items m) now more index
 
 is_put : {V : Type 0} (rules : Rules V) (laws : Laws rules) (entries : List (FrontEntry V)) (items more : List (Item V))
-    (are : AreEntries rules entries items) (departure m : ℕ) (points : List (Item V)) (may : MayPut rules entries items departure m points)
+    (departure m : ℕ) (points : List (Item V)) (may : MayPut rules entries items departure m points)
     (e : FrontEntry V) → own e ∷ drop 1 points ≡ points → e.departure ≡ departure
     → Follows (departure_of entries m) (next_of entries m) m departure e.next
     → more ≡ items ++ (drop 1 points ++ left_by rules points (front entries items m))
@@ -253,39 +252,45 @@ is_put : {V : Type 0} (rules : Rules V) (laws : Laws rules) (entries : List (Fro
     → e.rest + e.count ≤ length more → (SaysTotal rules → e.count ≡ 0) → (now : List (FrontEntry V)) (index : ℕ)
     → now ≡ entries ++ e ∷ [] → index ≡ length entries
     → IsPut rules entries now items more departure m points index
-is_put {V} rules laws entries items more are departure m points may e first departs f filled part room alone now index pushed_is index_is =
+is_put {V} rules laws entries items more departure m points may e first departs f filled part room alone now index pushed_is index_is =
     subst (λ n. IsPut rules entries now items more departure m points n) (sym index_is)
     (subst (λ (es : List (FrontEntry V)). IsPut rules entries es items more departure m points (length entries)) (sym pushed_is) (record {
-      are = put_are rules laws entries items more are departure m points may e first departs f filled part room alone;
-      within = put_within rules laws entries items more are departure m points may e first departs f filled part room alone;
-      departs = put_departs rules laws entries items more are departure m points may e first departs f filled part room alone;
-      union = put_union rules laws entries items more are departure m points may e first departs f filled part room alone;
+      more_are = record {
+        sound = put_are rules laws entries items more may.sound departure m points may e first departs f filled part room alone;
+        entries_more = (e ∷ [], refl);
+        items_more = (_, filled);
+      };
+      departs = put_departs rules laws entries items more may.sound departure m points may e first departs f filled part room alone;
+      joined = record {
+        within = put_within rules laws entries items more may.sound departure m points may e first departs f filled part room alone;
+        union = put_union rules laws entries items more may.sound departure m points may e first departs f filled part room alone;
+      };
     }))
 
 -- one point put before a list whose front it outdoes: nothing is left of that front, and no item is pushed
 pub put_one : {V : Type 0} (rules : Rules V) (laws : Laws rules) (entries now : List (FrontEntry V)) (items : List (Item V))
-    (m index : ℕ) (x : Item V) (e after : FrontEntry V) → AreEntries rules entries items
+    (m index : ℕ) (x : Item V) (e after : FrontEntry V)
     → MayPut rules entries items x.departure m (x ∷ []) → outdoes_alone rules x.value (front entries items m) ≡ true
     → own e ≡ x → e.rest ≡ 0 → e.count ≡ 0 → after ≡ get_or entries m after
     → Follows after.departure after.next m x.departure e.next → now ≡ entries ++ e ∷ [] → index ≡ length entries
     → IsPut rules entries now items items x.departure m (x ∷ []) index
-put_one {V} rules laws entries now items m index x e after are may out own_is rest count after_is follows pushed_is index_is =
+put_one {V} rules laws entries now items m index x e after may out own_is rest count after_is follows pushed_is index_is =
     let left = none_left rules x (front entries items m) out in
     let f = follows_at entries m x.departure e.next after may.within after_is follows in
-    is_put rules laws entries items items are x.departure m (x ∷ []) may e (ap (λ z. z ∷ []) own_is)
+    is_put rules laws entries items items x.departure m (x ∷ []) may e (ap (λ z. z ∷ []) own_is)
     (ap (λ (z : Item V). z.departure) own_is) f (sym (append-nil items) ∙ ap (λ xs. items ++ xs) (sym left))
     (ap (λ n. take n (drop e.rest items)) count ∙ sym left) (omega arith) (λ says. count) now index pushed_is index_is
 
 -- all that the code does, at the end
 pub put_all : {V : Type 0} (rules : Rules V) (laws : Laws rules) (entries read now : List (FrontEntry V))
     (items more : List (Item V)) (departure m index : ℕ) (points : List (Item V)) (e after : FrontEntry V) (x : Item V)
-    → AreEntries rules entries items → MayPut rules entries items departure m points
+    → MayPut rules entries items departure m points
     → read ≡ entries → x ≡ get_or points 0 x → e.value ≡ x.value → e.tag ≡ x.tag → e.departure ≡ departure
     → after ≡ get_or entries m after → Follows after.departure after.next m departure e.next
     → more ≡ items ++ (drop 1 points ++ left_by rules points (front read items m)) → e.rest ≡ length items → length items + e.count ≡ length more
     → now ≡ entries ++ e ∷ [] → index ≡ length entries
     → IsPut rules entries now items more departure m points index
-put_all {V} rules laws entries read now items more departure m index points e after x are may same x_is worth tag
+put_all {V} rules laws entries read now items more departure m index points e after x may same x_is worth tag
     departs after_is follows filled rest count pushed_is index_is =
     let x_in : Contains points x = (0, may.some, sym x_is) in
     let d : e.departure ≡ x.departure = departs ∙ sym (may.departs x x_in) in
@@ -297,9 +302,9 @@ put_all {V} rules laws entries read now items more departure m index points e af
     filled ∙ ap (λ (es : List (FrontEntry V)). items
     ++ (drop 1 points ++ left_by rules points (front es items m))) same in
     let part = part_pushed items more (drop 1 points ++ left_by rules points (front entries items m)) e.rest e.count filled_here rest count in
-    is_put rules laws entries items more are departure m points may e first departs f filled_here part (omega arith)
+    is_put rules laws entries items more departure m points may e first departs f filled_here part (omega arith)
     (λ says. let none : length more ≡ length items = ap length (filled_here
-    ∙ ap (λ xs. items ++ xs) (put_alone rules laws entries items are departure m points may says) ∙ append-nil items) in
+    ∙ ap (λ xs. items ++ xs) (put_alone rules laws entries items may.sound departure m points may says) ∙ append-nil items) in
     omega arith) now index
     pushed_is index_is
   where

@@ -6,13 +6,13 @@ use Rattle.std.proofs.lemmas.Bool.{cases_eq}
 use Rattle.std.proofs.lemmas.List.{take-append-drop, take_at, drop_at, length-take-le}
 use Rattle.std.proofs.lemmas.Slice.{drop-append-drop}
 use Rattle.std.proofs.lemmas.List.Elements.{Contains-append_cases, Contains-append_left, Contains-append_right, Contains-push_cases}
-use Rattle.reasoning.proofs.ListLemmas.{extends_none, from_filter}
+use Rattle.reasoning.proofs.ListLemmas.{from_filter}
 use Rattle.criteria.specs.Laws.{Rules, Admits}
 use Rattle.fronts.specs.declared.labels.Label.{Label}
 use Rattle.fronts.specs.declared.run_labels.LabelRun.{LabelRun}
-use Rattle.fronts.specs.RunLabels.{AreApart, AreRuns, AreRunLabels, ArePut, ArePartlyPut, StayRunLabels, labels_in, no_run, run_at}
+use Rattle.fronts.specs.RunLabels.{AreApart, AreRuns, AreRunLabels, ArePut, ArePartlyPut, labels_in, no_run, run_at}
 use Rattle.fronts.specs.declared.run_labels.RunLabels.{RunLabels}
-use Rattle.fronts.specs.Offered.{is_beaten, others}
+use Rattle.fronts.specs.Offered.{others}
 use Rattle.fronts.proofs.Growth.{extends_long, same_part}
 
 -- what is in a part is in the whole
@@ -93,10 +93,7 @@ module _ {V : Type 0} where
         ];
       }
 
-  -- nothing of what is put at the end, all of it, or all of it with room behind
-  pub put_none : (old new : List (Label V)) → ArePartlyPut old new old
-  put_none old new = record { extends = extends_none old; only = λ l h. inl h }
-
+  -- all of what is put at the end, and room behind
   pub put_twice : (old new mid now : List (Label V)) → mid ≡ old ++ new → now ≡ mid ++ drop 1 new → ArePartlyPut old new now
   put_twice old new mid now e_mid e_now =
       let rest = drop 1 new in
@@ -162,28 +159,16 @@ with_admitted rules labels run v label admitted fits l h = elim (Contains-push_c
 ]
 
 -- labels of trips where no run has changed, and of what was to be put at the end maybe not all is there
-pub runs_stay : {V : Type 0} (rules : Rules V) (old now : RunLabels V) (new : List (Label V)) → AreRunLabels rules old
-    → ((l : Label V) → Contains new l → Admits rules l.value) → now.runs.items ≡ old.runs.items
-    → ArePartlyPut old.labels.items new now.labels.items → StayRunLabels rules old now
-runs_stay {V} rules old now new are fits same put =
+pub runs_sound : {V : Type 0} (rules : Rules V) (old now : RunLabels V) (new : List (Label V)) → AreRunLabels rules old
+    → now.runs.items ≡ old.runs.items → ArePartlyPut old.labels.items new now.labels.items
+    → ((l : Label V) → Contains new l → Admits rules l.value) → AreRunLabels rules now
+runs_sound rules old now new are same put fits =
     let grows = extends_long old.labels.items now.labels.items put.extends in
     record {
-      labels = record {
-        runs = subst (λ (runs : List LabelRun). AreRuns runs (length now.labels.items)) (sym same) (record {
-          counted = are.runs.counted;
-          within = λ k. let within = are.runs.within k in omega arith;
-          apart = are.runs.apart;
-        });
-        admitted = λ l h. elim (put.only l h) [ inl was ↦ are.admitted l was | inr is ↦ fits l is ];
-      };
-      long = ap length same;
-      same = λ trip. ap (λ (runs : List LabelRun). labels_in now.labels.items (run_at runs trip)) same
-          ∙ partly_same old.labels.items new now.labels.items (run_at old.runs.items trip) (are.runs.counted trip) (are.runs.within trip) put;
+      runs = subst (λ (runs : List LabelRun). AreRuns runs (length now.labels.items)) (sym same) (record {
+        counted = are.runs.counted;
+        within = λ k. let within = are.runs.within k in omega arith;
+        apart = are.runs.apart;
+      });
+      admitted = λ l h. elim (put.only l h) [ inl was ↦ are.admitted l was | inr is ↦ fits l is ];
     }
-
--- a value that none of a run's labels betters isn't beaten
-pub run_unbeaten : {V : Type 0} (rules : Rules V) (runs : List LabelRun) (labels part : List (Label V)) (trip : ℕ) (run : LabelRun) (v : V)
-    (some : Bool) → run ≡ run_at runs trip → part ≡ labels_in labels run → some ≡ is_beaten rules part v → some ≡ false
-    → is_beaten rules (labels_in labels (run_at runs trip)) v ≡ false
-run_unbeaten {V} rules runs labels part trip run v some run_is part_is is none =
-    sym (ap (λ (ls : List (Label V)). is_beaten rules ls v) (part_is ∙ ap (labels_in labels) run_is)) ∙ sym is ∙ none

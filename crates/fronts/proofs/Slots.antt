@@ -1,8 +1,8 @@
 -- The label in a trip's slot, and labels in slots or in runs.
 use Rattle.std.proofs.Common.{◌≡◌, ℕ, zero, suc, ◌+◌, ◌<◌, Bool, true, false, cond, not, nat_eq, List, [], ◌∷◌, ◌++◌, length, take, drop, set, Contains}
 use Rattle.std.proofs.Common.{inl, inr, refl, sym, ◌∙◌, ap, subst, arith}
-use Rattle.std.specs.Prelude.{Option, Some, None, Result, Ok, Err, IfOk, OnOk, slice_get, replicate}
-use Rattle.std.proofs.lemmas.Bool.{cases_eq, eq-eqb, false≢true, ne_eqb}
+use Rattle.std.specs.Prelude.{Option, Some, None, slice_get, replicate}
+use Rattle.std.proofs.lemmas.Bool.{cases_eq, cases_lt, eq-eqb, false≢true, ne_eqb}
 use Rattle.std.proofs.lemmas.List.Elements.{Contains-push_cases}
 use Rattle.std.proofs.lemmas.Option.{slice_get_past}
 use Rattle.std.proofs.Math.Bool.{or-false}
@@ -10,10 +10,10 @@ use Rattle.reasoning.proofs.ListLemmas.{at_below, not_in_nil, same_at, slice_get
 use Rattle.criteria.specs.Laws.{Rules, Admits, IsTotal}
 use Rattle.fronts.specs.declared.labels.Label.{Label}
 use Rattle.fronts.specs.declared.labels.Labels.{Labels}
-use Rattle.fronts.specs.Offered.{is_beaten, others}
-use Rattle.fronts.specs.RunLabels.{StayRunLabels, run_at, run_labels, runs_of}
+use Rattle.fronts.specs.Offered.{TakesOffer, LosesOffer, is_beaten, others}
+use Rattle.fronts.specs.RunLabels.{run_at, run_labels}
 use Rattle.fronts.specs.SlotLabels.{AreSlots, label_in, no_tag, slot_label, slot_or}
-use Rattle.fronts.specs.Labels.{AreLabels, StayLabels, labels_at}
+use Rattle.fronts.specs.Labels.{AreLabels, labels_at}
 use Rattle.fronts.proofs.Runs.{in_part}
 
 -- slots and runs
@@ -55,11 +55,6 @@ pub no_slots_are : {V : Type 0} (rules : Rules V) (slots : List (Label V)) → s
 no_slots_are rules slots none k slot at =
     let here : slice_get [] k ≡ Some slot = subst (λ (xs : List (Label _)). slice_get xs k ≡ Some slot) none at in
     absurd cc
-
--- a fact and another, if there is a value
-pub if_ok_both : {T E : Type 0} (r : Result T E) (P : Type 0) (Q R : T → Type 0) → ((x : T) → P → Q x → R x) → OnOk r P → IfOk r Q → IfOk r R
-if_ok_both (Ok x) P Q R f p q = f x p q
-if_ok_both (Err e) P Q R f p q = q
 
 -- slots of one content, without a label
 module _ {V : Type 0} (slots : List (Label V)) (count : ℕ) (none : Label V) (are : slots ≡ replicate count none) where
@@ -118,6 +113,11 @@ module _ {V : Type 0} (rules : Rules V) (total : IsTotal rules) (slot : Label V)
   none_else : is_beaten rules (label_in slot) v ≡ false → others rules v (label_in slot) ≡ []
   none_else free = none_else_by (nat_eq slot.tag no_tag) free
 
+-- a label that doesn't beat a value, in its slot
+pub slot_free : {V : Type 0} (rules : Rules V) (slots : List (Label V)) (trip : ℕ) (slot : Label V) (v : V)
+    → slice_get slots trip ≡ Some slot → is_beaten rules (label_in slot) v ≡ false → is_beaten rules (slot_label slots trip) v ≡ false
+slot_free rules slots trip slot v at free = ap (λ (o : Option (Label _)). is_beaten rules (slot_or o []) v) at ∙ free
+
 -- a label written over that in a slot
 module _ {V : Type 0} (rules : Rules V) (slots : List (Label V)) (trip : ℕ) (slot new : Label V) (at : slice_get slots trip ≡ Some slot)
     (below : trip < length slots) where
@@ -164,17 +164,30 @@ module _ {V : Type 0} (rules : Rules V) (labels : Labels V) (are : AreLabels rul
   pub labels_admitted : Contains (labels_at labels trip) l → Admits rules l.value
   labels_admitted h = admitted_by (slice_get labels.slots.items trip) refl h
 
--- labels of which neither slots nor runs have changed
-pub labels_stay : {V : Type 0} (rules : Rules V) (old now : Labels V) → AreLabels rules old → now.slots.items ≡ old.slots.items
-    → StayRunLabels rules old.runs now.runs → StayLabels rules old now
-labels_stay {V} rules old now are slots stay = record {
-  labels = record {
-    slots = subst (AreSlots rules) (sym slots) are.slots;
-    runs = stay.labels;
-    total = λ some. are.total (subst (λ (xs : List (Label V)). 0 < length xs) slots some);
-    partial = λ some. are.partial (subst (λ (n : ℕ). 0 < n) stay.long some);
-  };
-  long = ap (λ (xs : List (Label V)). length xs + length (runs_of now.runs)) slots ∙ ap (λ (n : ℕ). length old.slots.items + n) stay.long;
-  same = λ trip. ap (λ (xs : List (Label V)). slot_or (slice_get xs trip) (run_labels now.runs trip)) slots
-      ∙ ap (λ (xs : List (Label V)). slot_or (slice_get old.slots.items trip) xs) (stay.same trip);
-}
+-- an offer to labels, as one to those of another form
+module _ {V : Type 0} (rules : Rules V) (trip : ℕ) (label : Label V) (old new old_form new_form : ℕ → List (Label V))
+    (here : old_form trip ≡ old trip) where
+  pub offer_as : new_form trip ≡ new trip → ((k : ℕ) → new k ≡ old k → new_form k ≡ old_form k) → (stands : Bool)
+      → TakesOffer rules trip label old new stands → TakesOffer rules trip label old_form new_form stands
+  offer_as now same stands takes = record {
+    judged = takes.judged ∙ ap (λ (xs : List (Label V)). not (is_beaten rules xs label.value)) (sym here);
+    taken = now ∙ takes.taken
+        ∙ ap (λ (xs : List (Label V)). cond stands (others rules label.value xs ++ label ∷ []) xs) (sym here);
+    elsewhere = λ k other. same k (takes.elsewhere k other);
+  }
+
+  pub loss_as : ((k : ℕ) → new k ≡ old k → new_form k ≡ old_form k) → LosesOffer rules trip label.value old new
+      → LosesOffer rules trip label.value old_form new_form
+  loss_as same loses = record {
+    free = ap (λ (xs : List (Label V)). is_beaten rules xs label.value) here ∙ loses.free;
+    stay = λ k. same k (loses.stay k);
+  }
+
+-- what is in slots as before, is there as before among slots and runs
+pub slot_same : {V : Type 0} (old new : List (Label V)) (rest : List (Label V)) → length new ≡ length old → (k : ℕ)
+    → slot_label new k ≡ slot_label old k → slot_or (slice_get new k) rest ≡ slot_or (slice_get old k) rest
+slot_same old new rest long k same = elim (cases_lt k (length old)) [
+  | inl below ↦ in_slot new rest k (omega arith) ∙ same ∙ sym (in_slot old rest k below)
+  | inr past ↦
+      ap (λ (o : Option (Label _)). slot_or o rest) (slice_get_past new k (omega arith) ∙ sym (slice_get_past old k (omega arith)))
+]

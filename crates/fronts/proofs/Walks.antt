@@ -7,6 +7,7 @@ use Rattle.std.proofs.lemmas.List.Elements.{Contains-append_left, Contains-push,
 use Rattle.std.proofs.lemmas.Option.{slice_get_within}
 use Rattle.reasoning.proofs.ListLemmas.{not_in_nil, slice_get-middle}
 use Rattle.criteria.specs.Laws.{Rules, Laws, Admits}
+use Rattle.fronts.specs.declared.entry.Boarding.{Boarding}
 use Rattle.fronts.specs.declared.entry.Item.{Item}
 use Rattle.fronts.specs.declared.entry.FrontEntry.{FrontEntry}
 use Rattle.fronts.specs.declared.entry.RiddenLabel.{RiddenLabel}
@@ -18,10 +19,10 @@ use Rattle.fronts.specs.Walking.{IsKept, IsBoarding, AreBoardings, AllWalked}
 use Rattle.fronts.proofs.Growth.{same_at}
 use Rattle.fronts.proofs.Pushing.{linked_none}
 
-module _ {V : Type 0} (rules : Rules V) (departure first walk secs : ℕ) (ridden : List (RiddenLabel V)) where
+module _ {V : Type 0} (rules : Rules V) (boarding : Boarding) (ridden : List (RiddenLabel V)) where
   pub boarding_stays : (steps new : List Step) (p : Item V) → Extends steps new
-      → IsBoarding rules steps departure first walk secs ridden p
-      → IsBoarding rules new departure first walk secs ridden p
+      → IsBoarding rules steps boarding ridden p
+      → IsBoarding rules new boarding ridden p
   boarding_stays steps new p ext b = record {
     by = b.by;
     is_ridden = b.is_ridden;
@@ -30,25 +31,25 @@ module _ {V : Type 0} (rules : Rules V) (departure first walk secs : ℕ) (ridde
     goes_on = same_at steps new ext p.tag (slice_get_within steps p.tag _ b.goes_on) ∙ b.goes_on;
   }
 
-  pub boardings_none : (steps : List Step) (kept : List (Item V)) → kept ≡ [] → AreBoardings rules steps departure first walk secs ridden kept
+  pub boardings_none : (steps : List Step) (kept : List (Item V)) → kept ≡ [] → AreBoardings rules steps boarding ridden kept
   boardings_none steps kept e p h = absurd (not_in_nil p (subst (λ ps. Contains ps p) e h))
 
   -- a value is kept
   pub boardings_more : (laws : Laws rules) (steps new : List Step) (kept now : List (Item V)) (v : V) (r : RiddenLabel V)
-      → AreBoardings rules steps departure first walk secs ridden kept → Admits rules v → Contains ridden r
-      → v ≡ rules.walk secs r.value
-      → IsKept steps kept departure v (record { first = first; label = r.label; walk = walk }) new now
-      → AreBoardings rules new departure first walk secs ridden now × Extends kept now × Betters rules now v
+      → AreBoardings rules steps boarding ridden kept → Admits rules v → Contains ridden r
+      → v ≡ rules.walk boarding.secs r.value
+      → IsKept steps kept boarding.departure v (record { first = boarding.first; label = r.label; walk = boarding.walk }) new now
+      → AreBoardings rules new boarding ridden now × Extends kept now × Betters rules now v
   boardings_more laws steps new kept now v r are a in_ridden worth is =
-      let step : Step = record { first = first; label = r.label; walk = walk } in
-      let me : Item V = record { departure = departure; value = v; tag = length steps } in
+      let step : Step = record { first = boarding.first; label = r.label; walk = boarding.walk } in
+      let me : Item V = record { departure = boarding.departure; value = v; tag = length steps } in
       let here : slice_get new (length steps) ≡ Some step =
       ap (λ (ss : List Step). slice_get ss (length steps)) is.steps_more ∙ slice_get-middle steps step [] in
-      let mine : IsBoarding rules new departure first walk secs ridden me =
+      let mine : IsBoarding rules new boarding ridden me =
       record { by = r; is_ridden = in_ridden; departs = refl; worth = worth; goes_on = here } in (
         (λ p h. elim (Contains-push_cases kept me p (subst (λ ps. Contains ps p) is.kept_more h)) [
           | inl o ↦ boarding_stays steps new p (step ∷ [], is.steps_more) (are p o)
-          | inr e ↦ subst (IsBoarding rules new departure first walk secs ridden) e mine
+          | inr e ↦ subst (IsBoarding rules new boarding ridden) e mine
         ]),
         (me ∷ [], is.kept_more),
         subst (λ ps. Betters rules ps v) (sym is.kept_more) (me, Contains-push kept me, laws.reflexive v a),
@@ -59,15 +60,15 @@ module _ {V : Type 0} (rules : Rules V) (departure first walk secs : ℕ) (ridde
 
   -- one more of them is bettered
   pub all_more : (points kept now : List (Item V)) (i : ℕ) (r : RiddenLabel V) → Extends kept now → i < length ridden
-      → r ≡ get_or ridden i r → AllWalked rules points secs ridden i kept
-      → Betters rules now (rules.walk secs r.value) ⊎ Betters rules points (rules.walk secs r.value)
-      → AllWalked rules points secs ridden (i + 1) now
+      → r ≡ get_or ridden i r → AllWalked rules points boarding.secs ridden i kept
+      → Betters rules now (rules.walk boarding.secs r.value) ⊎ Betters rules points (rules.walk boarding.secs r.value)
+      → AllWalked rules points boarding.secs ridden (i + 1) now
   all_more points kept now i r ext lt is before this k d low = elim (cases_order k i) [
     | inl e ↦
         let same : r ≡ get_or ridden k d = is ∙ get_or_default ridden i r d lt ∙ ap (λ n. get_or ridden n d) (sym e) in
-        subst (λ (z : RiddenLabel V). Betters rules now (rules.walk secs z.value) ⊎ Betters rules points (rules.walk secs z.value)) same this
+        subst (λ (z : RiddenLabel V). Betters rules now (rules.walk boarding.secs z.value) ⊎ Betters rules points (rules.walk boarding.secs z.value)) same this
     | inr o ↦ elim o [
-      | inl less ↦ elim (before k d less) [ inl b ↦ inl (betters_more kept now (rules.walk secs (get_or ridden k d).value) ext b) | inr b ↦ inr b ]
+      | inl less ↦ elim (before k d less) [ inl b ↦ inl (betters_more kept now (rules.walk boarding.secs (get_or ridden k d).value) ext b) | inr b ↦ inr b ]
       | inr more ↦ absurd (omega arith)
     ]
   ]

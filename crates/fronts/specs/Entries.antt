@@ -3,7 +3,7 @@ use Rattle.std.specs.Prelude.{◌≡◌, ◌⊎◌, ℕ, suc, ◌+◌, ◌<◌, 
 use Rattle.criteria.specs.Laws.{Rules, Admits}
 use Rattle.fronts.specs.declared.entry.Item.{Item}
 use Rattle.fronts.specs.declared.entry.FrontEntry.{FrontEntry}
-use Rattle.fronts.specs.Front.{front, next_of, departure_of, Betters}
+use Rattle.fronts.specs.Front.{front, next_of, departure_of, Betters, Extends}
 use Rattle.fronts.specs.Labels.{SaysTotal}
 
 -- an entry carries a front, given the next entry on its list, if there is one
@@ -35,3 +35,15 @@ pub record AreEntries {V : Type 0} (rules : Rules V) (entries : List (FrontEntry
   pub each : (m : ℕ) → IsEntry rules entries items m
   -- under a total order a front is the entry's own point
   pub alone : SaysTotal rules → (m : ℕ) (e : FrontEntry V) → slice_get entries m ≡ Some e → e.count ≡ 0
+
+-- entries and items are only added, and all entries carry their fronts
+pub record AreMore {V : Type 0} (rules : Rules V) (entries : List (FrontEntry V)) (items : List (Item V))
+    (new_entries : List (FrontEntry V)) (new_items : List (Item V)) : Type 0 where
+  pub sound : AreEntries rules new_entries new_items
+  pub entries_more : Extends entries new_entries
+  pub items_more : Extends items new_items
+
+-- one of the entries, all of which carry their fronts
+pub record HasEntry {V : Type 0} (rules : Rules V) (entries : List (FrontEntry V)) (items : List (Item V)) (index : ℕ) : Type 0 where
+  pub sound : AreEntries rules entries items
+  pub within : index < length entries

@@ -25,8 +25,7 @@ pub record AreLabels {V : Type 0} (rules : Rules V) (labels : Labels V) : Type 0
   pub total : 0 < length labels.slots.items → SaysTotal rules
   pub partial : 0 < length (runs_of labels.runs) → SaysTotal rules → ⊥
 
--- each trip's labels stay as they were
-pub record StayLabels {V : Type 0} (rules : Rules V) (old new : Labels V) : Type 0 where
-  pub labels : AreLabels rules new
-  pub long : trips_of new ≡ trips_of old
-  pub same : (trip : ℕ) → labels_at new trip ≡ labels_at old trip
+-- there is such a trip, and the labels are as `AreLabels` says
+pub record HasTrip {V : Type 0} (rules : Rules V) (labels : Labels V) (trip : ℕ) : Type 0 where
+  pub there : trip < trips_of labels
+  pub sound : AreLabels rules labels

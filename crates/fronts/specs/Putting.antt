@@ -6,6 +6,7 @@ use Rattle.criteria.specs.Laws.{Rules, Admits}
 use Rattle.fronts.specs.declared.entry.Item.{Item}
 use Rattle.fronts.specs.declared.entry.FrontEntry.{FrontEntry}
 use Rattle.fronts.specs.Front.{front, next_of, departure_of, points_from, Covers}
+use Rattle.fronts.specs.Entries.{AreEntries}
 use Rattle.fronts.specs.Labels.{SaysTotal}
 
 -- whether a point of a list is no worse than v (an equal one counts)
@@ -39,6 +40,13 @@ IsPath entries head (b ∷ bs) m = (head ≡ b) × (0 < b) × (b < length entrie
 abbrev pub DepartBefore : {V : Type 0} → List (FrontEntry V) → ℕ → List ℕ → Type 0
 DepartBefore entries time indices = (b : ℕ) → Contains indices b → departure_of entries b < time
 
+-- the entries that a search passes, and the one where it ends
+pub record ArePassed {V : Type 0} (entries : List (FrontEntry V)) (items : List (Item V)) (head time : ℕ) (passed : List ℕ) (m : ℕ)
+    : Type 0 where
+  pub late : IsLate entries items head time m
+  pub path : IsPath entries head passed m
+  pub early : DepartBefore entries time passed
+
 -- a list covers all that another covers
 abbrev pub CoversAll : {V : Type 0} → Rules V → List (Item V) → List (Item V) → Type 0
 CoversAll {V} rules old new =
@@ -47,6 +55,7 @@ CoversAll {V} rules old new =
 -- points of one departure that may be put before the list from entry m on, whose front betters none of them
 pub record MayPut {V : Type 0} (rules : Rules V) (entries : List (FrontEntry V)) (items : List (Item V))
     (departure m : ℕ) (points : List (Item V)) : Type 0 where
+  pub sound : AreEntries rules entries items
   pub within : m < length entries
   pub early : departure ≤ departure_of entries m
   pub some : 0 < length points
@@ -61,6 +70,22 @@ pub record IsUnion {V : Type 0} (rules : Rules V) (a b new : List (Item V)) : Ty
   pub only : (p : Item V) → Contains new p → Contains a p ⊎ Contains b p
   pub kept_first : CoversAll rules a new
   pub kept_second : CoversAll rules b new
+
+-- the list that begins at an entry is
+pub record IsJoined {V : Type 0} (rules : Rules V) (a b : List (Item V)) (entries : List (FrontEntry V)) (items : List (Item V))
+    (head : ℕ) : Type 0 where
+  pub within : head < length entries
+  pub union : IsUnion rules a b (points_from entries items head)
+
+-- the front of entry `from` may be put before the list from a later entry on, which covers what follows `from` on its own list
+pub record MayJoin {V : Type 0} (rules : Rules V) (entries : List (FrontEntry V)) (items : List (Item V)) (from index : ℕ)
+    : Type 0 where
+  pub sound : AreEntries rules entries items
+  pub some : 0 < from
+  pub from_within : from < length entries
+  pub within : index < length entries
+  pub early : departure_of entries from < departure_of entries index
+  pub covers : CoversAll rules (points_from entries items (next_of entries from)) (points_from entries items index)
 
 -- `after` is the entry that follows a front put before the list from `index` on: `next` if the entry at `index` departs together with the front, and `index` if
 -- it departs later

@@ -1,5 +1,5 @@
 -- Labels of many trips, each trip's in a run.
-use Rattle.std.specs.Prelude.{◌≡◌, ◌⊎◌, ℕ, ◌+◌, ◌≤◌, List, take, drop, length, slice_index_or, Contains}
+use Rattle.std.specs.Prelude.{◌≡◌, ◌⊎◌, ℕ, ◌+◌, ◌<◌, ◌≤◌, List, take, drop, length, slice_index_or, Contains}
 use Rattle.reasoning.specs.Lists.{Extends}
 use Rattle.criteria.specs.Laws.{Rules, Admits}
 use Rattle.fronts.specs.declared.labels.Label.{Label}
@@ -56,8 +56,7 @@ pub record ArePartlyPut {V : Type 0} (old new now : List (Label V)) : Type 0 whe
   pub extends : Extends old now
   pub only : (l : Label V) → Contains now l → Contains old l ⊎ Contains new l
 
--- each trip's labels stay as they were
-pub record StayRunLabels {V : Type 0} (rules : Rules V) (old new : RunLabels V) : Type 0 where
-  pub labels : AreRunLabels rules new
-  pub long : length (runs_of new) ≡ length (runs_of old)
-  pub same : (trip : ℕ) → run_labels new trip ≡ run_labels old trip
+-- there is such a run, and the labels are as `AreRunLabels` says
+pub record HasRun {V : Type 0} (rules : Rules V) (labels : RunLabels V) (trip : ℕ) : Type 0 where
+  pub there : trip < length (runs_of labels)
+  pub sound : AreRunLabels rules labels

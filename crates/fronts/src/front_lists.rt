@@ -26,21 +26,15 @@ pub struct FrontLists<C: Criterion> {
 }
 
 impl<C: Criterion> FrontLists<C> {
-    ghost use Rattle.std.specs.Prelude.{◌≡◌, [], ◌∷◌, ℕ, ◌<◌, ◌≤◌, Contains, IfOk, IfSome, length};
-    ghost use Rattle.std.specs.Prelude.{slice_get, Some};
-    ghost use Rattle.criteria.specs.Laws.{Admits, IsSecs};
-    ghost use Rattle.fronts.specs.Front.{Extends, departure_of, points_from};
-    ghost use Rattle.fronts.specs.Lists.{IsSound, lists_criterion, entries_of, items_of, steps_of, list_points};
-    ghost use Rattle.fronts.specs.Lists.{front_at, IsBettered, TakesRidden, MayTake, AreMoreLists, HasTaken};
-    ghost use Rattle.fronts.specs.Putting.{MayPut, IsUnion};
+    ghost use Rattle.std.specs.Prelude.{◌≡◌, [], ◌∷◌, ◌<◌, ◌≤◌, IfOk, length, slice_get, Some};
+    ghost use Rattle.fronts.specs.Front.{departure_of, points_from};
+    ghost use Rattle.fronts.specs.Lists.{lists_criterion, entries_of, items_of, steps_of, front_at};
+    ghost use Rattle.fronts.specs.Lists.{HasList, IsEmptyAlone, IsFrontFrom, MayTake, AreMoreLists, HasTaken};
+    ghost use Rattle.fronts.specs.Putting.{MayPut, IsJoined};
 
     /// Makes the empty list, and no other.
     pub fn new(alloc: Global, criterion: C) -> Result<Self, AllocError>
-        ensures criterion { IfOk result (λ lists. lists_criterion lists ≡ criterion) }
-        ensures sound { IfOk result (λ lists. IsSound C.rules lists) }
-        ensures empty { IfOk result (λ lists. list_points lists 0 ≡ []) }
-        ensures alone { IfOk result (λ lists. length (entries_of lists) ≡ 1) }
-        ensures no_steps { IfOk result (λ lists. steps_of lists ≡ []) }
+        ensures { IfOk result (IsEmptyAlone C.rules criterion) }
     {
         let mut entries = Vec::new(alloc);
         entries.push(FrontEntry {
@@ -65,14 +59,8 @@ impl<C: Criterion> FrontLists<C> {
     /// The index of an entry whose front stands for the list from a time on: it has only points of the list that
     /// depart at the time or later, and for each of these one that is no worse.
     pub fn front_from(&self, head: u32, time: u32) -> u32
-        requires sound { IsSound C.rules self.now }
-        requires head { head < length (entries_of self.now) }
-        ensures within { result < length (entries_of self.now) }
-        ensures made_of { (p : _) → Contains (front_at self.now result) p
-            → Contains (list_points self.now head) p × (time ≤ p.departure)
-            × Admits (C.rules (lists_criterion self.now)) p.value }
-        ensures betters { (p : _) → Contains (list_points self.now head) p → time ≤ p.departure
-            → IsBettered (C.rules (lists_criterion self.now)) (front_at self.now result) p.value }
+        requires { HasList C.rules self.now head }
+        ensures { IsFrontFrom C.rules self.now head time result }
     {
         let arena = Arena {
             entries: &self.entries,
@@ -83,8 +71,7 @@ impl<C: Criterion> FrontLists<C> {
 
     /// The number of points that the front of entry `index` has.
     pub fn front_len(&self, index: u32) -> usize
-        requires sound { IsSound C.rules self.now }
-        requires within { index < length (entries_of self.now) }
+        requires { HasList C.rules self.now index }
         ensures { result ≡ length (front_at self.now index) }
     {
         if index == 0 {
@@ -99,8 +86,7 @@ impl<C: Criterion> FrontLists<C> {
 
     /// The point at index `k` of the front of entry `index`.
     pub fn front_point(&self, index: u32, k: usize) -> Point<C::V>
-        requires sound { IsSound C.rules self.now }
-        requires within { index < length (entries_of self.now) }
+        requires entry { HasList C.rules self.now index }
         requires point { k < length (front_at self.now index) }
         ensures { slice_get (front_at self.now index) k ≡ Some result }
     {
@@ -125,36 +111,16 @@ impl<C: Criterion> FrontLists<C> {
     pub fn insert(
         &mut self,
         head: u32,
-        departure: u32,
-        first: u32,
-        walk: u32,
-        secs: u32,
+        boarding: Boarding,
         ridden: &[RiddenLabel<C::V>],
     ) -> Result<u32, AllocError>
-        requires sound { IsSound C.rules self.old }
-        requires head { head < length (entries_of self.old) }
-        requires secs { IsSecs secs }
-        requires ridden { (r : _) → Contains ridden.now r → Admits (C.rules (lists_criterion self.old)) r.value }
-        ensures sound { IsSound C.rules self.new }
-        ensures criterion { lists_criterion self.new ≡ lists_criterion self.old }
-        ensures more_entries { Extends (entries_of self.old) (entries_of self.new) }
-        ensures grows { length (entries_of self.old) ≤ length (entries_of self.new) }
-        ensures more_steps { Extends (steps_of self.old) (steps_of self.new) }
-        ensures same { (index : ℕ) → index < length (entries_of self.old)
-            → list_points self.new index ≡ list_points self.old index }
-        ensures within { IfOk result (λ new. new < length (entries_of self.new)) }
-        ensures takes { IfOk result (λ new. TakesRidden (C.rules (lists_criterion self.old)) (steps_of self.new)
-            departure first walk secs ridden.now (list_points self.old head) (list_points self.new new)) }
+        requires may { MayTake C.rules self.old head boarding.secs ridden.now }
+        ensures more { AreMoreLists C.rules self.old self.new }
+        ensures taken { IfOk result (HasTaken C.rules boarding ridden.now self.old head self.new) }
     {
         if ridden.len() == 1 {
-            return self.insert_one(head, departure, first, walk, secs, ridden[0]);
+            return self.insert_one(head, boarding, ridden[0]);
         }
-        let boarding = Boarding {
-            departure,
-            first,
-            walk,
-            secs,
-        };
         if self.criterion.is_total() {
             return self.take_each(head, boarding, ridden);
         }
@@ -171,41 +137,6 @@ impl<C: Criterion> FrontLists<C> {
         )
     }
 
-    /// Takes one ridden value, after a footpath, into a list, as [`FrontLists::insert`] takes several.
-    #[inline(always)]
-    pub fn insert_one(
-        &mut self,
-        head: u32,
-        departure: u32,
-        first: u32,
-        walk: u32,
-        secs: u32,
-        ride: RiddenLabel<C::V>,
-    ) -> Result<u32, AllocError>
-        requires sound { IsSound C.rules self.old }
-        requires head { head < length (entries_of self.old) }
-        requires secs { IsSecs secs }
-        requires ride { Admits (C.rules (lists_criterion self.old)) ride.value }
-        ensures sound { IsSound C.rules self.new }
-        ensures criterion { lists_criterion self.new ≡ lists_criterion self.old }
-        ensures more_entries { Extends (entries_of self.old) (entries_of self.new) }
-        ensures grows { length (entries_of self.old) ≤ length (entries_of self.new) }
-        ensures more_steps { Extends (steps_of self.old) (steps_of self.new) }
-        ensures same { (index : ℕ) → index < length (entries_of self.old)
-            → list_points self.new index ≡ list_points self.old index }
-        ensures within { IfOk result (λ new. new < length (entries_of self.new)) }
-        ensures takes { IfOk result (λ new. TakesRidden (C.rules (lists_criterion self.old)) (steps_of self.new)
-            departure first walk secs (ride ∷ []) (list_points self.old head) (list_points self.new new)) }
-    {
-        let boarding = Boarding {
-            departure,
-            first,
-            walk,
-            secs,
-        };
-        self.take_one(head, boarding, ride)
-    }
-
     // Takes the ridden values in, one after the other. Under a total criterion a trip has at most one, so this is rare.
     #[inline(never)]
     fn take_each(
@@ -216,21 +147,19 @@ impl<C: Criterion> FrontLists<C> {
     ) -> Result<u32, AllocError>
         requires may { MayTake C.rules self.old head boarding.secs ridden.now }
         ensures more { AreMoreLists C.rules self.old self.new }
-        ensures taken { IfOk result (λ new. HasTaken C.rules boarding.departure boarding.first boarding.walk
-            boarding.secs ridden.now self.old head self.new new) }
+        ensures taken { IfOk result (HasTaken C.rules boarding ridden.now self.old head self.new) }
     {
         let mut new = head;
         for k in 0..ridden.len() {
             let ride = ridden[k];
-            new = self.take_one(new, boarding, ride)?;
+            new = self.insert_one(new, boarding, ride)?;
         }
         Ok(new)
     }
 
-    // Takes one ridden value in. In most insertions the list begins no earlier, so that is tested first. If it begins
-    // earlier, the front from the departure on mostly betters the value, and then no entry has to be passed.
+    /// Takes one ridden value, after a footpath, into a list, as [`FrontLists::insert`] takes several.
     #[inline(always)]
-    fn take_one(
+    pub fn insert_one(
         &mut self,
         head: u32,
         boarding: Boarding,
@@ -238,9 +167,10 @@ impl<C: Criterion> FrontLists<C> {
     ) -> Result<u32, AllocError>
         requires may { MayTake C.rules self.old head boarding.secs (ride ∷ []) }
         ensures more { AreMoreLists C.rules self.old self.new }
-        ensures taken { IfOk result (λ new. HasTaken C.rules boarding.departure boarding.first boarding.walk
-            boarding.secs (ride ∷ []) self.old head self.new new) }
+        ensures taken { IfOk result (HasTaken C.rules boarding (ride ∷ []) self.old head self.new) }
     {
+        // In most insertions the list begins no earlier, so that is tested first. If it begins earlier, the front from
+        // the departure on mostly betters the value, and then no entry has to be passed.
         if self.entries[head as usize].departure >= boarding.departure {
             return self.insert_ahead(head, boarding, ride);
         }
@@ -277,8 +207,12 @@ impl<C: Criterion> FrontLists<C> {
     ) -> Result<u32, AllocError>
         requires may { MayTake C.rules self.old head secs (ride ∷ []) }
         ensures more { AreMoreLists C.rules self.old self.new }
-        ensures taken { IfOk result (λ new. HasTaken C.rules departure first walk
-            secs (ride ∷ []) self.old head self.new new) }
+        ensures taken { IfOk result (HasTaken C.rules (record {
+          departure = departure;
+          first = first;
+          walk = walk;
+          secs = secs;
+        }) (ride ∷ []) self.old head self.new) }
     {
         let boarding = Boarding {
             departure,
@@ -313,8 +247,7 @@ impl<C: Criterion> FrontLists<C> {
         requires may { MayTake C.rules self.old head boarding.secs (ride ∷ []) }
         requires ahead { boarding.departure ≤ departure_of (entries_of self.old) head }
         ensures more { AreMoreLists C.rules self.old self.new }
-        ensures taken { IfOk result (λ new. HasTaken C.rules boarding.departure boarding.first boarding.walk
-            boarding.secs (ride ∷ []) self.old head self.new new) }
+        ensures taken { IfOk result (HasTaken C.rules boarding (ride ∷ []) self.old head self.new) }
     {
         let value = self.criterion.walk(boarding.secs, &ride.value);
         let arena = Arena {
@@ -342,15 +275,12 @@ impl<C: Criterion> FrontLists<C> {
     // it doesn't better. Mostly there are none of these, and then the point is put alone.
     #[inline(always)]
     fn put_one(&mut self, head: u32, point: Item<C::V>) -> Result<u32, AllocError>
-        requires sound { IsSound C.rules self.old }
-        requires may { MayPut (C.rules (lists_criterion self.old)) (entries_of self.old) (items_of self.old) point.departure head
-            (point ∷ []) }
+        requires may { MayPut (C.rules (lists_criterion self.old)) (entries_of self.old) (items_of self.old)
+            point.departure head (point ∷ []) }
         ensures more { AreMoreLists C.rules self.old self.new }
         ensures steps { steps_of self.new ≡ steps_of self.old }
-        ensures within { IfOk result (λ new. new < length (entries_of self.new)) }
-        ensures union { IfOk result (λ new. IsUnion (C.rules (lists_criterion self.old)) (point ∷ [])
-            (points_from (entries_of self.old) (items_of self.old) head)
-            (points_from (entries_of self.new) (items_of self.new) new)) }
+        ensures joined { IfOk result (IsJoined (C.rules (lists_criterion self.old)) (point ∷ [])
+            (points_from (entries_of self.old) (items_of self.old) head) (entries_of self.new) (items_of self.new)) }
     {
         let arena = Arena {
             entries: &self.entries,

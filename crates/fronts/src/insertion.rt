@@ -1,11 +1,10 @@
 //! Insertions into a list, each of which makes a new list.
 
-ghost use Rattle.std.specs.Prelude.{◌≡◌, ℕ, ◌<◌, ◌≤◌, length, Contains, IfOk};
-ghost use Rattle.criteria.specs.Laws.{Admits, IsSecs};
-ghost use Rattle.fronts.specs.Front.{next_of, departure_of, points_from, Extends};
-ghost use Rattle.fronts.specs.Entries.{AreEntries};
-ghost use Rattle.fronts.specs.Putting.{IsPath, DepartBefore, CoversAll, IsUnion};
-ghost use Rattle.fronts.specs.Walking.{TakesBoardings};
+ghost use Rattle.std.specs.Prelude.{◌<◌, ◌≤◌, length, IfOk};
+ghost use Rattle.fronts.specs.Front.{departure_of, points_from, Extends};
+ghost use Rattle.fronts.specs.Entries.{AreEntries, AreMore};
+ghost use Rattle.fronts.specs.Putting.{IsPath, DepartBefore, CoversAll, IsJoined, MayJoin};
+ghost use Rattle.fronts.specs.Walking.{MayInsert, TakesBoardings};
 ghost use Rattle.fronts.specs.Labels.{SaysTotal};
 
 use crate::entry::{Arena, Boarding, FrontEntry, Item, RiddenLabel, Step};
@@ -27,22 +26,12 @@ fn join_one<C: Criterion>(
     from: u32,
     index: u32,
 ) -> Result<u32, AllocError>
-    requires entries { AreEntries (C.rules criterion.now) entries.old.items items.old.items }
-    requires some { 0 < from }
-    requires from { from < length entries.old.items }
-    requires index { index < length entries.old.items }
-    requires early { departure_of entries.old.items from < departure_of entries.old.items index }
-    requires covers { CoversAll (C.rules criterion.now)
-        (points_from entries.old.items items.old.items (next_of entries.old.items from))
-        (points_from entries.old.items items.old.items index) }
-    ensures entries { AreEntries (C.rules criterion.now) entries.new.items items.new.items }
-    ensures more_entries { Extends entries.old.items entries.new.items }
-    ensures more_items { Extends items.old.items items.new.items }
+    requires may { MayJoin (C.rules criterion.now) entries.old.items items.old.items from index }
+    ensures more { AreMore (C.rules criterion.now) entries.old.items items.old.items entries.new.items items.new.items }
     ensures late { IfOk result (λ new. departure_of entries.old.items from ≤ departure_of entries.new.items new) }
-    ensures within { IfOk result (λ new. new < length entries.new.items) }
-    ensures joined { IfOk result (λ new. IsUnion (C.rules criterion.now)
+    ensures joined { IfOk result (IsJoined (C.rules criterion.now)
         (points_from entries.old.items items.old.items from) (points_from entries.old.items items.old.items index)
-        (points_from entries.new.items items.new.items new)) }
+        entries.new.items items.new.items) }
 {
     keep_front(criterion, Arena { entries, items }, from, index, kept)?;
     if kept.len() == 0 {
@@ -73,13 +62,10 @@ fn join<C: Criterion>(
     requires early { DepartBefore entries.old.items (departure_of entries.old.items index) passed.old.items }
     requires covers { CoversAll (C.rules criterion.now) (points_from entries.old.items items.old.items after)
         (points_from entries.old.items items.old.items index) }
-    ensures entries { AreEntries (C.rules criterion.now) entries.new.items items.new.items }
-    ensures more_entries { Extends entries.old.items entries.new.items }
-    ensures more_items { Extends items.old.items items.new.items }
-    ensures within { IfOk result (λ new. new < length entries.new.items) }
-    ensures joined { IfOk result (λ new. IsUnion (C.rules criterion.now)
+    ensures more { AreMore (C.rules criterion.now) entries.old.items items.old.items entries.new.items items.new.items }
+    ensures joined { IfOk result (IsJoined (C.rules criterion.now)
         (points_from entries.old.items items.old.items head) (points_from entries.old.items items.old.items index)
-        (points_from entries.new.items items.new.items new)) }
+        entries.new.items items.new.items) }
 {
     let mut new = index;
     while let Some(from) = passed.pop() {
@@ -101,19 +87,13 @@ pub fn insert<C: Criterion>(
     boarding: Boarding,
     ridden: &[RiddenLabel<C::V>],
 ) -> Result<u32, AllocError>
-    requires entries { AreEntries (C.rules criterion.now) entries.old.items items.old.items }
-    requires head { head < length entries.old.items }
-    requires secs { IsSecs boarding.secs }
-    requires ridden { (r : _) → Contains ridden.now r → Admits (C.rules criterion.now) r.value }
+    requires may { MayInsert (C.rules criterion.now) entries.old.items items.old.items head boarding.secs ridden.now }
     requires few { SaysTotal (C.rules criterion.now) → length ridden.now ≤ 1 }
-    ensures entries { AreEntries (C.rules criterion.now) entries.new.items items.new.items }
-    ensures more_entries { Extends entries.old.items entries.new.items }
-    ensures more_items { Extends items.old.items items.new.items }
-    ensures more_steps { Extends steps.old.items steps.new.items }
+    ensures more { AreMore (C.rules criterion.now) entries.old.items items.old.items entries.new.items items.new.items }
+    ensures steps { Extends steps.old.items steps.new.items }
     ensures within { IfOk result (λ new. new < length entries.new.items) }
-    ensures takes { IfOk result (λ new. TakesBoardings (C.rules criterion.now) steps.new.items boarding.departure
-        boarding.first boarding.walk boarding.secs ridden.now (points_from entries.old.items items.old.items head)
-        (points_from entries.new.items items.new.items new)) }
+    ensures takes { IfOk result (λ new. TakesBoardings (C.rules criterion.now) steps.new.items boarding ridden.now
+        (points_from entries.old.items items.old.items head) (points_from entries.new.items items.new.items new)) }
 {
     let after = pass(
         criterion,

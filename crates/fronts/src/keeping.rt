@@ -1,11 +1,11 @@
 //! Points kept for a front that is to be put before a list.
 
-ghost use Rattle.std.specs.Prelude.{◌≡◌, ◌⊎◌, ◌+◌, ◌++◌, ◌∷◌, [], ℕ, ◌<◌, ◌≤◌, length, Contains, IfOk, OnOk, false};
-ghost use Rattle.criteria.specs.Laws.{Admits, IsSecs};
+ghost use Rattle.std.specs.Prelude.{◌≡◌, ◌++◌, ◌∷◌, [], ◌<◌, length, Contains, OnOk};
+ghost use Rattle.criteria.specs.Laws.{Admits};
 ghost use Rattle.fronts.specs.Front.{front, Extends};
-ghost use Rattle.fronts.specs.Entries.{AreEntries};
-ghost use Rattle.fronts.specs.Putting.{betters, left_by};
-ghost use Rattle.fronts.specs.Walking.{IsKept, AreBoardings, AllWalked};
+ghost use Rattle.fronts.specs.Entries.{HasEntry};
+ghost use Rattle.fronts.specs.Putting.{left_by};
+ghost use Rattle.fronts.specs.Walking.{IsKept, MayInsert, AreKept};
 
 use crate::entry::{Arena, Boarding, Item, RiddenLabel, Step};
 use crate::putting::index_of;
@@ -22,8 +22,7 @@ fn keep_point<C: Criterion>(
     kept: &mut Vec<Item<C::V>>,
     point: Item<C::V>,
 ) -> Result<(), AllocError>
-    requires entries { AreEntries (C.rules criterion.now) arena.entries.now arena.items.now }
-    requires index { index < length arena.entries.now }
+    requires entry { HasEntry (C.rules criterion.now) arena.entries.now arena.items.now index }
     requires point { Admits (C.rules criterion.now) point.value }
     ensures { OnOk result (kept.new.items ≡ kept.old.items
         ++ left_by (C.rules criterion.now) (front arena.entry.entries.now arena.entry.items.now index) (point
@@ -45,8 +44,7 @@ pub fn keep_front<C: Criterion>(
     index: u32,
     kept: &mut Vec<Item<C::V>>,
 ) -> Result<(), AllocError>
-    requires entries { AreEntries (C.rules criterion.now) arena.entries.now arena.items.now }
-    requires index { index < length arena.entries.now }
+    requires entry { HasEntry (C.rules criterion.now) arena.entries.now arena.items.now index }
     requires some { 0 < from }
     requires from { from < length arena.entries.now }
     ensures { OnOk result (kept.new.items ≡ left_by (C.rules criterion.now)
@@ -74,8 +72,7 @@ fn keep_each<C: Criterion>(
     index: u32,
     kept: &mut Vec<Item<C::V>>,
 ) -> Result<(), AllocError>
-    requires entries { AreEntries (C.rules criterion.now) arena.entries.now arena.items.now }
-    requires index { index < length arena.entries.now }
+    requires entry { HasEntry (C.rules criterion.now) arena.entries.now arena.items.now index }
     requires points { (p : _) → Contains points.now p → Admits (C.rules criterion.now) p.value }
     ensures { OnOk result (kept.new.items ≡ kept.old.items
         ++ left_by (C.rules criterion.now) (front arena.entry.entries.now arena.entry.items.now index) points.now) }
@@ -122,19 +119,10 @@ pub fn keep_walked<C: Criterion>(
     boarding: Boarding,
     ridden: &[RiddenLabel<C::V>],
 ) -> Result<(), AllocError>
-    requires entries { AreEntries (C.rules criterion.now) arena.entries.now arena.items.now }
-    requires index { index < length arena.entries.now }
-    requires secs { IsSecs boarding.secs }
-    requires ridden { (r : _) → Contains ridden.now r → Admits (C.rules criterion.now) r.value }
+    requires may { MayInsert (C.rules criterion.now) arena.entries.now arena.items.now index boarding.secs ridden.now }
     ensures more { Extends steps.old.items steps.new.items }
-    ensures boarded { OnOk result (AreBoardings (C.rules criterion.now) steps.new.items boarding.departure
-        boarding.first boarding.walk boarding.secs ridden.now kept.new.items) }
-    ensures few { OnOk result (length kept.new.items ≤ length ridden.now) }
-    ensures fresh { OnOk result ((p : _) → Contains kept.new.items p
-        → betters (C.rules criterion.now) (front arena.entry.entries.now arena.entry.items.now index) p.value
-        ≡ false) }
-    ensures all { OnOk result (AllWalked (C.rules criterion.now)
-        (front arena.entry.entries.now arena.entry.items.now index) boarding.secs ridden.now (length ridden.now)
+    ensures kept { OnOk result (AreKept (C.rules criterion.now)
+        (front arena.entry.entries.now arena.entry.items.now index) steps.new.items boarding ridden.now
         kept.new.items) }
 {
     kept.clear();

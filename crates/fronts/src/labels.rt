@@ -4,10 +4,10 @@
 //! in a run. Each call asks the criterion whether it is total, rather than look at the labels, so the compiler knows
 //! which case applies.
 
-ghost use Rattle.std.specs.Prelude.{◌≡◌, ◌++◌, ◌∷◌, [], ℕ, ◌<◌, cond, length, not, IfOk, OnOk, OnErr, false};
+ghost use Rattle.std.specs.Prelude.{◌≡◌, [], ℕ, length, IfOk, OnErr};
 ghost use Rattle.criteria.specs.Laws.{Admits};
-ghost use Rattle.fronts.specs.Offered.{is_beaten, others};
-ghost use Rattle.fronts.specs.Labels.{AreLabels, StayLabels, labels_at, trips_of};
+ghost use Rattle.fronts.specs.Offered.{TakesOffer, LosesOffer};
+ghost use Rattle.fronts.specs.Labels.{AreLabels, HasTrip, labels_at, trips_of};
 
 use crate::run_labels::{RunLabels, offer_run};
 use crate::slot_labels::{count_at, empty_slots, label_of, offer_slot};
@@ -56,8 +56,7 @@ pub fn no_labels<C: Criterion>(
 /// The number of labels that a trip has.
 #[inline(always)]
 pub fn label_count<C: Criterion>(criterion: &C, labels: &Labels<C::V>, trip: u32) -> u32
-    requires trip { trip < trips_of labels.now }
-    requires labels { AreLabels (C.rules criterion.now) labels.now }
+    requires { HasTrip (C.rules criterion.now) labels.now trip }
     ensures { result ≡ length (labels_at labels.now trip) }
 {
     if criterion.is_total() {
@@ -73,8 +72,7 @@ pub fn labels_of<'a, C: Criterion>(
     labels: &'a Labels<C::V>,
     trip: u32,
 ) -> &'a [Label<C::V>]
-    requires trip { trip < trips_of labels.now }
-    requires labels { AreLabels (C.rules criterion.now) labels.now }
+    requires { HasTrip (C.rules criterion.now) labels.now trip }
     ensures { result.now ≡ labels_at labels.now trip }
 {
     if criterion.is_total() {
@@ -94,22 +92,16 @@ pub fn offer_label<C: Criterion>(
     value: C::V,
     tag: usize,
 ) -> Result<bool, AllocError>
-    requires trip { trip < trips_of labels.old }
-    requires labels { AreLabels (C.rules criterion.now) labels.old }
+    requires trip { HasTrip (C.rules criterion.now) labels.old trip }
     requires value { Admits (C.rules criterion.now) value }
-    ensures labels { OnOk result (AreLabels (C.rules criterion.now) labels.new) }
-    ensures long { OnOk result (trips_of labels.new ≡ trips_of labels.old) }
-    ensures same { OnOk result ((k : ℕ) → (k ≡ trip → ⊥) → labels_at labels.new k ≡ labels_at labels.old k) }
-    ensures stands { IfOk result (λ stands. stands
-        ≡ not (is_beaten (C.rules criterion.now) (labels_at labels.old trip) value)) }
-    ensures taken { IfOk result (λ stands. labels_at labels.new trip
-        ≡ cond stands (others (C.rules criterion.now) value (labels_at labels.old trip) ++ record {
-          value =
-              value;
-          tag = tag;
-        } ∷ []) (labels_at labels.old trip)) }
-    ensures err { OnErr result (StayLabels (C.rules criterion.now) labels.old labels.new) }
-    ensures needed { OnErr result (is_beaten (C.rules criterion.now) (labels_at labels.old trip) value ≡ false) }
+    ensures labels { AreLabels (C.rules criterion.now) labels.new }
+    ensures long { trips_of labels.new ≡ trips_of labels.old }
+    ensures taken { IfOk result (TakesOffer (C.rules criterion.now) trip (record {
+      value = value;
+      tag = tag;
+    }) (labels_at labels.old) (labels_at labels.new)) }
+    ensures err { OnErr result
+        (LosesOffer (C.rules criterion.now) trip value (labels_at labels.old) (labels_at labels.new)) }
 {
     if criterion.is_total() {
         return offer_slot(criterion, &mut labels.slots, trip, value, tag);

@@ -17,7 +17,7 @@ mod slot_labels;
 mod valued;
 
 pub use copying::copies;
-pub use entry::{FrontEntry, Item, RiddenLabel, Step};
+pub use entry::{Boarding, FrontEntry, Item, RiddenLabel, Step};
 pub use front_lists::FrontLists;
 pub use labels::{Label, Labels, label_count, labels_of, no_labels, offer_label};
 pub use valued::{HasValue, some_no_worse};

@@ -4,8 +4,8 @@ ghost use Rattle.std.specs.Prelude.{◌≡◌, ◌+◌, ◌++◌, ◌∷◌, [],
 ghost use Rattle.std.specs.Prelude.{Contains, IfOk, OnOk, OnErr};
 ghost use Rattle.criteria.specs.Laws.{Admits};
 ghost use Rattle.fronts.specs.Front.{front, departure_of, points_from, Extends};
-ghost use Rattle.fronts.specs.Entries.{AreEntries};
-ghost use Rattle.fronts.specs.Putting.{Follows, left_by, outdoes_alone, MayPut, IsUnion};
+ghost use Rattle.fronts.specs.Entries.{AreEntries, AreMore};
+ghost use Rattle.fronts.specs.Putting.{Follows, left_by, outdoes_alone, MayPut, IsJoined};
 
 use crate::entry::{FrontEntry, Item};
 use crate::valued::some_no_worse;
@@ -135,15 +135,11 @@ pub fn put<C: Criterion>(
     index: u32,
     departure: u32,
 ) -> Result<u32, AllocError>
-    requires entries { AreEntries (C.rules criterion.now) entries.old.items items.old.items }
     requires may { MayPut (C.rules criterion.now) entries.old.items items.old.items departure index points.now }
-    ensures entries { AreEntries (C.rules criterion.now) entries.new.items items.new.items }
-    ensures more_entries { Extends entries.old.items entries.new.items }
-    ensures more_items { Extends items.old.items items.new.items }
-    ensures within { IfOk result (λ new. new < length entries.new.items) }
+    ensures more { AreMore (C.rules criterion.now) entries.old.items items.old.items entries.new.items items.new.items }
     ensures departs { IfOk result (λ new. departure_of entries.new.items new ≡ departure) }
-    ensures union { IfOk result (λ new. IsUnion (C.rules criterion.now) points.now
-        (points_from entries.old.items items.old.items index) (points_from entries.new.items items.new.items new)) }
+    ensures joined { IfOk result (IsJoined (C.rules criterion.now) points.now
+        (points_from entries.old.items items.old.items index) entries.new.items items.new.items) }
 {
     let new = index_of(entries.len())?;
     let rest = index_of(items.len())?;
@@ -174,15 +170,12 @@ pub fn put_alone<C: Criterion>(
     point: Item<C::V>,
     index: u32,
 ) -> Result<u32, AllocError>
-    requires entries { AreEntries (C.rules criterion.now) entries.old.items items.now }
     requires may { MayPut (C.rules criterion.now) entries.old.items items.now point.departure index (point ∷ []) }
     requires outdone { outdoes_alone (C.rules criterion.now) point.value (front entries.old.items items.now index)
         ≡ true }
-    ensures entries { AreEntries (C.rules criterion.now) entries.new.items items.now }
-    ensures more_entries { Extends entries.old.items entries.new.items }
-    ensures within { IfOk result (λ new. new < length entries.new.items) }
-    ensures union { IfOk result (λ new. IsUnion (C.rules criterion.now) (point ∷ [])
-        (points_from entries.old.items items.now index) (points_from entries.new.items items.now new)) }
+    ensures more { AreMore (C.rules criterion.now) entries.old.items items.now entries.new.items items.now }
+    ensures joined { IfOk result (IsJoined (C.rules criterion.now) (point ∷ [])
+        (points_from entries.old.items items.now index) entries.new.items items.now) }
 {
     let new = index_of(entries.len())?;
     let next = follow(&entries[index as usize], index, point.departure);

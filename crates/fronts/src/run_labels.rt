@@ -4,13 +4,13 @@
 //! as many again. So the elements that a trip has left behind are no more than the room of its run, and both together
 //! are fewer than four times the most labels that the trip had at once.
 
-ghost use Rattle.std.specs.Prelude.{◌≡◌, ◌+◌, ◌++◌, ◌∷◌, [], ℕ, ◌<◌, ◌≤◌, cond, not, take, drop, length, replicate};
-ghost use Rattle.std.specs.Prelude.{Contains, IfOk, OnOk, OnErr, false};
+ghost use Rattle.std.specs.Prelude.{◌≡◌, ◌+◌, ◌++◌, ◌∷◌, [], ℕ, ◌<◌, ◌≤◌, take, drop, length, replicate};
+ghost use Rattle.std.specs.Prelude.{Contains, IfOk, OnOk, OnErr};
 ghost use Rattle.criteria.specs.Laws.{Rules, Admits};
 ghost use Rattle.fronts.specs.declared.labels.Label.{Label};
 ghost use Rattle.fronts.specs.declared.run_labels.LabelRun.{LabelRun};
-ghost use Rattle.fronts.specs.Offered.{is_beaten, others};
-ghost use Rattle.fronts.specs.RunLabels.{AreRunLabels, ArePut, ArePartlyPut, StayRunLabels, labels_in, no_run};
+ghost use Rattle.fronts.specs.Offered.{TakesOffer, LosesOffer, others};
+ghost use Rattle.fronts.specs.RunLabels.{AreRunLabels, ArePut, ArePartlyPut, HasRun, labels_in, no_run};
 ghost use Rattle.fronts.specs.RunLabels.{run_labels, runs_of};
 
 use crate::labels::Label;
@@ -37,9 +37,9 @@ pub struct RunLabels<V> {
 }
 
 impl<V: Copy> RunLabels<V> {
-    ghost use Rattle.std.specs.Prelude.{◌≡◌, [], ◌<◌, ℕ, IfOk, length};
+    ghost use Rattle.std.specs.Prelude.{◌≡◌, [], ℕ, IfOk, length};
     ghost use Rattle.criteria.specs.Laws.{Rules};
-    ghost use Rattle.fronts.specs.RunLabels.{AreRunLabels, run_labels, runs_of};
+    ghost use Rattle.fronts.specs.RunLabels.{AreRunLabels, HasRun, run_labels, runs_of};
 
     /// Makes the labels of `trips` trips: each trip has none yet.
     pub fn new(alloc: Global, trips: u32) -> Result<Self, AllocError>
@@ -57,8 +57,7 @@ impl<V: Copy> RunLabels<V> {
 
     /// The number of labels that a trip has.
     pub fn count(&self, trip: u32) -> u32
-        requires trip { trip < length (runs_of self.now) }
-        requires labels { (rules : Rules _) × AreRunLabels rules self.now }
+        requires { (rules : Rules _) × HasRun rules self.now trip }
         ensures { result ≡ length (run_labels self.now trip) }
     {
         self.runs[trip as usize].count
@@ -66,8 +65,7 @@ impl<V: Copy> RunLabels<V> {
 
     /// The labels of a trip.
     pub fn of(&self, trip: u32) -> &[Label<V>]
-        requires trip { trip < length (runs_of self.now) }
-        requires labels { (rules : Rules _) × AreRunLabels rules self.now }
+        requires { (rules : Rules _) × HasRun rules self.now trip }
         ensures { result.now ≡ run_labels self.now trip }
     {
         part(&self.labels, self.runs[trip as usize])
@@ -185,22 +183,16 @@ pub fn offer_run<C: Criterion>(
     value: C::V,
     tag: usize,
 ) -> Result<bool, AllocError>
-    requires trip { trip < length (runs_of labels.old) }
-    requires labels { AreRunLabels (C.rules criterion.now) labels.old }
+    requires trip { HasRun (C.rules criterion.now) labels.old trip }
     requires value { Admits (C.rules criterion.now) value }
-    ensures labels { OnOk result (AreRunLabels (C.rules criterion.now) labels.new) }
-    ensures long { OnOk result (length (runs_of labels.new) ≡ length (runs_of labels.old)) }
-    ensures same { OnOk result ((k : ℕ) → (k ≡ trip → ⊥) → run_labels labels.new k ≡ run_labels labels.old k) }
-    ensures stands { IfOk result (λ stands. stands
-        ≡ not (is_beaten (C.rules criterion.now) (run_labels labels.old trip) value)) }
-    ensures taken { IfOk result (λ stands. run_labels labels.new trip
-        ≡ cond stands (others (C.rules criterion.now) value (run_labels labels.old trip) ++ record {
-          value =
-              value;
-          tag = tag;
-        } ∷ []) (run_labels labels.old trip)) }
-    ensures err { OnErr result (StayRunLabels (C.rules criterion.now) labels.old labels.new) }
-    ensures needed { OnErr result (is_beaten (C.rules criterion.now) (run_labels labels.old trip) value ≡ false) }
+    ensures labels { AreRunLabels (C.rules criterion.now) labels.new }
+    ensures long { length (runs_of labels.new) ≡ length (runs_of labels.old) }
+    ensures taken { IfOk result (TakesOffer (C.rules criterion.now) trip (record {
+      value = value;
+      tag = tag;
+    }) (run_labels labels.old) (run_labels labels.new)) }
+    ensures err { OnErr result
+        (LosesOffer (C.rules criterion.now) trip value (run_labels labels.old) (run_labels labels.new)) }
 {
     let run = labels.runs[trip as usize];
     if some_no_worse(criterion, part(&labels.labels, run), &value) {

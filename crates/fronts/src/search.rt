@@ -1,10 +1,10 @@
 //! Searches in lists of entries.
 
-ghost use Rattle.std.specs.Prelude.{◌≡◌, ℕ, ◌<◌, ◌≤◌, ◌+◌, take, drop, length, OnOk, IfOk};
+ghost use Rattle.std.specs.Prelude.{◌≡◌, ◌≤◌, ◌+◌, take, drop, length, IfOk};
 ghost use Rattle.criteria.specs.Laws.{Admits};
 ghost use Rattle.fronts.specs.Front.{front, departure_of};
-ghost use Rattle.fronts.specs.Entries.{AreEntries};
-ghost use Rattle.fronts.specs.Putting.{betters, outdoes_alone, IsLate, IsPath, DepartBefore};
+ghost use Rattle.fronts.specs.Entries.{HasEntry};
+ghost use Rattle.fronts.specs.Putting.{betters, outdoes_alone, IsLate, ArePassed};
 
 use crate::entry::{Arena, Item};
 use crate::valued::some_no_worse;
@@ -18,8 +18,7 @@ pub fn front_betters<C: Criterion>(
     index: u32,
     value: &C::V,
 ) -> bool
-    requires entries { AreEntries (C.rules criterion.now) arena.entries.now arena.items.now }
-    requires index { index < length arena.entries.now }
+    requires entry { HasEntry (C.rules criterion.now) arena.entries.now arena.items.now index }
     requires value { Admits (C.rules criterion.now) value.now }
     ensures { result ≡ betters (C.rules criterion.now) (front arena.entry.entries.now arena.entry.items.now index)
         value.now }
@@ -45,8 +44,7 @@ pub fn outdoes<C: Criterion>(
     index: u32,
     value: &C::V,
 ) -> bool
-    requires entries { AreEntries (C.rules criterion.now) arena.entries.now arena.items.now }
-    requires index { index < length arena.entries.now }
+    requires entry { HasEntry (C.rules criterion.now) arena.entries.now arena.items.now index }
     requires value { Admits (C.rules criterion.now) value.now }
     ensures { result ≡ outdoes_alone (C.rules criterion.now) value.now
         (front arena.entry.entries.now arena.entry.items.now index) }
@@ -71,8 +69,7 @@ pub fn part<V>(items: &[Item<V>], rest: u32, count: u32) -> &[Item<V>]
 
 /// The index of the first entry, on the list from `head` on, that departs at a time or later; 0 if there is none.
 pub fn late<C: Criterion>(criterion: &C, arena: Arena<'_, '_, C::V>, head: u32, time: u32) -> u32
-    requires entries { AreEntries (C.rules criterion.now) arena.entries.now arena.items.now }
-    requires head { head < length arena.entries.now }
+    requires entry { HasEntry (C.rules criterion.now) arena.entries.now arena.items.now head }
     ensures { IsLate arena.entry.entries.now arena.entry.items.now head time result }
 {
     let mut index = head;
@@ -91,11 +88,8 @@ pub fn pass<C: Criterion>(
     time: u32,
     passed: &mut Vec<u32>,
 ) -> Result<u32, AllocError>
-    requires entries { AreEntries (C.rules criterion.now) arena.entries.now arena.items.now }
-    requires head { head < length arena.entries.now }
-    ensures late { IfOk result (λ index. IsLate arena.entry.entries.now arena.entry.items.now head time index) }
-    ensures path { IfOk result (λ index. IsPath arena.entry.entries.now head passed.new.items index) }
-    ensures early { OnOk result (DepartBefore arena.entry.entries.now time passed.new.items) }
+    requires entry { HasEntry (C.rules criterion.now) arena.entries.now arena.items.now head }
+    ensures { IfOk result (ArePassed arena.entry.entries.now arena.entry.items.now head time passed.new.items) }
 {
     passed.clear();
     let mut index = head;

@@ -2,11 +2,11 @@
 //!
 //! One label is enough if the criterion is total: of two labels the better one stays.
 
-ghost use Rattle.std.specs.Prelude.{◌≡◌, ◌++◌, ◌∷◌, [], ℕ, ◌<◌, ◌≤◌, cond, nat_eq, not, length};
-ghost use Rattle.std.specs.Prelude.{IfOk, OnOk, OnErr, slice_get, Some, false};
+ghost use Rattle.std.specs.Prelude.{◌≡◌, [], ℕ, ◌<◌, ◌≤◌, cond, nat_eq, length};
+ghost use Rattle.std.specs.Prelude.{IfOk, OnErr, slice_get, Some};
 ghost use Rattle.criteria.specs.Laws.{Admits, IsTotal};
 ghost use Rattle.fronts.specs.declared.labels.Label.{Label};
-ghost use Rattle.fronts.specs.Offered.{is_beaten, others};
+ghost use Rattle.fronts.specs.Offered.{TakesOffer, LosesOffer, is_beaten};
 ghost use Rattle.fronts.specs.SlotLabels.{AreSlots, label_in, no_tag, slot_label};
 
 use crate::copying::copies;
@@ -109,20 +109,15 @@ pub fn offer_slot<C: Criterion>(
     requires total { IsTotal (C.rules criterion.now) }
     requires slots { AreSlots (C.rules criterion.now) slots.old.items }
     requires value { Admits (C.rules criterion.now) value }
-    ensures slots { OnOk result (AreSlots (C.rules criterion.now) slots.new.items) }
-    ensures long { OnOk result (length slots.new.items ≡ length slots.old.items) }
-    ensures same { OnOk result
-        ((k : ℕ) → (k ≡ trip → ⊥) → slice_get slots.new.items k ≡ slice_get slots.old.items k) }
-    ensures stands { IfOk result (λ stands. stands
-        ≡ not (is_beaten (C.rules criterion.now) (slot_label slots.old.items trip) value)) }
-    ensures taken { IfOk result (λ stands. slot_label slots.new.items trip
-        ≡ cond stands (others (C.rules criterion.now) value (slot_label slots.old.items trip) ++ record {
-          value =
-              value;
+    ensures slots { AreSlots (C.rules criterion.now) slots.new.items }
+    ensures long { length slots.new.items ≡ length slots.old.items }
+    ensures taken { IfOk result
+        (TakesOffer (C.rules criterion.now) trip (record {
+          value = value;
           tag = tag;
-        } ∷ []) (slot_label slots.old.items trip)) }
-    ensures err { OnErr result (slots.new.items ≡ slots.old.items) }
-    ensures needed { OnErr result (is_beaten (C.rules criterion.now) (slot_label slots.old.items trip) value ≡ false) }
+        }) (slot_label slots.old.items) (slot_label slots.new.items)) }
+    ensures err { OnErr result
+        (LosesOffer (C.rules criterion.now) trip value (slot_label slots.old.items) (slot_label slots.new.items)) }
 {
     let slot = slots[trip as usize];
     if beats(criterion, &slot, &value) {

@@ -10,6 +10,7 @@ use Rattle.criteria.specs.Laws.{Rules, Laws, Admits, NoWorse}
 use Rattle.bags.specs.declared.point.Point.{Point}
 use Rattle.bags.specs.Dominance.{IsCovered}
 use Rattle.timetable.specs.declared.network.Footpath.{Footpath}
+use Rattle.fronts.specs.declared.entry.Boarding.{Boarding}
 use Rattle.fronts.specs.declared.entry.RiddenLabel.{RiddenLabel}
 use Rattle.fronts.specs.declared.entry.Step.{Step}
 use Rattle.fronts.specs.Lists.{TakesRidden}
@@ -21,7 +22,7 @@ use Rattle.profile_scan.specs.ScanState.{IsLastOffer}
 use Rattle.profile_scan.specs.declared.last_offers.LastOffer.{LastOffer}
 use Rattle.profile_scan.proofs.Admitted.{AreAdmitted}
 use Rattle.profile_scan.proofs.Offers.{takes_if, takes_unless}
-use Rattle.profile_scan.proofs.RideLemmas.{boardings_of_ridden}
+use Rattle.profile_scan.proofs.RideLemmas.{boardings_of_ridden, by_walk}
 
 -- who is covered stays so at an earlier time, and by a value no better
 pub covered_on : {V : Type 0} (rules : Rules V) → Laws rules → (points : List (Point V)) → AreAdmitted rules points
@@ -31,15 +32,15 @@ covered_on rules laws points admitted time v w a b le (p, h, late, good) =
     (p, h, late, laws.transitive p.value v w (admitted p h) a b good le)
 
 -- a list that covers a value takes it in as it is
-pub takes_covered : {V : Type 0} (rules : Rules V) (steps : List Step) (departure first walk secs : ℕ)
-    (ride : RiddenLabel V) (points : List (Point V)) → IsCovered rules points departure (rules.walk secs ride.value)
-    → TakesRidden rules steps departure first walk secs (ride ∷ []) points points
-takes_covered rules steps departure first walk secs ride points covers = record {
+pub takes_covered : {V : Type 0} (rules : Rules V) (steps : List Step) (boarding : Boarding)
+    (ride : RiddenLabel V) (points : List (Point V)) → IsCovered rules points boarding.departure (rules.walk boarding.secs ride.value)
+    → TakesRidden rules steps boarding (ride ∷ []) points points
+takes_covered rules steps boarding ride points covers = record {
   only = λ p h. inl h;
   kept = λ d v a c. c;
   covered = λ r h. elim (Contains-push_cases [] ride r h) [
     | inl n ↦ absurd (not_in_nil r n)
-    | inr e ↦ subst (λ (x : RiddenLabel _). IsCovered rules points departure (rules.walk secs x.value)) e covers
+    | inr e ↦ subst (λ (x : RiddenLabel _). IsCovered rules points boarding.departure (rules.walk boarding.secs x.value)) e covers
   ];
 }
 
@@ -123,7 +124,7 @@ takes_as_it_is rules labels walks ride are points walk place first dep fits at c
           (takes_if rules ((walk.from ≡ stop) × (walk.secs ≤ dep)) offer (points walk.from) (points walk.from) (here, fits)
           (boardings_of_ridden rules labels walks (ride ∷ []) are [] (dep - walk.secs) first place walk (points walk.from)
           (points walk.from) at
-          (takes_covered rules [] (dep - walk.secs) first place walk.secs ride (points walk.from) covers)
+          (takes_covered rules [] (by_walk (dep - walk.secs) first place walk) ride (points walk.from) covers)
           before all ext (all.steps, refl)))
       | inr other ↦
           takes_unless rules ((walk.from ≡ stop) × (walk.secs ≤ dep)) offer (points stop) (λ h. other h.0)

@@ -10,8 +10,9 @@ use Rattle.timetable.specs.declared.network.Connection.{Connection}
 use Rattle.timetable.proofs.LegalLemmas.{arrival_limit}
 use Rattle.criteria.specs.Laws.{IsTime}
 use Rattle.profile_scan.specs.Hops.{IsHop, IsHopOf}
-use Rattle.profile_scan.specs.Parts.{HasTrip, ChangesTrip, ChangesOrigin, ChangesLists}
+use Rattle.profile_scan.specs.Parts.{ChangesTrip, ChangesOrigin, ChangesLists}
 use Rattle.profile_scan.specs.ScanState.{AreStops}
+use Rattle.fronts.specs.Labels.{HasTrip}
 use Rattle.fronts.specs.Lists.{steps_of}
 use Rattle.profile_scan.specs.SetQuery.{SetQueryValue}
 use Rattle.profile_scan.specs.declared.stops.Stops.{Stops}
@@ -22,8 +23,8 @@ use Rattle.profile_scan.proofs.LabelLemmas.{relabelled_none, relabelled_on}
 use Rattle.profile_scan.proofs.LeaveLemmas.{way_within}
 
 module _ {K V : Type 0} (rules : Rules V) (trip : ℕ) where
-  pub changes_none : (a : Trips K V) → HasTrip rules trip a → ChangesTrip rules trip a a
-  changes_none a has = record { labels = relabelled_none rules trip a.labels has.labels; exits = extends_none a.exits.items }
+  pub changes_none : (a : Trips K V) → HasTrip rules a.labels trip → ChangesTrip rules trip a a
+  changes_none a has = record { labels = relabelled_none rules trip a.labels has.sound; exits = extends_none a.exits.items }
 
   pub changes_on : (a b c : Trips K V) → ChangesTrip rules trip a b → ChangesTrip rules trip b c → ChangesTrip rules trip a c
   changes_on a b c ab bc = record {
@@ -31,8 +32,8 @@ module _ {K V : Type 0} (rules : Rules V) (trip : ℕ) where
     exits = extends_on a.exits.items b.exits.items c.exits.items ab.exits bc.exits;
   }
 
-  pub still_there : (a b : Trips K V) → HasTrip rules trip a → ChangesTrip rules trip a b → HasTrip rules trip b
-  still_there a b has ab = record { there = subst (λ (n : ℕ). trip < n) (sym ab.labels.long) has.there; labels = ab.labels.labels }
+  pub still_there : (a b : Trips K V) → HasTrip rules a.labels trip → ChangesTrip rules trip a b → HasTrip rules b.labels trip
+  still_there a b has ab = record { there = subst (λ (n : ℕ). trip < n) (sym ab.labels.long) has.there; sound = ab.labels.labels }
 
 module _ {K V : Type 0} {c : _} (criterion : K) where
   pub origin_on : (x y z : Origin K V c) → ChangesOrigin criterion x y → ChangesOrigin criterion y z → ChangesOrigin criterion x z

@@ -8,6 +8,7 @@ use Rattle.reasoning.proofs.ListLemmas.{not_in_nil}
 use Rattle.criteria.specs.Laws.{Rules, Laws, Admits}
 use Rattle.bags.specs.declared.point.Point.{Point}
 use Rattle.timetable.specs.declared.network.Footpath.{Footpath}
+use Rattle.fronts.specs.declared.entry.Boarding.{Boarding}
 use Rattle.fronts.specs.declared.entry.Step.{Step}
 use Rattle.fronts.specs.declared.entry.RiddenLabel.{RiddenLabel}
 use Rattle.fronts.specs.Lists.{TakesRidden}
@@ -111,6 +112,10 @@ module _ {V : Type 0} (rules : Rules V) (values : List V) (x : Point V) where
     | inr e ↦ subst (λ (z : Point V). Admits rules z.value) e fair
   ]
 
+-- boarding connection `first` after the footpath at an index
+abbrev pub by_walk : ℕ → ℕ → ℕ → Footpath → Boarding
+by_walk departure first place walk = record { departure = departure; first = first; walk = place; secs = walk.secs }
+
 module _ {V : Type 0} (rules : Rules V) (labels : List (Point V)) where
   -- each of them is admitted
   pub ridden_admitted : (laws : Laws rules) → AreAdmitted rules labels → (ridden : List (RiddenLabel V))
@@ -127,7 +132,7 @@ module _ {V : Type 0} (rules : Rules V) (labels : List (Point V)) where
   pub boardings_of_ridden : (walks : List Footpath) (ridden : List (RiddenLabel V)) → AreRidden rules labels ridden
       → (steps : List Step) (departure first place : ℕ) (walk : Footpath) (old new : List (Point V))
       → slice_get walks place ≡ Some walk
-      → TakesRidden rules steps departure first place walk.secs ridden old new → (before all : ScanRecords) → Grows before all → Extends steps all.steps
+      → TakesRidden rules steps (by_walk departure first place walk) ridden old new → (before all : ScanRecords) → Grows before all → Extends steps all.steps
       → TakesIn rules (boardings_after rules (from_to (spelling_of walks before) (spelling_of walks all)) first departure walk labels) old new
   boardings_of_ridden walks ridden are steps departure first place walk old new at takes before all ext more = record {
     only = λ p h. elim (takes.only p h) [
@@ -162,7 +167,7 @@ pub boarded_at : {K V : Type 0} (rules_of : K → Rules V) (a b : K) → a ≡ b
     → ((place : ℕ) → place < bound → new place ≡ old place)
     → (steps : List Step) (walk : Footpath) (place first dep head now : ℕ) → walk.from < length heads → walk.secs ≤ dep
     → slice_get walks place ≡ Some walk → head ≡ slice_index heads walk.from
-    → TakesRidden (rules_of a) steps (dep - walk.secs) first place walk.secs ridden (old head) (new now)
+    → TakesRidden (rules_of a) steps (by_walk (dep - walk.secs) first place walk) ridden (old head) (new now)
     → (stop : ℕ) (before all : ScanRecords) → Grows before all → Extends steps all.steps
     → TakesIn (rules_of b) (only_if ((walk.from ≡ stop)
     × (walk.secs ≤ dep)) (boardings_after (rules_of b) (from_to (spelling_of walks before) (spelling_of walks all)) first
@@ -176,7 +181,7 @@ boarded_at {K} {V} rules_of a b e labels walks ridden are old new heads bound wi
       | inl here ↦
           let taken = boardings_of_ridden rules labels walks ridden are steps (dep - walk.secs) first place walk
           (old head) (new now) at (subst (λ k.
-          TakesRidden (rules_of k) steps (dep - walk.secs) first place walk.secs ridden (old head) (new now)) e
+          TakesRidden (rules_of k) steps (by_walk (dep - walk.secs) first place walk) ridden (old head) (new now)) e
           takes) before all ext more in
           let old_is : old head ≡ old (slice_index heads stop) = ap old (head_is ∙ ap (slice_index heads) here) in
           let new_is : new now ≡ new (slice_index (set heads walk.from now) stop) =

@@ -16,7 +16,8 @@ use Rattle.profile_scan.specs.ScanRecords.{SourceValue, scan_records, spelling_o
 use Rattle.profile_scan.specs.Adding.{changes_from, endings, endings_and_changes, label_points, only_if, trip_points}
 use Rattle.profile_scan.specs.ScanState.{scan_value_of, points_at, scan_records_of}
 use Rattle.profile_scan.specs.Hops.{IsHop, IsHopOf}
-use Rattle.profile_scan.specs.Parts.{ChangesTrip, HasTrip, SourceTakes, StopTakes, TripTakes}
+use Rattle.fronts.specs.Labels.{HasTrip}
+use Rattle.profile_scan.specs.Parts.{SourceTakes, StopTakes, TripTakes}
 use Rattle.profile_scan.specs.LawStatements.{CanScan}
 use Rattle.profile_scan.specs.declared.hop.Hop.{Hop}
 use Rattle.profile_scan.specs.declared.scan.State.{State}
@@ -53,24 +54,21 @@ module _ {V : Type 0} (t : TimetableValue) (sources : List ℕ → ℕ → List 
       takes
 
 -- the labels of a hop's trip have taken in the ways to leave it
-pub record HasLeft {K V : Type 0} (rules : Rules V) (q : SetQueryValue) (hop : Hop V) (stops : Stops K V) (old new : Trips K V) : Type 0 where
-  pub trip : ChangesTrip rules hop.connection.trip old new
-  pub takes : TripTakes rules hop.connection.trip
-      (λ tags. only_if (hop.connection.alight ≡ true) (endings_and_changes rules tags hop.place hop.connection q hop.final_walk
-      (survivors rules hop.bound.now (points_at stops hop.connection.to))))
-      old new
+abbrev pub HasLeft : {K V : Type 0} → Rules V → SetQueryValue → Hop V → Stops K V → Trips K V → Trips K V → Type 0
+HasLeft rules q hop stops old new =
+    TripTakes rules hop.connection.trip (λ tags. only_if (hop.connection.alight ≡ true)
+    (endings_and_changes rules tags hop.place hop.connection q hop.final_walk (survivors rules hop.bound.now (points_at stops hop.connection.to))))
+    old new
 
 module _ {K V : Type 0} (rules : Rules V) (laws : Laws rules) (q : SetQueryValue) (hop : Hop V) (stops : Stops K V) where
   -- to end, and then to change
   pub left_by : IsHop rules q hop → (old mid new : Trips K V) → hop.connection.alight ≡ true
-      → ChangesTrip rules hop.connection.trip old mid
       → TripTakes rules hop.connection.trip (λ tags. endings rules tags hop.place hop.connection q hop.final_walk) old mid
-      → ChangesTrip rules hop.connection.trip mid new
       → TripTakes rules hop.connection.trip (λ tags. changes_from tags hop.place hop.connection.arr
       (survivors rules hop.bound.now (points_at stops hop.connection.to))) mid new
       → HasLeft rules q hop stops old new
-  left_by within old mid new alights ended ends_in changed changes_in = record {
-    trip = changes_on rules hop.connection.trip old mid new ended changed;
+  left_by within old mid new alights ended changed = record {
+    trip = changes_on rules hop.connection.trip old mid new ended.trip changed.trip;
     takes = λ walks steps set_outs before all ext_before ext.
         let cn = hop.connection in
         let tags = from_to (spelling_of walks before) (spelling_of walks all) in
@@ -83,14 +81,14 @@ module _ {K V : Type 0} (rules : Rules V) (laws : Laws rules) (q : SetQueryValue
         (takes_either rules (endings rules tags hop.place cn q hop.final_walk) (changes_from tags hop.place cn.arr bag)
         (trip_points old.labels cn.trip) (trip_points mid.labels cn.trip) (trip_points new.labels cn.trip)
         (λ walk ending. end_admits rules laws cn q hop.final_walk walk within.arrival within.by within.secs ending)
-        (ends_in walks steps set_outs before all ext_before
-        (grows_on second third all (exits_grow mid.exits.items new.exits.items steps set_outs changed.exits) ext))
-        (changes_in walks steps set_outs before all
-        (grows_on before first second ext_before (exits_grow old.exits.items mid.exits.items steps set_outs ended.exits)) ext));
+        (ended.takes walks steps set_outs before all ext_before
+        (grows_on second third all (exits_grow mid.exits.items new.exits.items steps set_outs changed.trip.exits) ext))
+        (changed.takes walks steps set_outs before all
+        (grows_on before first second ext_before (exits_grow old.exits.items mid.exits.items steps set_outs ended.trip.exits)) ext));
   }
 
   -- nobody may get off
-  pub left_none : (old : Trips K V) → HasTrip rules hop.connection.trip old → hop.connection.alight ≡ false → HasLeft rules q hop stops old old
+  pub left_none : (old : Trips K V) → HasTrip rules old.labels hop.connection.trip → hop.connection.alight ≡ false → HasLeft rules q hop stops old old
   left_none old has stays = record {
     trip = changes_none rules hop.connection.trip old has;
     takes = λ walks steps set_outs before all ext_before ext.

@@ -1,21 +1,26 @@
 -- What each part of a scan's state takes in at a connection, and what it keeps.
-use Rattle.std.specs.Prelude.{◌≡◌, ℕ, ◌<◌, List, Contains, slice_get, Some}
+use Rattle.std.specs.Prelude.{◌≡◌, ℕ, List, Contains, slice_get, Some}
 use Rattle.criteria.specs.Laws.{Rules, Admits}
 use Rattle.bags.specs.Bag.{criterion_of}
 use Rattle.bags.specs.declared.point.Point.{Point}
 use Rattle.timetable.specs.declared.network.Footpath.{Footpath}
 use Rattle.fronts.specs.Front.{Extends}
-use Rattle.fronts.specs.Labels.{AreLabels, trips_of}
+use Rattle.fronts.specs.Labels.{HasTrip}
 use Rattle.fronts.specs.Lists.{steps_of}
 use Rattle.fronts.specs.declared.entry.RiddenLabel.{RiddenLabel}
 use Rattle.fronts.specs.declared.entry.Step.{Step}
 use Rattle.fronts.specs.declared.labels.Label.{Label}
 use Rattle.profile_scan.specs.Matching.{Spellings}
-use Rattle.profile_scan.specs.Steps.{Offer}
+use Rattle.timetable.specs.TimetableValue.{TimetableValue}
+use Rattle.profile_scan.specs.Bound.{survivors}
+use Rattle.profile_scan.specs.Steps.{Offer, boardings}
 use Rattle.profile_scan.specs.Adding.{Takes, IsRelabelled, AreRidden, StandsBetween, each_of, boardings_by}
 use Rattle.profile_scan.specs.Adding.{label_points, trip_points}
 use Rattle.profile_scan.specs.ScanRecords.{SourceValue, scan_records}
+use Rattle.profile_scan.specs.Hops.{IsHop}
+use Rattle.profile_scan.specs.Origins.{kept_of}
 use Rattle.profile_scan.specs.ScanState.{AreStops, points_at}
+use Rattle.profile_scan.specs.SetQuery.{SetQueryValue}
 use Rattle.profile_scan.specs.declared.hop.Hop.{Hop}
 use Rattle.profile_scan.specs.declared.origin.Origin.{Origin}
 use Rattle.profile_scan.specs.declared.stops.Stops.{Stops}
@@ -23,22 +28,22 @@ use Rattle.profile_scan.specs.declared.scan_records.Exit.{Exit}
 use Rattle.profile_scan.specs.declared.scan_records.SetOut.{SetOut}
 use Rattle.profile_scan.specs.declared.trips.Trips.{Trips}
 
--- there is such a trip, and the values of labels are admitted
-pub record HasTrip {K V : Type 0} (rules : Rules V) (trip : ℕ) (trips : Trips K V) : Type 0 where
-  pub there : trip < trips_of trips.labels
-  pub labels : AreLabels rules trips.labels
-
 -- only the labels of one trip may have changed, and exits are only added
 pub record ChangesTrip {K V : Type 0} (rules : Rules V) (trip : ℕ) (old new : Trips K V) : Type 0 where
   pub labels : IsRelabelled rules trip old.labels new.labels
   pub exits : Extends old.exits.items new.exits.items
 
--- the labels of a trip take an offer in
-abbrev pub TripTakes : {A K V : Type 0} → Rules V → ℕ → (Spellings → Offer A V) → Trips K V → Trips K V → Type 0
-TripTakes rules trip offer old new =
-    (walks : List Footpath) (steps : List Step) (set_outs : List SetOut)
-    → Takes rules walks (scan_records old.exits.items steps set_outs) (scan_records new.exits.items steps set_outs)
-    offer (trip_points old.labels trip) (trip_points new.labels trip)
+-- where the trip of a hop is left: the hop is within what the laws are about, and there is such a trip
+pub record CanLeave {K V : Type 0} (rules : Rules V) (q : SetQueryValue) (here : Hop V) (trips : Trips K V) : Type 0 where
+  pub hop : IsHop rules q here
+  pub trip : HasTrip rules trips.labels here.connection.trip
+
+-- the labels of one trip take an offer in, and no others change
+pub record TripTakes {A K V : Type 0} (rules : Rules V) (index : ℕ) (offer : Spellings → Offer A V) (old new : Trips K V) : Type 0 where
+  pub trip : ChangesTrip rules index old new
+  pub takes : (walks : List Footpath) (steps : List Step) (set_outs : List SetOut)
+      → Takes rules walks (scan_records old.exits.items steps set_outs) (scan_records new.exits.items steps set_outs)
+      offer (trip_points old.labels index) (trip_points new.labels index)
 
 -- the values of labels are admitted
 abbrev pub AdmitsLabels : {V : Type 0} → Rules V → List (Label V) → Type 0
@@ -54,6 +59,12 @@ abbrev pub SourceTakes : {A V : Type 0} → Rules V → List Footpath → (Spell
 SourceTakes rules walks offer old new =
     (exits : List Exit) (steps : List Step)
     → Takes rules walks (scan_records exits steps old.set_outs) (scan_records exits steps new.set_outs) offer old.found new.found
+
+-- the same, and the points found stay under their criterion
+pub record OriginTakes {A K V : Type 0} {c : _} (rules_of : K → Rules V) (criterion : K) (offer : Spellings → Offer A V)
+    (old new : Origin K V c) : Type 0 where
+  pub origin : ChangesOrigin criterion old new
+  pub takes : (walks : List Footpath) → SourceTakes (rules_of criterion) walks offer (kept_of old) (kept_of new)
 
 -- `count` stops, and the ridden values are admitted
 pub record AreReady {K V : Type 0} (rules_of : K → Rules V) (criterion : K) (count : ℕ)
@@ -82,22 +93,31 @@ StopTakes rules walks stop offer old new =
     → Takes rules walks (scan_records exits (steps_of old.lists) set_outs) (scan_records exits (steps_of new.lists) set_outs)
     offer (points_at old stop) (points_at new stop)
 
--- the points of each stop take in what the footpath at an index offers them; the ridden values are those of the labels
-abbrev pub BoardsAfter : {K V : Type 0}
-    → Rules V → Hop V → ℕ → Footpath → List (RiddenLabel V) → Stops K V → Stops K V → Type 0
-BoardsAfter {K} {V} rules hop walk_index walk ridden old new =
-    (labels : List (Point V)) → AreRidden rules labels ridden
-    → (walks : List Footpath) → slice_get walks walk_index ≡ Some walk
-    → (stop : ℕ)
-    → StopTakes rules walks stop (λ tags. boardings_by rules tags hop.place hop.connection stop labels walk) old new
+-- after the footpath at an index passengers board with the ridden values, which are those of labels: the points of each stop take in what that offers them
+pub record BoardsAfter {K V : Type 0} (rules_of : K → Rules V) (criterion : K) (count : ℕ) (hop : Hop V) (walk_index : ℕ) (walk : Footpath)
+    (ridden : List (RiddenLabel V)) (old new : Stops K V) : Type 0 where
+  pub stops : ChangesLists rules_of criterion count old new
+  pub takes : (labels : List (Point V)) → AreRidden (rules_of criterion) labels ridden
+      → (walks : List Footpath) → slice_get walks walk_index ≡ Some walk
+      → (stop : ℕ)
+      → StopTakes (rules_of criterion) walks stop
+      (λ tags. boardings_by (rules_of criterion) tags hop.place hop.connection stop labels walk) old new
 
--- the same for the footpaths at the indices `begin..end`
-abbrev pub BoardsAfterEach : {K V : Type 0}
-    → Rules V → List Footpath → ℕ → ℕ → Hop V → List (RiddenLabel V) → Stops K V → Stops K V → Type 0
-BoardsAfterEach {K} {V} rules walks begin end hop ridden old new =
-    (labels : List (Point V)) → AreRidden rules labels ridden
-    → ((l : Point V) → Contains labels l → Admits rules l.value)
-    → (stop : ℕ)
-    → StopTakes rules walks stop
-    (λ tags. each_of (StandsBetween walks begin end) (boardings_by rules tags hop.place hop.connection stop labels))
-    old new
+-- the same after each of the footpaths at the indices `begin..end`
+pub record BoardsAfterEach {K V : Type 0} (rules_of : K → Rules V) (criterion : K) (t : TimetableValue) (begin end : ℕ) (hop : Hop V)
+    (ridden : List (RiddenLabel V)) (old new : Stops K V) : Type 0 where
+  pub stops : ChangesLists rules_of criterion t.stops old new
+  pub takes : (labels : List (Point V)) → AreRidden (rules_of criterion) labels ridden
+      → ((l : Point V) → Contains labels l → Admits (rules_of criterion) l.value)
+      → (stop : ℕ)
+      → StopTakes (rules_of criterion) t.footpaths stop
+      (λ tags. each_of (StandsBetween t.footpaths begin end) (boardings_by (rules_of criterion) tags hop.place hop.connection stop labels))
+      old new
+
+-- passengers board a connection with the labels of its trip: the points of each stop take in what that offers them
+pub record Boards {K V : Type 0} (rules_of : K → Rules V) (criterion : K) (t : TimetableValue) (hop : Hop V) (labels : List (Label V))
+    (old new : Stops K V) : Type 0 where
+  pub stops : ChangesStops rules_of criterion t.stops old new
+  pub takes : (stop : ℕ) → StopTakes (rules_of criterion) t.footpaths stop
+      (λ tags. boardings (rules_of criterion) t tags hop.place stop (survivors (rules_of criterion) hop.bound.now (label_points labels)))
+      old new

@@ -20,9 +20,10 @@ use fronts::Label;
 use sources::ConnSource;
 use std::alloc::{AllocError, Global};
 
-/// What a scan keeps where journeys set out. It may answer several questions at once, which differ in their sources
-/// alone, and keeps the points found for each. `Origin` answers one question, from all sources that the query names,
-/// and every index names it. `Origins` answers one from each stop, whose index is the stop.
+/// What a scan keeps where journeys set out. It may answer several questions at once, which differ only in their
+/// sources, and keeps the points found for each. `Origins` answers one question from each stop, and a question's index
+/// is its stop. `Origin` answers one question, from all sources that the query names: whatever the index, that one is
+/// meant.
 pub trait AtSource<C: Criterion>: Drop {
     // what is kept for the question at an index
     ghost kept: { Self → ℕ → SourceValue C.V };
@@ -38,8 +39,8 @@ pub trait AtSource<C: Criterion>: Drop {
         ensures under { IfOk result (λ side. IsUnder criterion.now stops side) }
         ensures none { IfOk result (λ side. (index : ℕ) → (kept side index).found ≡ []) };
 
-    /// Adds to a bound values of points that were found for every question and depart at `time` or later. What the
-    /// bound excluded stays excluded.
+    /// Adds values to a bound: those of points that depart at `time` or later and were found for every question. What
+    /// the bound excluded stays excluded.
     fn renew(&self, criterion: &C, time: u32, bound: &mut Bound<C>) -> Result<(), AllocError>
         requires under { (stops : ℕ) × IsUnder criterion.now stops self.now }
         requires values { (b : _) → Contains bound.old.values.items b → Admits (C.rules criterion.now) b }

@@ -47,8 +47,8 @@ impl<C: Criterion> Bound<C> {
         }
     }
 
-    // Reads the values of the points, from index `self.index` on, that depart at a time or later. Returns the index
-    // where they end.
+    // Takes in the values of the points found from index `self.index` on that depart at a time or later. Returns the
+    // index of the first point that departs before it, or the number of points if none does.
     fn read_late(&mut self, criterion: &C, found: &Bag<C>, time: u32) -> Result<usize, AllocError>
         requires worsens { RidingWorsens (C.rules criterion.now) }
         requires found { criterion_of found.now ≡ criterion.now }
@@ -108,7 +108,8 @@ pub fn any_no_worse<C: Criterion>(criterion: &C, values: &[C::V], value: &C::V) 
     some_no_worse(criterion, values, value)
 }
 
-// The same, but the first value is asked before the others. Under a total criterion there are hardly ever others.
+// The same, but the first value is asked before the others. Under a total criterion there are never any others: of two
+// values one is no worse than the other, and only that one is kept.
 #[inline(always)]
 fn any_no_worse_first<C: Criterion>(criterion: &C, values: &[C::V], value: &C::V) -> bool
     requires values { (b : _) → Contains values.now b → Admits (C.rules criterion.now) b }

@@ -19,11 +19,12 @@ pub struct FinalWalk {
     pub secs: u32,
 }
 
-/// For each stop the footpath from it to the nearest target, if there is one: from a target its own loop. There is an
-/// entry for each stop, also for those without a way, since a scan looks one up at each connection.
+/// For each stop the footpath from there to the nearest target, if there is one; for a target this is its loop. Each
+/// stop has an entry, also if no footpath leads from there to a target: so a scan, which looks one up at each
+/// connection, finds it by the stop's number.
 #[derive(Drop)]
 pub struct FinalWalks {
-    // a stop without one has a way of more seconds than a footpath takes
+    // a stop without such a footpath has an entry with more seconds than a footpath can take
     entries: Vec<FinalWalk>,
 }
 

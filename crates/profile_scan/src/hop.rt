@@ -25,7 +25,7 @@ pub struct Hop<'a, V> {
     pub connection: Connection,
     // the connection's index in the timetable
     pub place: u32,
-    // how one may set out to board the connection; read only by `Origin::set_out`
+    // how one may set out to board the connection; read only where `Origin` sets out
     pub access: StopAccess,
     // the footpath from the stop where the connection ends to the nearest target (its loop, if it is one), or `None` if
     // there is none

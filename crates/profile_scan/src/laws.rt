@@ -36,7 +36,8 @@ pub fn together_never_continue()
     ensures { TogetherNeverContinue }
 {}
 
-/// Past the window's end no connection follows: there no points, no labels and no points found are what matches.
+/// Past the window's end no connection follows. There the empty state matches: no stop has points, no trip has labels,
+/// and no points are found.
 pub fn nothing_follows<C: Criterion>(_criterion: &C)
     ensures { NothingFollows (C.rules _criterion.now) }
 {}

@@ -4,11 +4,11 @@
 //! that no other dominates. `IsAnswerBetween` (specs/SetQuery.antt) defines it. The scan goes once over the
 //! connections, from the last to the first, as the profile variant of the Connection Scan Algorithm does (Dibbelt,
 //! Pajor, Strasser, Wagner, ACM Journal of Experimental Algorithmics, 2018). `profile` is that scan, reading from any
-//! `ConnSource`, under any criterion. The window is the connections that depart at `from` or later and before `by`,
-//! since a later leg may depart after `until`. The loop is `scan::scan_window`. It reads each index of the window once,
-//! in falling order, as its clause `log` says, and calls `Scan::step`. A step returns at once if it sees that the
-//! connection can add nothing; else it renews the bound for the connection's departure, makes a `Hop` and calls
-//! `State::take`:
+//! `ConnSource`, under any criterion. It reads the connections of the query's window: those that depart at `from` or
+//! later and before `by`. (`until` limits where a journey begins, not where the window ends: later legs may depart
+//! after it.) The loop is `scan::scan_window`. It reads each index of the window once, in falling order, as its clause
+//! `log` says, and calls `Scan::step`. A step returns at once if it sees that the connection can add nothing; else it
+//! renews the bound for the connection's departure, makes a `Hop` and calls `State::take`:
 //!
 //! 1. Leave the trip, if passengers may get off. The journey may end there, or one footpath on (`hop.final_walk`):
 //!    `Trips::end` offers that to the labels of the connection's trip, with the value that `value_at_end` makes. Or
@@ -31,10 +31,11 @@
 //!
 //! A leg is counted where its trip is boarded, in 2 and 3: a label's value doesn't include it.
 //!
-//! `AtSource` is where journeys set out. For one query it is `Origin`: one list of points found, from all sources
-//! together. For `profiles_to_any`, which answers from every stop to any of several targets, and `profiles_to`, to a
-//! single one, it is `Origins`: a list for each stop. All else is the same scan. Clauses speak of the question at an
-//! `index`: for `Origins` that is the stop; `Origin` has one question, and ignores the index.
+//! What a scan keeps where journeys set out has the trait `AtSource`. `profile` answers one question, and keeps an
+//! `Origin`: one list of the points found, from all sources together. `profiles_to_any`, which answers from every stop
+//! to any of several targets, and `profiles_to`, to a single one, keep `Origins`: a list for each stop. All else is the
+//! same scan. Clauses speak of the question at an `index`: for `Origins` the index is a stop; `Origin` has one
+//! question, whatever the index.
 //!
 //! `hop.bound` has values of points found that depart no earlier than the connection. 1 leaves out a point of the stop,
 //! and 3 a label, if one of these values is no worse than that point's or label's own value with the ride in this trip.

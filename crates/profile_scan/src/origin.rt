@@ -30,18 +30,16 @@ pub struct Origin<C: Criterion> {
 
 impl<C: Criterion> Origin<C> {
     ghost use Rattle.profile_scan.specs.SetQuery.{question};
-    ghost use Rattle.std.specs.Prelude.{◌≡◌, ◌-◌, [], List, OnOk, IfSome, Contains};
+    ghost use Rattle.std.specs.Prelude.{◌≡◌, ◌-◌, [], OnOk, IfSome};
     ghost use Rattle.criteria.specs.Laws.{Admits, IsSecs};
     ghost use Rattle.bags.specs.Bag.{criterion_of, points_of};
     ghost use Rattle.bags.specs.declared.point.Point.{Point};
-    ghost use Rattle.timetable.specs.declared.network.Footpath.{Footpath};
     ghost use Rattle.timetable.specs.Journeys.{start_secs};
     ghost use Rattle.profile_scan.specs.Adding.{label_points, only_if, set_out_way, settings_out_after, MayStart};
     ghost use Rattle.profile_scan.specs.Steps.{settings_out};
     ghost use Rattle.profile_scan.specs.Hops.{KnowsSources, IsHopOf};
     ghost use Rattle.profile_scan.specs.Starts.{AreStarts};
-    ghost use Rattle.profile_scan.specs.Parts.{AdmitsLabels, ChangesOrigin, SourceTakes};
-    ghost use Rattle.profile_scan.specs.Origins.{kept_of};
+    ghost use Rattle.profile_scan.specs.Parts.{AdmitsLabels, OriginTakes};
 
     /// Makes an origin without points.
     pub fn empty(alloc: Global, criterion: C) -> Self
@@ -65,9 +63,8 @@ impl<C: Criterion> Origin<C> {
     ) -> Result<(), AllocError>
         requires same { criterion_of self.old.found ≡ criterion.now }
         requires admitted { Admits (C.rules criterion.now) value }
-        ensures origin { OnOk result (ChangesOrigin criterion.now self.old self.new) }
-        ensures takes { OnOk result ((walks : List Footpath) → SourceTakes (C.rules criterion.now) walks
-            (λ tags. set_out_way tags departure value set_out) (kept_of self.old) (kept_of self.new)) }
+        ensures { OnOk result (OriginTakes C.rules criterion.now
+            (λ tags. set_out_way tags departure value set_out) self.old self.new) }
     {
         let tag = self.set_outs.len();
         let stands = self.found.insert(departure, value, tag)?;
@@ -90,11 +87,9 @@ impl<C: Criterion> Origin<C> {
         requires secs { IfSome departure.start (λ walk. IsSecs walk.secs) }
         requires found { criterion_of self.old.found ≡ asked.now.criterion }
         requires labels { AdmitsLabels (C.rules asked.now.criterion) labels.now }
-        ensures origin { OnOk result (ChangesOrigin asked.now.criterion self.old self.new) }
-        ensures takes { OnOk result ((walks : List Footpath) → SourceTakes (C.rules asked.now.criterion) walks
+        ensures { OnOk result (OriginTakes C.rules asked.now.criterion
             (λ tags. settings_out_after (C.rules asked.now.criterion) tags place
-            departure.time departure.start (label_points labels.now))
-            (kept_of self.old) (kept_of self.new)) }
+            departure.time departure.start (label_points labels.now)) self.old self.new) }
     {
         for k in 0..labels.len() {
             let label = label_at(labels, k);
@@ -123,12 +118,10 @@ impl<C: Criterion> Origin<C> {
         requires lead { KnowsSources (question asked.now.query).sources hop.now asked.now.starts start }
         requires found { criterion_of self.old.found ≡ asked.now.criterion }
         requires labels { AdmitsLabels (C.rules asked.now.criterion) labels.now }
-        ensures origin { OnOk result (ChangesOrigin asked.now.criterion self.old self.new) }
-        ensures takes { OnOk result ((walks : List Footpath) → SourceTakes (C.rules asked.now.criterion) walks
+        ensures { OnOk result (OriginTakes C.rules asked.now.criterion
             (λ tags. only_if (MayStart (question asked.now.query) hop.now.connection start)
             (settings_out_after (C.rules asked.now.criterion) tags hop.now.place
-            (hop.now.connection.dep - start_secs start) start (label_points labels.now)))
-            (kept_of self.old) (kept_of self.new)) }
+            (hop.now.connection.dep - start_secs start) start (label_points labels.now))) self.old self.new) }
     {
         if !is_from_source(asked, hop, start) {
             return Ok(());

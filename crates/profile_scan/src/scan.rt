@@ -34,7 +34,7 @@ impl<C: Criterion, O: AtSource<C>> State<C, O> {
     ghost use Rattle.profile_scan.specs.ScanState.{HasStop, IsState, scan_value_of, points_at, scan_records_of};
     ghost use Rattle.profile_scan.specs.Hops.{IsHopOf};
     ghost use Rattle.profile_scan.specs.Starts.{AreStarts};
-    ghost use Rattle.profile_scan.specs.Parts.{HasTrip};
+    ghost use Rattle.fronts.specs.Labels.{HasTrip};
 
     // A state for `stops` stops and `trips` trips, before any connection is read.
     fn new(alloc: Global, criterion: &C, stops: u32, trips: u32) -> Result<Self, AllocError>
@@ -55,7 +55,7 @@ impl<C: Criterion, O: AtSource<C>> State<C, O> {
 
     // Returns true only if the connection can add nothing; false is always safe.
     fn is_idle(&self, asked: &ScanQuery<C>, connection: &Connection, way: Option<FinalWalk>) -> bool
-        requires trip { HasTrip (C.rules asked.now.criterion) connection.now.trip self.now.trips }
+        requires trip { HasTrip (C.rules asked.now.criterion) self.now.trips.labels connection.now.trip }
         requires stop { HasStop C.rules asked.now.criterion connection.now.to self.now.stops }
         ensures { result ≡ true → IsIdle connection.now way
             (trip_points self.now.trips.labels connection.now.trip) (points_at self.now.stops connection.now.to) }

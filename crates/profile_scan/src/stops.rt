@@ -7,7 +7,7 @@ use crate::hop::{Hop, ScanQuery};
 use crate::last_offers::{LastOffer, none_offered};
 use crate::riding::{number_of, ride_labels};
 use criteria::Criterion;
-use fronts::{FrontLists, Label, RiddenLabel};
+use fronts::{Boarding, FrontLists, Label, RiddenLabel};
 use sources::ConnSource;
 use std::alloc::{AllocError, Global};
 use std::ops::Range;
@@ -25,19 +25,14 @@ pub struct Stops<C: Criterion> {
 }
 
 impl<C: Criterion> Stops<C> {
-    ghost use Rattle.std.specs.Prelude.{◌≡◌, ◌<◌, [], ◌∷◌, ℕ, List, true, IfOk, OnOk, Contains, vec_len, slice_index};
+    ghost use Rattle.std.specs.Prelude.{◌≡◌, ◌<◌, [], ◌∷◌, ℕ, true, IfOk, OnOk, vec_len, slice_index};
     ghost use Rattle.criteria.specs.Laws.{Admits, IsSecs};
-    ghost use Rattle.bags.specs.declared.point.Point.{Point};
     ghost use Rattle.bags.specs.Dominance.{IsCovered};
-    ghost use Rattle.profile_scan.specs.Adding.{label_points, AreWalksInto};
-    ghost use Rattle.profile_scan.specs.Bound.{survivors};
-    ghost use Rattle.profile_scan.specs.Steps.{boardings};
+    ghost use Rattle.profile_scan.specs.Adding.{AreWalksInto};
     ghost use Rattle.profile_scan.specs.ScanState.{AreStops, points_at};
     ghost use Rattle.profile_scan.specs.Hops.{IsHopOf};
     ghost use Rattle.profile_scan.specs.SetQuery.{question};
-    ghost use Rattle.profile_scan.specs.Parts.{AdmitsLabels, AreReady, ChangesLists, ChangesStops, StopTakes};
-    ghost use Rattle.profile_scan.specs.Parts.{BoardsAfter};
-    ghost use Rattle.profile_scan.specs.Parts.{BoardsAfterEach};
+    ghost use Rattle.profile_scan.specs.Parts.{AdmitsLabels, AreReady, Boards, BoardsAfter, BoardsAfterEach};
 
     /// Makes the lists of `count` stops, which are empty.
     pub fn new(alloc: Global, criterion: &C, count: u32) -> Result<Self, AllocError>
@@ -92,11 +87,8 @@ impl<C: Criterion> Stops<C> {
         requires secs { IsSecs walk.secs }
         requires stop { walk.from < vec_len self.old.heads }
         requires ready { AreReady C.rules asked.now.criterion (vec_len self.old.heads) self.old }
-        ensures stops { OnOk result
-            (ChangesLists C.rules asked.now.criterion (vec_len self.old.heads) self.old self.new) }
-        ensures takes { OnOk result
-            (BoardsAfter (C.rules asked.now.criterion) hop.now walk_index walk self.old.ridden.items
-            self.old self.new) }
+        ensures { OnOk result (BoardsAfter C.rules asked.now.criterion (vec_len self.old.heads) hop.now walk_index walk
+            self.old.ridden.items self.old self.new) }
     {
         let dep = hop.connection.dep;
         if walk.secs > dep {
@@ -104,14 +96,13 @@ impl<C: Criterion> Stops<C> {
         }
         let number = number_of(walk_index)?;
         let head = self.head(walk.from);
-        let new = self.lists.insert(
-            head,
-            dep - walk.secs,
-            hop.place,
-            number,
-            walk.secs,
-            &self.ridden,
-        )?;
+        let boarding = Boarding {
+            departure: dep - walk.secs,
+            first: hop.place,
+            walk: number,
+            secs: walk.secs,
+        };
+        let new = self.lists.insert(head, boarding, &self.ridden)?;
         self.heads[walk.from as usize] = new;
         Ok(())
     }
@@ -128,11 +119,8 @@ impl<C: Criterion> Stops<C> {
     ) -> Result<(), AllocError>
         requires walks { AreWalksInto (S.timetable source.now) hop.now.connection.from walks.start walks.end }
         requires ready { AreReady C.rules asked.now.criterion (S.timetable source.now).stops self.old }
-        ensures stops { OnOk result
-            (ChangesLists C.rules asked.now.criterion (S.timetable source.now).stops self.old self.new) }
-        ensures takes { OnOk result (BoardsAfterEach (C.rules asked.now.criterion)
-            (S.timetable source.now).footpaths walks.start walks.end hop.now self.old.ridden.items
-            self.old self.new) }
+        ensures { OnOk result (BoardsAfterEach C.rules asked.now.criterion (S.timetable source.now)
+            walks.start walks.end hop.now self.old.ridden.items self.old self.new) }
     {
         for walk_index in walks.start..walks.end {
             let walk = source.footpath_into(hop.connection.from as usize, walk_index);
@@ -156,10 +144,8 @@ impl<C: Criterion> Stops<C> {
         requires stop { walk.from < vec_len self.old.heads }
         requires stops { AreStops C.rules asked.now.criterion (vec_len self.old.heads) self.old }
         requires ride { Admits (C.rules asked.now.criterion) ride.value }
-        ensures stops { OnOk result
-            (ChangesLists C.rules asked.now.criterion (vec_len self.old.heads) self.old self.new) }
-        ensures takes { OnOk result
-            (BoardsAfter (C.rules asked.now.criterion) hop.now walk_index walk (ride ∷ []) self.old self.new) }
+        ensures { OnOk result (BoardsAfter C.rules asked.now.criterion (vec_len self.old.heads) hop.now walk_index walk
+            (ride ∷ []) self.old self.new) }
     {
         let dep = hop.connection.dep;
         if walk.secs > dep {
@@ -171,9 +157,13 @@ impl<C: Criterion> Stops<C> {
         }
         let number = number_of(walk_index)?;
         let head = self.head(walk.from);
-        let new = self
-            .lists
-            .insert_one(head, dep - walk.secs, hop.place, number, walk.secs, ride)?;
+        let boarding = Boarding {
+            departure: dep - walk.secs,
+            first: hop.place,
+            walk: number,
+            secs: walk.secs,
+        };
+        let new = self.lists.insert_one(head, boarding, ride)?;
         self.heads[walk.from as usize] = new;
         self.offers[walk.from as usize] = LastOffer {
             before: (dep - walk.secs).saturating_add(1),
@@ -196,10 +186,8 @@ impl<C: Criterion> Stops<C> {
         requires walks { AreWalksInto (S.timetable source.now) hop.now.connection.from walks.start walks.end }
         requires stops { AreStops C.rules asked.now.criterion (S.timetable source.now).stops self.old }
         requires ride { Admits (C.rules asked.now.criterion) ride.value }
-        ensures stops { OnOk result
-            (ChangesLists C.rules asked.now.criterion (S.timetable source.now).stops self.old self.new) }
-        ensures takes { OnOk result (BoardsAfterEach (C.rules asked.now.criterion)
-            (S.timetable source.now).footpaths walks.start walks.end hop.now (ride ∷ []) self.old self.new) }
+        ensures { OnOk result (BoardsAfterEach C.rules asked.now.criterion (S.timetable source.now)
+            walks.start walks.end hop.now (ride ∷ []) self.old self.new) }
     {
         for walk_index in walks.start..walks.end {
             let walk = source.footpath_into(hop.connection.from as usize, walk_index);
@@ -223,13 +211,8 @@ impl<C: Criterion> Stops<C> {
         requires boards { hop.now.connection.board ≡ true }
         requires stops { AreStops C.rules asked.now.criterion (S.timetable source.now).stops self.old }
         requires label { Admits (C.rules asked.now.criterion) label.now.value }
-        ensures stops { OnOk result
-            (ChangesStops C.rules asked.now.criterion (S.timetable source.now).stops self.old self.new) }
-        ensures takes { OnOk result ((stop : ℕ)
-            → StopTakes (C.rules asked.now.criterion) (S.timetable source.now).footpaths stop
-            (λ tags. boardings (C.rules asked.now.criterion) (S.timetable source.now) tags hop.now.place stop
-            (survivors (C.rules asked.now.criterion) hop.now.bound.now (label_points (label.now ∷ []))))
-            self.old self.new) }
+        ensures { OnOk result
+            (Boards C.rules asked.now.criterion (S.timetable source.now) hop.now (label.now ∷ []) self.old self.new) }
     {
         let value = asked.criterion.ride(&label.value);
         if any_no_worse(&asked.criterion, hop.bound, &value) {
@@ -259,13 +242,8 @@ impl<C: Criterion> Stops<C> {
             (question asked.now.query) hop.now }
         requires stops { AreStops C.rules asked.now.criterion (S.timetable source.now).stops self.old }
         requires labels { AdmitsLabels (C.rules asked.now.criterion) labels.now }
-        ensures stops { OnOk result
-            (ChangesStops C.rules asked.now.criterion (S.timetable source.now).stops self.old self.new) }
-        ensures takes { OnOk result ((stop : ℕ)
-            → StopTakes (C.rules asked.now.criterion) (S.timetable source.now).footpaths stop
-            (λ tags. boardings (C.rules asked.now.criterion) (S.timetable source.now) tags hop.now.place stop
-            (survivors (C.rules asked.now.criterion) hop.now.bound.now (label_points labels.now)))
-            self.old self.new) }
+        ensures { OnOk result
+            (Boards C.rules asked.now.criterion (S.timetable source.now) hop.now labels.now self.old self.new) }
     {
         if !hop.connection.board {
             return Ok(());

@@ -38,15 +38,14 @@ impl<C: Criterion> Trips<C> {
     ghost use Rattle.profile_scan.specs.SetQuery.{question};
     ghost use Rattle.std.specs.Prelude.{◌≡◌, [], ℕ, true, false, IfOk, OnOk};
     ghost use Rattle.criteria.specs.Laws.{Admits};
-    ghost use Rattle.fronts.specs.Labels.{AreLabels, trips_of};
+    ghost use Rattle.fronts.specs.Labels.{AreLabels, HasTrip, trips_of};
     ghost use Rattle.profile_scan.specs.Bound.{any_no_worse, survivors};
     ghost use Rattle.profile_scan.specs.ScanRecords.{IsExit};
     ghost use Rattle.profile_scan.specs.declared.scan_records.Exit.TheVariants.{Changes};
     ghost use Rattle.profile_scan.specs.Adding.{one_way, only_if, changes_from, endings};
     ghost use Rattle.profile_scan.specs.Adding.{trip_points};
     ghost use Rattle.profile_scan.specs.ScanState.{HasStop, points_at};
-    ghost use Rattle.profile_scan.specs.Hops.{IsHop};
-    ghost use Rattle.profile_scan.specs.Parts.{HasTrip, ChangesTrip, TripTakes};
+    ghost use Rattle.profile_scan.specs.Parts.{CanLeave, TripTakes};
 
     /// Makes `count` trips without labels.
     pub fn new(alloc: Global, criterion: &C, count: u32) -> Result<Self, AllocError>
@@ -63,10 +62,9 @@ impl<C: Criterion> Trips<C> {
 
     // Offers one value to the labels of a trip. `exit` is kept only if the value was accepted.
     fn offer(&mut self, criterion: &C, trip: u32, value: C::V, exit: Exit) -> Result<(), AllocError>
-        requires trip { HasTrip (C.rules criterion.now) trip self.old }
+        requires trip { HasTrip (C.rules criterion.now) self.old.labels trip }
         requires admitted { Admits (C.rules criterion.now) value }
-        ensures trip { OnOk result (ChangesTrip (C.rules criterion.now) trip self.old self.new) }
-        ensures takes { OnOk result
+        ensures { OnOk result
             (TripTakes (C.rules criterion.now) trip (λ tags. one_way 0 value (IsExit tags exit)) self.old self.new) }
     {
         let tag = self.exits.len();
@@ -80,11 +78,8 @@ impl<C: Criterion> Trips<C> {
     /// Offers a label to the connection's trip for a journey that ends here, if a passenger who gets off reaches a
     /// target by `query.by`, at once or by footpath.
     pub fn end(&mut self, asked: &ScanQuery<C>, hop: &Hop<C::V>) -> Result<(), AllocError>
-        requires hop { IsHop (C.rules asked.now.criterion) (question asked.now.query) hop.now }
-        requires trip { HasTrip (C.rules asked.now.criterion) hop.now.connection.trip self.old }
-        ensures trip { OnOk result
-            (ChangesTrip (C.rules asked.now.criterion) hop.now.connection.trip self.old self.new) }
-        ensures takes { OnOk result (TripTakes (C.rules asked.now.criterion) hop.now.connection.trip
+        requires { CanLeave (C.rules asked.now.criterion) (question asked.now.query) hop.now self.old }
+        ensures { OnOk result (TripTakes (C.rules asked.now.criterion) hop.now.connection.trip
             (λ tags. endings (C.rules asked.now.criterion) tags hop.now.place
             hop.now.connection (question asked.now.query) hop.now.final_walk)
             self.old self.new) }
@@ -111,12 +106,9 @@ impl<C: Criterion> Trips<C> {
         hop: &Hop<C::V>,
         point: &Point<C::V>,
     ) -> Result<(), AllocError>
-        requires hop { IsHop (C.rules asked.now.criterion) (question asked.now.query) hop.now }
-        requires trip { HasTrip (C.rules asked.now.criterion) hop.now.connection.trip self.old }
+        requires can { CanLeave (C.rules asked.now.criterion) (question asked.now.query) hop.now self.old }
         requires point { Admits (C.rules asked.now.criterion) point.now.value }
-        ensures trip { OnOk result
-            (ChangesTrip (C.rules asked.now.criterion) hop.now.connection.trip self.old self.new) }
-        ensures takes { OnOk result (TripTakes (C.rules asked.now.criterion) hop.now.connection.trip
+        ensures { OnOk result (TripTakes (C.rules asked.now.criterion) hop.now.connection.trip
             (λ tags. only_if
             (any_no_worse (C.rules asked.now.criterion) hop.now.bound.now
             ((C.rules asked.now.criterion).ride point.now.value) ≡ false)
@@ -140,8 +132,8 @@ impl<C: Criterion> Trips<C> {
 
     /// A passenger changes: the labels of the connection's trip come to cover each point of its arrival stop that
     /// departs at the arrival or later, unless a value of `hop.bound` is no worse than the point's value with the ride.
-    /// It suffices to offer the front at the arrival, which covers all such points. A front is kept as an entry: its
-    /// first point stands in the entry itself, and the others are the entry's items.
+    /// It suffices to offer the front at the arrival, which covers all such points. The first point of a front is read
+    /// from its entry, and the others from the items, so the first is offered by itself.
     #[inline(always)]
     pub fn change(
         &mut self,
@@ -149,12 +141,9 @@ impl<C: Criterion> Trips<C> {
         hop: &Hop<C::V>,
         stops: &Stops<C>,
     ) -> Result<(), AllocError>
-        requires hop { IsHop (C.rules asked.now.criterion) (question asked.now.query) hop.now }
-        requires trip { HasTrip (C.rules asked.now.criterion) hop.now.connection.trip self.old }
+        requires can { CanLeave (C.rules asked.now.criterion) (question asked.now.query) hop.now self.old }
         requires stop { HasStop C.rules asked.now.criterion hop.now.connection.to stops.now }
-        ensures trip { OnOk result
-            (ChangesTrip (C.rules asked.now.criterion) hop.now.connection.trip self.old self.new) }
-        ensures takes { OnOk result (TripTakes (C.rules asked.now.criterion) hop.now.connection.trip
+        ensures { OnOk result (TripTakes (C.rules asked.now.criterion) hop.now.connection.trip
             (λ tags. changes_from tags hop.now.place hop.now.connection.arr
             (survivors (C.rules asked.now.criterion) hop.now.bound.now (points_at stops.now hop.now.connection.to)))
             self.old self.new) }

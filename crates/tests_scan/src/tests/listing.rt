@@ -1,12 +1,24 @@
 //! Lists of points and their fronts.
 
-ghost use Rattle.std.specs.Prelude.{◌<◌, ◌≤◌, IfOk, length};
+ghost use Rattle.std.specs.Prelude.{◌≡◌, ◌<◌, ◌≤◌, IfOk, length};
 ghost use Rattle.criteria.specs.Laws.{IsTime};
 ghost use Rattle.fronts.specs.Lists.{IsSound, entries_of};
 
 use criteria::{ArrivalTrips, Criterion, TimeTrips};
-use fronts::{FrontLists, RiddenLabel};
+use fronts::{Boarding, FrontLists, RiddenLabel};
 use std::alloc::{AllocError, Global};
+
+// Boarding connection 7 by footpath 0, which takes no time.
+fn without_walk(departure: u32) -> Boarding
+    ensures { result ≡ record { departure = departure; first = 7; walk = 0; secs = 0 } }
+{
+    Boarding {
+        departure,
+        first: 7,
+        walk: 0,
+        secs: 0,
+    }
+}
 
 // Takes in one value, without a walk.
 fn take(
@@ -28,7 +40,7 @@ fn take(
         value: TimeTrips { time, trips },
         label,
     }];
-    lists.insert(head, departure, 7, 0, 0, &ridden)
+    lists.insert(head, without_walk(departure), &ridden)
 }
 
 // Takes in two values at once, without a walk.
@@ -57,7 +69,7 @@ fn take_two(
             label: 2,
         },
     ];
-    lists.insert(head, departure, 7, 0, 0, &ridden)
+    lists.insert(head, without_walk(departure), &ridden)
 }
 
 // How many points the front from a time on has.

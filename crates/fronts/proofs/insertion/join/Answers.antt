@@ -1,13 +1,12 @@
-use Rattle.std.proofs.Common.{◌≡◌, ◌⊎◌, ◌<◌, ◌≤◌, ◌++◌, ◌∷◌, [], ℕ, List, length, Contains, inl, inr, sym, subst, arith}
+use Rattle.std.proofs.Common.{rules, ◌≡◌, ◌⊎◌, ◌<◌, ◌≤◌, ◌++◌, ◌∷◌, [], ℕ, List, length, Contains, inl, inr, sym, subst, arith}
 use Rattle.std.proofs.lemmas.List.Elements.{Contains-append_left, Contains-push}
-use Rattle.reasoning.proofs.ListLemmas.{extends_none, extends_on}
 use Rattle.criteria.specs.Laws.{Rules}
 use Rattle.fronts.specs.declared.entry.Item.{Item}
 use Rattle.fronts.specs.declared.entry.FrontEntry.{FrontEntry}
 use Rattle.fronts.specs.Front.{next_of, departure_of, points_from, Extends}
 use Rattle.fronts.specs.Entries.{AreEntries}
 use Rattle.fronts.specs.Putting.{IsPath, DepartBefore}
-use Rattle.fronts.proofs.Growth.{extends_long, same_departure}
+use Rattle.fronts.proofs.Growth.{extends_long, same_departure, same_entries, still_more}
 use Rattle.fronts.proofs.Paths.{path_pop}
 use Rattle.fronts.proofs.Joining.{joined_on, joined_here, covers_on}
 use Rattle.fronts.proofs.insertion.join.Goals as goal
@@ -40,10 +39,8 @@ pub loop-from-init : goal.loop-from-init
 loop-from-init g c =
     let rules = g.C.Criterion.rules c.args.criterion.now in
     record {
-      are = c.requires.entries;
+      more = same_entries rules c.args.entries.now.items c.args.items.now.items c.requires.entries;
       within = c.requires.index;
-      more_entries = extends_none c.args.entries.now.items;
-      more_items = extends_none c.args.items.now.items;
       early = c.requires.early;
       joined = (
         c.args.after,
@@ -55,35 +52,29 @@ loop-from-init g c =
       );
     }
 
-pub join_one-requires-clause-some : goal.join_one-requires-clause-some
-join_one-requires-clause-some g c =
+pub join_one-requires : goal.join_one-requires
+join_one-requires g c =
+    let rules = g.C.Criterion.rules c.args.criterion.now in
+    let first = c.args.entries.now.items in
+    let mid = c.loop-from.entries.items in
+    let more = c.loop-from.invariant.more in
     let j = c.loop-from.invariant.joined in
-    (popped c.args.entries.now.items c.args.head j.0 c.in-Some.from c.loop-from.passed.items c.pop.new.self.items c.in-Some.ensures.items j.1).1
-
-pub join_one-requires-clause-from : goal.join_one-requires-clause-from
-join_one-requires-clause-from g c =
-    let j = c.loop-from.invariant.joined in
-    let lt = (popped c.args.entries.now.items c.args.head j.0 c.in-Some.from c.loop-from.passed.items c.pop.new.self.items c.in-Some.ensures.items j.1).2 in
-    let grows = extends_long c.args.entries.now.items c.loop-from.entries.items c.loop-from.invariant.more_entries in
-    omega arith
-
-pub join_one-requires-clause-early : goal.join_one-requires-clause-early
-join_one-requires-clause-early g c =
-    let j = c.loop-from.invariant.joined in
-    is_earlier (g.C.Criterion.rules c.args.criterion.now) c.args.entries.now.items c.loop-from.entries.items
-    c.args.items.now.items c.loop-from.items.items c.args.head j.0 c.in-Some.from c.args.index c.loop-from.new
-    c.loop-from.passed.items c.pop.new.self.items
-    c.requires.entries c.loop-from.invariant.more_entries c.loop-from.invariant.more_items c.in-Some.ensures.items j.1 c.loop-from.invariant.early j.3
-
-pub join_one-requires-clause-covers : goal.join_one-requires-clause-covers
-join_one-requires-clause-covers g c =
-    let j = c.loop-from.invariant.joined in
-    let p = popped c.args.entries.now.items c.args.head j.0 c.in-Some.from c.loop-from.passed.items c.pop.new.self.items c.in-Some.ensures.items j.1 in
-    covers_on (g.C.Criterion.rules c.args.criterion.now) c.args.entries.now.items c.loop-from.entries.items
-    c.args.items.now.items c.loop-from.items.items j.0 c.in-Some.from
-    (points_from c.args.entries.now.items c.args.items.now.items c.args.index)
-    (points_from c.loop-from.entries.items c.loop-from.items.items c.loop-from.new)
-    c.requires.entries c.loop-from.invariant.more_entries c.loop-from.invariant.more_items p.2 j.2 p.3 j.4
+    let p = popped first c.args.head j.0 c.in-Some.from c.loop-from.passed.items c.pop.new.self.items c.in-Some.ensures.items j.1 in
+    let grows = extends_long first mid more.entries_more in
+    record {
+      may = record {
+        sound = more.sound;
+        some = p.1;
+        from_within = omega (arith, grows, p.2);
+        within = c.loop-from.invariant.within;
+        early = is_earlier rules first mid c.args.items.now.items c.loop-from.items.items c.args.head j.0 c.in-Some.from c.args.index
+            c.loop-from.new c.loop-from.passed.items c.pop.new.self.items c.requires.entries more.entries_more more.items_more
+            c.in-Some.ensures.items j.1 c.loop-from.invariant.early j.3;
+        covers = covers_on rules first mid c.args.items.now.items c.loop-from.items.items j.0 c.in-Some.from
+            (points_from first c.args.items.now.items c.args.index) (points_from mid c.loop-from.items.items c.loop-from.new)
+            c.requires.entries more.entries_more more.items_more p.2 j.2 p.3 j.4;
+      };
+    }
 
 pub loop-from-preserved : goal.loop-from-preserved
 loop-from-preserved g c =
@@ -95,13 +86,13 @@ loop-from-preserved g c =
     let j = inv.joined in
     let b = c.in-Some.from in
     let p = popped first c.args.head j.0 b c.loop-from.passed.items c.pop.new.self.items c.in-Some.ensures.items j.1 in
-    let same = same_departure rules first mid c.args.items.now.items c.loop-from.items.items c.requires.entries inv.more_entries inv.more_items b p.2 in
+    let same = same_departure rules first mid c.args.items.now.items c.loop-from.items.items c.requires.entries inv.more.entries_more
+    inv.more.items_more b p.2 in
     let late = c.in_ok-new.ensures.late in
     record {
-      are = c.in_ok-new.ensures.entries;
-      within = c.in_ok-new.ensures.within;
-      more_entries = extends_on first mid last inv.more_entries c.in_ok-new.ensures.more_entries;
-      more_items = extends_on c.args.items.now.items c.loop-from.items.items c.join_one.new.items.items inv.more_items c.in_ok-new.ensures.more_items;
+      more = still_more rules first mid last c.args.items.now.items c.loop-from.items.items c.join_one.new.items.items inv.more
+          c.in_ok-new.ensures.more;
+      within = c.in_ok-new.ensures.joined.within;
       early = λ x h. inv.early x (subst (λ bs. Contains bs x) (sym c.in-Some.ensures.items) (Contains-append_left c.pop.new.self.items (b ∷ []) x h));
       joined = (
         b,
@@ -110,7 +101,16 @@ loop-from-preserved g c =
         inr (p.1, omega arith),
         joined_on rules first mid c.args.items.now.items c.loop-from.items.items j.0 b c.args.index
             (points_from mid c.loop-from.items.items c.loop-from.new)
-            (points_from last c.join_one.new.items.items c.in_ok-new.new) c.requires.entries inv.more_entries
-            inv.more_items p.2 p.3 j.4 c.in_ok-new.ensures.joined,
+            (points_from last c.join_one.new.items.items c.in_ok-new.new) c.requires.entries inv.more.entries_more
+            inv.more.items_more p.2 p.3 j.4 c.in_ok-new.ensures.joined.union,
       );
     }
+
+pub returns-in_err-new-clause-more : goal.returns-in_err-new-clause-more
+returns-in_err-new-clause-more g c =
+    still_more (g.C.Criterion.rules c.args.criterion.now) c.args.entries.now.items c.loop-from.entries.items
+    c.join_one.new.entries.items c.args.items.now.items c.loop-from.items.items c.join_one.new.items.items
+    c.loop-from.invariant.more c.in_err-new.ensures.more
+
+pub returns-clause-joined : goal.returns-clause-joined
+returns-clause-joined g c = record { within = c.loop-from.invariant.within; union = search rules }

@@ -13,27 +13,30 @@ returns-then-len-eq0-clause-joined g c =
     let is = kept_read rules c.deref.result.now c.args.entries.now.items c.deref-2.result.now c.args.items.now.items
     c.keep_front.new.kept.items c.args.index c.args.from c.deref.ensures.value c.deref-2.ensures.value
     c.in_ok-keep_front.ensures in
-    joined_none rules (g.met.C.Criterion.laws c.args.criterion.now) c.args.entries.now.items c.args.items.now.items
-    c.requires.entries c.args.from c.args.index c.requires.early c.requires.covers c.keep_front.new.kept.items is
-    (omega arith)
+    record {
+      within = c.requires.may.within;
+      union = joined_none rules (g.met.C.Criterion.laws c.args.criterion.now) c.args.entries.now.items c.args.items.now.items
+          c.args.from c.args.index c.requires.may c.keep_front.new.kept.items is (omega arith);
+    }
 
-pub put-requires-clause-may : goal.put-requires-clause-may
-put-requires-clause-may g c =
+pub put-requires : goal.put-requires
+put-requires g c =
     let rules = g.C.Criterion.rules c.args.criterion.now in
     let entries = c.args.entries.now.items in
     let is = kept_read rules c.deref.result.now entries c.deref-2.result.now c.args.items.now.items
     c.keep_front.new.kept.items c.args.index c.args.from c.deref.ensures.value c.deref-2.ensures.value
     c.in_ok-keep_front.ensures in
-    subst (λ d. MayPut rules entries c.args.items.now.items d c.args.index c.deref-3.result.now)
-    (departs_at entries c.args.from c.index.result.now c.requires.from c.index.ensures)
-    (subst (λ ps. MayPut rules entries c.args.items.now.items (departure_of entries c.args.from) c.args.index ps) (sym c.deref-3.ensures.value)
-    (joined_may rules (g.met.C.Criterion.laws c.args.criterion.now) entries c.args.items.now.items c.requires.entries
-    c.args.from c.args.index c.requires.early c.requires.covers c.keep_front.new.kept.items is (omega arith)
-    c.requires.index))
+    record {
+      may = subst (λ d. MayPut rules entries c.args.items.now.items d c.args.index c.deref-3.result.now)
+          (departs_at entries c.args.from c.index.result.now c.requires.may.from_within c.index.ensures)
+          (subst (λ ps. MayPut rules entries c.args.items.now.items (departure_of entries c.args.from) c.args.index ps) (sym c.deref-3.ensures.value)
+          (joined_may rules (g.met.C.Criterion.laws c.args.criterion.now) entries c.args.items.now.items c.args.from
+          c.args.index c.requires.may c.keep_front.new.kept.items is (omega arith)));
+    }
 
 pub returns-clause-late : goal.returns-clause-late
 returns-clause-late g c =
-    let departs = departs_at c.args.entries.now.items c.args.from c.index.result.now c.requires.from c.index.ensures in
+    let departs = departs_at c.args.entries.now.items c.args.from c.index.result.now c.requires.may.from_within c.index.ensures in
     let put = c.in_ok-new.ensures.departs in
     omega arith
 
@@ -46,6 +49,9 @@ returns-clause-joined g c =
     let is = kept_read rules c.deref.result.now entries c.deref-2.result.now items kept c.args.index c.args.from
     c.deref.ensures.value c.deref-2.ensures.value c.in_ok-keep_front.ensures in
     let new = points_from c.put.new.entries.items c.put.new.items.items c.in_ok-new.new in
-    joined_put rules (g.met.C.Criterion.laws c.args.criterion.now) entries items c.requires.entries c.args.from
-    c.args.index c.requires.early c.requires.covers kept is new
-    (subst (λ ps. IsUnion rules ps (points_from entries items c.args.index) new) c.deref-3.ensures.value c.in_ok-new.ensures.union)
+    record {
+      within = c.in_ok-new.ensures.joined.within;
+      union = joined_put rules (g.met.C.Criterion.laws c.args.criterion.now) entries items c.args.from c.args.index c.requires.may
+          kept is new (subst (λ ps. IsUnion rules ps (points_from entries items c.args.index) new) c.deref-3.ensures.value
+          c.in_ok-new.ensures.joined.union);
+    }

@@ -14,8 +14,7 @@ use Rattle.fronts.proofs.keeping.keep_walked.Goals.{then-not-front_betters+in_ok
 pub loop-i-init : goal.loop-i-init
 loop-i-init g c = record {
   more = extends_none c.args.steps.now.items;
-  boarded = boardings_none (g.C.Criterion.rules c.args.criterion.now) c.args.boarding.departure c.args.boarding.first
-      c.args.boarding.walk c.args.boarding.secs c.args.ridden.now c.args.steps.now.items c.clear.new.self.items
+  boarded = boardings_none (g.C.Criterion.rules c.args.criterion.now) c.args.boarding c.args.ridden.now c.args.steps.now.items c.clear.new.self.items
       c.clear.ensures.items;
   few = let none = ap length c.clear.ensures.items in omega arith;
   fresh = λ p h. absurd (not_in_nil p (subst (λ ps. Contains ps p) c.clear.ensures.items h));
@@ -27,15 +26,20 @@ front_betters-requires-clause-value g c =
     let rules = g.C.Criterion.rules c.args.criterion.now in
     subst (Admits rules) (sym c.walk-value.ensures)
     ((g.met.C.Criterion.laws c.args.criterion.now).walk_admits c.args.boarding.secs c.index-ridden-i.result.value
-    c.requires.secs (c.requires.ridden c.index-ridden-i.result (c.loop-i.i, omega arith, sym c.index-ridden-i.is)))
+    c.requires.may.short (c.requires.may.admitted c.index-ridden-i.result (c.loop-i.i, omega arith, sym c.index-ridden-i.is)))
 
 pub returns-in_err-keep_value-clause-more : goal.returns-in_err-keep_value-clause-more
 returns-in_err-keep_value-clause-more g c =
     extends_on c.args.steps.now.items c.loop-i.steps.items c.keep_value.new.steps.items c.loop-i.invariant.more
     c.in_err-keep_value.ensures.more
 
-pub returns-clause-all : goal.returns-clause-all
-returns-clause-all g c = λ k d lt. c.loop-i.invariant.all k d (omega arith)
+pub returns-clause-kept : goal.returns-clause-kept
+returns-clause-kept g c = record {
+  boarded = c.loop-i.invariant.boarded;
+  few = let few = c.loop-i.invariant.few in omega arith;
+  fresh = c.loop-i.invariant.fresh;
+  all = λ k d lt. c.loop-i.invariant.all k d (omega arith);
+}
 
 pub loop-i-preserved : goal.loop-i-preserved
 loop-i-preserved g c =
@@ -44,12 +48,11 @@ loop-i-preserved g c =
     let inv = c.loop-i.invariant in
     let r = c.index-ridden-i.result in
     let points = front c.args.arena.entries.now c.args.arena.items.now c.args.index in
-    let contained = c.requires.ridden r (c.loop-i.i, omega arith, sym c.index-ridden-i.is) in
-    let admitted = subst (Admits rules) (sym c.walk-value.ensures) (laws.walk_admits c.args.boarding.secs r.value c.requires.secs contained) in
+    let contained = c.requires.may.admitted r (c.loop-i.i, omega arith, sym c.index-ridden-i.is) in
+    let admitted = subst (Admits rules) (sym c.walk-value.ensures) (laws.walk_admits c.args.boarding.secs r.value c.requires.may.short contained) in
     elim c.if-not-front_betters.branch [
       | then-not-front_betters+in_ok-keep_value w ↦ (
-          let m = boardings_more rules c.args.boarding.departure c.args.boarding.first c.args.boarding.walk
-          c.args.boarding.secs c.args.ridden.now laws c.loop-i.steps.items w.keep_value.new.steps.items
+          let m = boardings_more rules c.args.boarding c.args.ridden.now laws c.loop-i.steps.items w.keep_value.new.steps.items
           c.loop-i.kept.items w.keep_value.new.kept.items c.walk-value.result r
           inv.boarded admitted (c.loop-i.i, omega arith, sym c.index-ridden-i.is) c.walk-value.ensures w.in_ok-keep_value.ensures.keeps in
           rw (w.steps-is, w.kept-is) (record {
@@ -72,8 +75,7 @@ loop-i-preserved g c =
               | inr e ↦ subst (λ (z : Item g.row.C-V.Denot). betters rules points z.value ≡ false) e
                   (sym c.front_betters.ensures ∙ w.if-not-front_betters.true)
             ];
-            all = all_more rules c.args.boarding.departure c.args.boarding.first c.args.boarding.walk
-                c.args.boarding.secs c.args.ridden.now points c.loop-i.kept.items w.keep_value.new.kept.items c.loop-i.i
+            all = all_more rules c.args.boarding c.args.ridden.now points c.loop-i.kept.items w.keep_value.new.kept.items c.loop-i.i
                 r m.1 (omega arith) c.index-ridden-i.is inv.all
                 (inl (subst (Betters rules w.keep_value.new.kept.items) c.walk-value.ensures m.2));
           }))
@@ -82,7 +84,7 @@ loop-i-preserved g c =
         boarded = inv.boarded;
         few = let few = inv.few in omega arith;
         fresh = inv.fresh;
-        all = all_more rules c.args.boarding.departure c.args.boarding.first c.args.boarding.walk c.args.boarding.secs
+        all = all_more rules c.args.boarding
             c.args.ridden.now points c.loop-i.kept.items c.loop-i.kept.items c.loop-i.i r
             (extends_none c.loop-i.kept.items) (omega arith) c.index-ridden-i.is inv.all
             (inr (subst (Betters rules points) c.walk-value.ensures

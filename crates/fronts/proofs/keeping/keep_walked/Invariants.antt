@@ -8,8 +8,7 @@ use Rattle.fronts.proofs.keeping.keep_walked.Given as goal
 abbrev pub invariant-loop-i : goal.invariant-loop-i
 invariant-loop-i g l = record {
   more : Extends l.fn.steps.items l.steps.items;
-  boarded : AreBoardings (g.C.Criterion.rules l.criterion) l.steps.items l.boarding.departure l.boarding.first
-      l.boarding.walk l.boarding.secs l.ridden l.kept.items;
+  boarded : AreBoardings (g.C.Criterion.rules l.criterion) l.steps.items l.boarding l.ridden l.kept.items;
   few : length l.kept.items ≤ l.i;
   fresh : (p : Item g.row.C-V.Denot) → Contains l.kept.items p
       → betters (g.C.Criterion.rules l.criterion) (front l.arena.entries.now l.arena.items.now l.index) p.value ≡ false;

@@ -1,9 +1,9 @@
-use Rattle.std.proofs.Common.{[], drop, refl, sym, ◌∙◌, subst, append-nil, arith}
+use Rattle.std.proofs.Common.{drop, refl, sym, subst, arith}
 use Rattle.reasoning.proofs.ListLemmas.{extends_on}
 use Rattle.fronts.specs.declared.entry.FrontEntry.{FrontEntry}
 use Rattle.fronts.specs.Front.{Extends}
-use Rattle.fronts.specs.Entries.{AreEntries}
-use Rattle.fronts.proofs.Growth.{are_more, extends_long}
+use Rattle.fronts.specs.Entries.{AreEntries, AreMore}
+use Rattle.fronts.proofs.Growth.{are_more, extends_long, items_added}
 use Rattle.fronts.proofs.Points.{departs_at}
 use Rattle.fronts.proofs.Leaving.{leave_behind}
 use Rattle.fronts.proofs.OnePut.{IsPut, put_all}
@@ -16,40 +16,29 @@ grown : (g : given.Over) (c : goal.In_ok-leave_front g) → Extends c.args.items
 grown g c = extends_on c.args.items.now.items c.push_others.new.items.items c.leave_front.new.items.items
     c.in_ok-push_others.ensures.extends c.in_ok-leave_front.ensures.extends
 
-pub returns-in_err-push_others-clause-entries : goal.returns-in_err-push_others-clause-entries
-returns-in_err-push_others-clause-entries g c =
-    are_more (g.C.Criterion.rules c.args.criterion.now) c.args.entries.now.items c.args.items.now.items
-    c.push_others.new.items.items c.requires.entries c.in_err-push_others.ensures.extends
+pub returns-in_err-push_others-clause-more : goal.returns-in_err-push_others-clause-more
+returns-in_err-push_others-clause-more g c =
+    items_added (g.C.Criterion.rules c.args.criterion.now) c.args.entries.now.items c.args.items.now.items
+    c.push_others.new.items.items c.requires.may.sound c.in_err-push_others.ensures.extends
 
 pub leave_front-requires-clause-entries : goal.leave_front-requires-clause-entries
 leave_front-requires-clause-entries g c =
     subst (λ es. AreEntries (g.C.Criterion.rules c.args.criterion.now) es c.push_others.new.items.items)
     (sym c.deref.ensures.value) (are_more (g.C.Criterion.rules c.args.criterion.now) c.args.entries.now.items
-    c.args.items.now.items c.push_others.new.items.items c.requires.entries c.in_ok-push_others.ensures.extends)
+    c.args.items.now.items c.push_others.new.items.items c.requires.may.sound c.in_ok-push_others.ensures.extends)
 
-pub returns-in_err-leave_front-clause-entries : goal.returns-in_err-leave_front-clause-entries
-returns-in_err-leave_front-clause-entries g c =
-    are_more (g.C.Criterion.rules c.args.criterion.now) c.args.entries.now.items c.args.items.now.items
-    c.leave_front.new.items.items c.requires.entries
+pub returns-in_err-leave_front-clause-more : goal.returns-in_err-leave_front-clause-more
+returns-in_err-leave_front-clause-more g c =
+    items_added (g.C.Criterion.rules c.args.criterion.now) c.args.entries.now.items c.args.items.now.items
+    c.leave_front.new.items.items c.requires.may.sound
     (extends_on c.args.items.now.items c.push_others.new.items.items c.leave_front.new.items.items
     c.in_ok-push_others.ensures.extends c.in_err-leave_front.ensures.extends)
 
-pub returns-in_err-leave_front-clause-more_items : goal.returns-in_err-leave_front-clause-more_items
-returns-in_err-leave_front-clause-more_items g c =
-    extends_on c.args.items.now.items c.push_others.new.items.items c.leave_front.new.items.items
-    c.in_ok-push_others.ensures.extends c.in_err-leave_front.ensures.extends
-
-pub returns-in_err-push-clause-more_items : goal.returns-in_err-push-clause-more_items
-returns-in_err-push-clause-more_items g c = grown g (goal.at.returns-in_err-push-clause-more_items g c).In_ok-leave_front
-
-pub returns-clause-more_items : goal.returns-clause-more_items
-returns-clause-more_items g c = grown g (goal.at.returns-clause-more_items g c).In_ok-leave_front
-
-pub returns-in_err-count-clause-entries : goal.returns-in_err-count-clause-entries
-returns-in_err-count-clause-entries g c =
-    are_more (g.C.Criterion.rules c.args.criterion.now) c.args.entries.now.items c.args.items.now.items
-    c.leave_front.new.items.items c.requires.entries
-    (grown g (goal.at.returns-in_err-count-clause-entries g c).In_ok-leave_front)
+pub returns-in_err-count-clause-more : goal.returns-in_err-count-clause-more
+returns-in_err-count-clause-more g c =
+    items_added (g.C.Criterion.rules c.args.criterion.now) c.args.entries.now.items c.args.items.now.items
+    c.leave_front.new.items.items c.requires.may.sound
+    (grown g (goal.at.returns-in_err-count-clause-more g c).In_ok-leave_front)
 
 pub follow-next-requires : goal.follow-next-requires
 follow-next-requires g c =
@@ -57,15 +46,13 @@ follow-next-requires g c =
     let departs = departs_at c.args.entries.now.items c.args.index c.index.result.now c.requires.may.within c.index.ensures in
     omega arith
 
-pub returns-in_err-push-clause-entries : goal.returns-in_err-push-clause-entries
-returns-in_err-push-clause-entries g c =
+pub returns-in_err-push-clause-more : goal.returns-in_err-push-clause-more
+returns-in_err-push-clause-more g c =
     let rules = g.C.Criterion.rules c.args.criterion.now in
-    subst (λ es. AreEntries rules es c.leave_front.new.items.items) (sym c.in_err-push.ensures.items)
-    (are_more rules c.args.entries.now.items c.args.items.now.items c.leave_front.new.items.items c.requires.entries
-    (grown g (goal.at.returns-in_err-push-clause-entries g c).In_ok-leave_front))
-
-pub returns-in_err-push-clause-more_entries : goal.returns-in_err-push-clause-more_entries
-returns-in_err-push-clause-more_entries g c = ([], c.in_err-push.ensures.items ∙ sym (append-nil c.args.entries.now.items))
+    subst (λ es. AreMore rules c.args.entries.now.items c.args.items.now.items es c.leave_front.new.items.items)
+    (sym c.in_err-push.ensures.items)
+    (items_added rules c.args.entries.now.items c.args.items.now.items c.leave_front.new.items.items c.requires.may.sound
+    (grown g (goal.at.returns-in_err-push-clause-more g c).In_ok-leave_front))
 
 -- what the put does
 made : (g : given.Over) (c : goal.In_ok-push g)
@@ -92,21 +79,18 @@ made g c =
     put_all rules (g.met.C.Criterion.laws c.args.criterion.now) c.args.entries.now.items c.deref.result.now
     c.push.new.self.items c.args.items.now.items c.leave_front.new.items.items c.args.departure c.args.index
     c.in_ok-new.new c.args.points.now e c.index.result.now x
-    c.requires.entries c.requires.may c.deref.ensures.value c.index-points-0.is refl refl refl c.index.ensures
+    c.requires.may c.deref.ensures.value c.index-points-0.is refl refl refl c.index.ensures
     c.follow-next.ensures (leave_behind rules c.args.points.now c.deref.result.now c.args.items.now.items
     c.push_others.new.items.items c.leave_front.new.items.items (drop 1 c.args.points.now)
-    (subst (λ es. AreEntries rules es c.args.items.now.items) (sym c.deref.ensures.value) c.requires.entries)
+    (subst (λ es. AreEntries rules es c.args.items.now.items) (sym c.deref.ensures.value) c.requires.may.sound)
     c.args.index c.in_ok-push_others.ensures.pushed c.in_ok-leave_front.ensures.left) (omega arith) (omega arith)
     c.in_ok-push.ensures.items (omega arith)
 
-pub returns-clause-entries : goal.returns-clause-entries
-returns-clause-entries g c = (made g c).are
-
-pub returns-clause-within : goal.returns-clause-within
-returns-clause-within g c = (made g c).within
+pub returns-clause-more : goal.returns-clause-more
+returns-clause-more g c = (made g c).more_are
 
 pub returns-clause-departs : goal.returns-clause-departs
 returns-clause-departs g c = (made g c).departs
 
-pub returns-clause-union : goal.returns-clause-union
-returns-clause-union g c = (made g c).union
+pub returns-clause-joined : goal.returns-clause-joined
+returns-clause-joined g c = (made g c).joined

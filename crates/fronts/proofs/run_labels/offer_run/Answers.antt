@@ -1,12 +1,11 @@
-use Rattle.std.proofs.Common.{◌≡◌, List, ◌++◌, ◌∷◌, [], false, length, Contains, inl, inr, refl, ◌∙◌, ap, subst}
+use Rattle.std.proofs.Common.{◌≡◌, List, ◌++◌, ◌∷◌, [], false, not, length, Contains, inl, inr, refl, sym, ◌∙◌, ap, ap₂, subst}
 use Rattle.std.proofs.lemmas.List.{get_or_default}
-use Rattle.reasoning.proofs.ListLemmas.{not_in_nil}
 use Rattle.reasoning.proofs.OptionLemmas.{on_err}
 use Rattle.fronts.specs.declared.labels.Label.{Label}
 use Rattle.fronts.specs.declared.run_labels.LabelRun.{LabelRun}
 use Rattle.fronts.specs.RunLabels.{ArePut, labels_in, no_run, run_at, run_labels}
 use Rattle.fronts.specs.Offered.{is_beaten, others}
-use Rattle.fronts.proofs.Runs.{put_none, run_there, run_unbeaten, runs_put, runs_stay, with_admitted}
+use Rattle.fronts.proofs.Runs.{partly_same, run_here, run_there, runs_put, runs_sound, with_admitted}
 use Rattle.fronts.proofs.run_labels.offer_run.Given as given
 use Rattle.fronts.proofs.run_labels.offer_run.Goals.{After-deref-3, After-some_no_worse}
 use Rattle.fronts.proofs.run_labels.offer_run.Goals as goal
@@ -24,15 +23,21 @@ kept_are g c =
     ∙ ap (others rules c.args.value) (c.part-2.ensures
     ∙ ap (λ (xs : List (Label g.row.C-V.Denot)). labels_in xs run) c.deref-2.ensures.value))
 
--- none of the trip's labels is as good
-free : (g : given.Over) (c : goal.After-some_no_worse g) → c.some_no_worse.result ≡ false
-    → is_beaten (g.C.Criterion.rules c.args.criterion.now) (run_labels c.args.labels.now c.args.trip) c.args.value ≡ false
-free g c none =
+-- whether one of the trip's labels is as good
+asked : (g : given.Over) (c : goal.After-some_no_worse g)
+    → is_beaten (g.C.Criterion.rules c.args.criterion.now) (run_labels c.args.labels.now c.args.trip) c.args.value ≡ c.some_no_worse.result
+asked g c =
+    let rules = g.C.Criterion.rules c.args.criterion.now in
     let runs = c.args.labels.now.runs.items in
     let run = c.index-run.result.now in
-    run_unbeaten (g.C.Criterion.rules c.args.criterion.now) runs c.args.labels.now.labels.items c.part.result.now c.args.trip run c.args.value
-    c.some_no_worse.result (c.index-run.ensures ∙ get_or_default runs c.args.trip run no_run c.requires.trip)
-    (c.part.ensures ∙ ap (λ (xs : List (Label g.row.C-V.Denot)). labels_in xs run) c.deref.ensures.value) c.some_no_worse.ensures none
+    sym (c.some_no_worse.ensures ∙ ap (λ ls. is_beaten rules ls c.args.value) (c.part.ensures
+    ∙ ap (λ xs. labels_in xs run) c.deref.ensures.value
+    ∙ ap (labels_in c.args.labels.now.labels.items) (c.index-run.ensures ∙ get_or_default runs c.args.trip run no_run c.requires.trip.there)))
+
+-- none is
+free : (g : given.Over) (c : goal.After-some_no_worse g) → c.some_no_worse.result ≡ false
+    → is_beaten (g.C.Criterion.rules c.args.criterion.now) (run_labels c.args.labels.now c.args.trip) c.args.value ≡ false
+free g c none = asked g c ∙ none
 
 pub returns-clause-labels : goal.returns-clause-labels
 returns-clause-labels g c =
@@ -42,13 +47,13 @@ returns-clause-labels g c =
     let now = c.put.new.labels.items in
     let run = c.index-run.result.now in
     let placed = c.in_ok-labels.field-0 in
-    let are = c.requires.labels in
+    let are = c.requires.trip.sound in
     let label : Label g.row.C-V.Denot = record { value = c.args.value; tag = c.in_ok-tag.tag } in
-    let run_is = c.index-run.ensures ∙ get_or_default runs c.args.trip run no_run c.requires.trip in
+    let run_is = c.index-run.ensures ∙ get_or_default runs c.args.trip run no_run c.requires.trip.there in
     let put = subst (λ (r : LabelRun). ArePut old r c.deref-3.result.now placed now) run_is c.in_ok-labels.ensures.put in
     let new_is = kept_are g (goal.at.returns-clause-labels g c).After-deref-3 in
     record {
-      runs = runs_put runs c.args.trip placed c.requires.trip (length old) (length now) are.runs put.counted put.within put.longer put.apart;
+      runs = runs_put runs c.args.trip placed c.requires.trip.there (length old) (length now) are.runs put.counted put.within put.longer put.apart;
       admitted = λ l h. elim (put.only l h) [
         | inl was ↦ are.admitted l was
         | inr is ↦ with_admitted rules old run c.args.value label are.admitted c.requires.value l
@@ -56,61 +61,72 @@ returns-clause-labels g c =
       ];
     }
 
-pub returns-clause-same : goal.returns-clause-same
-returns-clause-same g c k other =
+pub returns-clause-taken : goal.returns-clause-taken
+returns-clause-taken g c =
+    let rules = g.C.Criterion.rules c.args.criterion.now in
     let runs = c.args.labels.now.runs.items in
     let old = c.args.labels.now.labels.items in
     let now = c.put.new.labels.items in
     let run = c.index-run.result.now in
     let placed = c.in_ok-labels.field-0 in
-    let are = c.requires.labels.runs in
-    let run_is = c.index-run.ensures ∙ get_or_default runs c.args.trip run no_run c.requires.trip in
+    let are = c.requires.trip.sound.runs in
+    let run_is = c.index-run.ensures ∙ get_or_default runs c.args.trip run no_run c.requires.trip.there in
     let put = subst (λ (r : LabelRun). ArePut old r c.deref-3.result.now placed now) run_is c.in_ok-labels.ensures.put in
-    ap (labels_in now) (run_there runs c.args.trip placed c.requires.trip k other)
-    ∙ put.others (run_at runs k) (are.counted k) (are.within k) (are.apart k c.args.trip other)
+    record {
+      judged = sym (ap not (free g (goal.at.returns-clause-taken g c).After-some_no_worse c.if-some_no_worse.false));
+      taken = ap (labels_in now) (run_here runs c.args.trip placed c.requires.trip.there c.args.trip refl) ∙ put.here
+          ∙ kept_are g (goal.at.returns-clause-taken g c).After-deref-3
+          ∙ ap₂ (λ r t. others rules c.args.value (labels_in old r) ++ record { value = c.args.value; tag = t } ∷ []) run_is
+          c.in_ok-tag.ensures.index;
+      elsewhere = λ k other. ap (labels_in now) (run_there runs c.args.trip placed c.requires.trip.there k other)
+          ∙ put.others (run_at runs k) (are.counted k) (are.within k) (are.apart k c.args.trip other);
+    }
+
+pub returns-then-some_no_worse-clause-taken : goal.returns-then-some_no_worse-clause-taken
+returns-then-some_no_worse-clause-taken g c = record {
+  judged = sym (ap not (asked g (goal.at.returns-then-some_no_worse-clause-taken g c).After-some_no_worse ∙ c.if-some_no_worse.true));
+  taken = refl;
+  elsewhere = λ k other. refl;
+}
 
 pub returns-in_err-tag-clause-err : goal.returns-in_err-tag-clause-err
 returns-in_err-tag-clause-err g c =
-    let labels = c.args.labels.now in
-    on_err c.from_residual.result _ (runs_stay (g.C.Criterion.rules c.args.criterion.now) labels labels [] c.requires.labels
-    (λ l h. absurd (not_in_nil l h)) refl (put_none labels.labels.items []))
-
-pub returns-in_err-tag-clause-needed : goal.returns-in_err-tag-clause-needed
-returns-in_err-tag-clause-needed g c =
-    on_err c.from_residual.result _ (free g (goal.at.returns-in_err-tag-clause-needed g c).After-some_no_worse c.if-some_no_worse.false)
+    on_err c.from_residual.result _ (record {
+      free = free g (goal.at.returns-in_err-tag-clause-err g c).After-some_no_worse c.if-some_no_worse.false;
+      stay = λ k. refl;
+    })
 
 pub returns-in_err-keep_others-clause-err : goal.returns-in_err-keep_others-clause-err
 returns-in_err-keep_others-clause-err g c =
-    let labels = c.args.labels.now in
-    on_err c.from_residual-in_err-keep_others.result _ (runs_stay (g.C.Criterion.rules c.args.criterion.now) labels _ [] c.requires.labels
-    (λ l h. absurd (not_in_nil l h)) refl (put_none labels.labels.items []))
-
-pub returns-in_err-keep_others-clause-needed : goal.returns-in_err-keep_others-clause-needed
-returns-in_err-keep_others-clause-needed g c =
-    on_err c.from_residual-in_err-keep_others.result _
-    (free g (goal.at.returns-in_err-keep_others-clause-needed g c).After-some_no_worse c.if-some_no_worse.false)
+    on_err c.from_residual-in_err-keep_others.result _ (record {
+      free = free g (goal.at.returns-in_err-keep_others-clause-err g c).After-some_no_worse c.if-some_no_worse.false;
+      stay = λ k. refl;
+    })
 
 pub returns-in_err-push-clause-err : goal.returns-in_err-push-clause-err
 returns-in_err-push-clause-err g c =
-    let labels = c.args.labels.now in
-    on_err c.from_residual-in_err-push.result _ (runs_stay (g.C.Criterion.rules c.args.criterion.now) labels _ [] c.requires.labels
-    (λ l h. absurd (not_in_nil l h)) refl (put_none labels.labels.items []))
-
-pub returns-in_err-push-clause-needed : goal.returns-in_err-push-clause-needed
-returns-in_err-push-clause-needed g c =
-    on_err c.from_residual-in_err-push.result _ (free g (goal.at.returns-in_err-push-clause-needed g c).After-some_no_worse c.if-some_no_worse.false)
+    on_err c.from_residual-in_err-push.result _ (record {
+      free = free g (goal.at.returns-in_err-push-clause-err g c).After-some_no_worse c.if-some_no_worse.false;
+      stay = λ k. refl;
+    })
 
 pub returns-in_err-labels-clause-err : goal.returns-in_err-labels-clause-err
 returns-in_err-labels-clause-err g c =
+    let labels = c.args.labels.now in
+    let labels_are = c.requires.trip.sound.runs in
+    on_err c.from_residual-in_err-labels.result _ (record {
+      free = free g (goal.at.returns-in_err-labels-clause-err g c).After-some_no_worse c.if-some_no_worse.false;
+      stay = λ k. partly_same labels.labels.items c.deref-3.result.now c.put.new.labels.items (run_at labels.runs.items k)
+          (labels_are.counted k) (labels_are.within k) c.in_err-labels.ensures.err;
+    })
+
+pub returns-in_err-labels-clause-labels : goal.returns-in_err-labels-clause-labels
+returns-in_err-labels-clause-labels g c =
     let rules = g.C.Criterion.rules c.args.criterion.now in
     let labels = c.args.labels.now in
     let run = c.index-run.result.now in
     let label : Label g.row.C-V.Denot = record { value = c.args.value; tag = c.in_ok-tag.tag } in
-    let new_is = kept_are g (goal.at.returns-in_err-labels-clause-err g c).After-deref-3 in
-    on_err c.from_residual-in_err-labels.result _ (runs_stay rules labels _ c.deref-3.result.now c.requires.labels
-    (λ l h. with_admitted rules labels.labels.items run c.args.value label c.requires.labels.admitted c.requires.value l
-    (subst (λ (xs : List (Label g.row.C-V.Denot)). Contains xs l) new_is h)) refl c.in_err-labels.ensures.err)
-
-pub returns-in_err-labels-clause-needed : goal.returns-in_err-labels-clause-needed
-returns-in_err-labels-clause-needed g c =
-    on_err c.from_residual-in_err-labels.result _ (free g (goal.at.returns-in_err-labels-clause-needed g c).After-some_no_worse c.if-some_no_worse.false)
+    let new_is = kept_are g (goal.at.returns-in_err-labels-clause-labels g c).After-deref-3 in
+    runs_sound rules labels _ c.deref-3.result.now c.requires.trip.sound refl c.in_err-labels.ensures.err
+    (λ l h. with_admitted rules labels.labels.items run c.args.value label c.requires.trip.sound.admitted c.requires.value l
+    (subst (λ (xs : List (Label g.row.C-V.Denot)). Contains xs l) new_is h))

@@ -10,13 +10,14 @@ returns-then-entry-gt0 g c =
     let e = get_or entries c.args.index c.index-arena-index.result in
     let is = read_again entries c.args.index c.index-arena-index.result c.index-arena-index.is in
     sym (several_not_outdone rules c.args.value.now _ items e
-    (front_at entries items c.args.index e (omega arith) c.requires.index is) c.if-entry-gt0.true
-    (entry_part rules entries items c.requires.entries c.args.index e c.requires.index is))
+    (front_at entries items c.args.index e (omega arith) c.requires.entry.within is) c.if-entry-gt0.true
+    (entry_part rules entries items c.requires.entry.sound c.args.index e c.requires.entry.within is))
 
 pub no_worse-requires-clause-other : goal.no_worse-requires-clause-other
 no_worse-requires-clause-other g c =
     let entries = c.args.arena.entries.now in
-    entry_admitted (g.C.Criterion.rules c.args.criterion.now) entries c.args.arena.items.now c.requires.entries c.args.index _ (omega arith) c.requires.index
+    entry_admitted (g.C.Criterion.rules c.args.criterion.now) entries c.args.arena.items.now c.requires.entry.sound c.args.index _
+    (omega arith) c.requires.entry.within
     (read_again entries c.args.index c.index-arena-index.result c.index-arena-index.is)
 
 pub returns : goal.returns
@@ -28,4 +29,4 @@ returns g c =
     let is = read_again entries c.args.index c.index-arena-index.result c.index-arena-index.is in
     let few = c.if-entry-gt0.false in
     c.no_worse.ensures ∙ sym (one_outdone rules c.args.value.now _ items e
-    (front_at entries items c.args.index e (omega arith) c.requires.index is) (omega (arith, few)))
+    (front_at entries items c.args.index e (omega arith) c.requires.entry.within is) (omega (arith, few)))

@@ -2,10 +2,11 @@ use Rattle.std.proofs.Common.{◌≡◌, ◌∷◌, ◌++◌, [], length, refl, 
 use Rattle.std.proofs.lemmas.List.{length-set}
 use Rattle.std.proofs.lemmas.Option.{slice_get_read}
 use Rattle.reasoning.proofs.ListLemmas.{slice_get-set_other}
+use Rattle.reasoning.proofs.OptionLemmas.{on_err}
 use Rattle.fronts.specs.declared.labels.Label.{Label}
 use Rattle.fronts.specs.Offered.{others}
-use Rattle.fronts.specs.SlotLabels.{no_tag, slot_label}
-use Rattle.fronts.proofs.Slots.{slots_put, unbeaten, beaten, label_put}
+use Rattle.fronts.specs.SlotLabels.{no_tag, slot_label, slot_or}
+use Rattle.fronts.proofs.Slots.{slots_put, slot_free, unbeaten, beaten, label_put}
 use Rattle.fronts.proofs.slot_labels.offer_slot.Goals as goal
 
 pub beats-requires-clause-slot : goal.beats-requires-clause-slot
@@ -14,14 +15,18 @@ beats-requires-clause-slot g c =
     let slot = c.index.result.now in
     c.requires.slots c.args.trip slot (slice_get_read slots (length slots) c.args.trip slot refl c.requires.trip c.index.ensures)
 
-pub returns-then-beats-clause-stands : goal.returns-then-beats-clause-stands
-returns-then-beats-clause-stands g c =
+pub returns-then-beats-clause-taken : goal.returns-then-beats-clause-taken
+returns-then-beats-clause-taken g c =
     let slots = c.args.slots.now.items in
     let slot = c.index.result.now in
     let new : Label g.row.C-V.Denot = record { value = c.args.value; tag = c.args.tag } in
-    beaten (g.C.Criterion.rules c.args.criterion.now) slots c.args.trip slot new
-    (slice_get_read slots (length slots) c.args.trip slot refl c.requires.trip c.index.ensures) c.requires.trip
-    (sym c.beats.ensures ∙ c.if-beats.true)
+    record {
+      judged = beaten (g.C.Criterion.rules c.args.criterion.now) slots c.args.trip slot new
+          (slice_get_read slots (length slots) c.args.trip slot refl c.requires.trip c.index.ensures) c.requires.trip
+          (sym c.beats.ensures ∙ c.if-beats.true);
+      taken = refl;
+      elsewhere = λ k other. refl;
+    }
 
 pub returns-clause-slots : goal.returns-clause-slots
 returns-clause-slots g c =
@@ -37,20 +42,6 @@ returns-clause-long g c =
     let new : Label g.row.C-V.Denot = record { value = c.args.value; tag = c.in_ok-tag.tag } in
     length-set c.args.slots.now.items c.args.trip new
 
-pub returns-clause-same : goal.returns-clause-same
-returns-clause-same g c k other =
-    let new : Label g.row.C-V.Denot = record { value = c.args.value; tag = c.in_ok-tag.tag } in
-    slice_get-set_other c.args.slots.now.items c.args.trip k new other
-
-pub returns-clause-stands : goal.returns-clause-stands
-returns-clause-stands g c =
-    let slots = c.args.slots.now.items in
-    let slot = c.index.result.now in
-    let new : Label g.row.C-V.Denot = record { value = c.args.value; tag = c.in_ok-tag.tag } in
-    unbeaten (g.C.Criterion.rules c.args.criterion.now) slots c.args.trip slot new
-    (slice_get_read slots (length slots) c.args.trip slot refl c.requires.trip c.index.ensures) c.requires.trip
-    (sym c.beats.ensures ∙ c.if-beats.false)
-
 pub returns-clause-taken : goal.returns-clause-taken
 returns-clause-taken g c =
     let rules = g.C.Criterion.rules c.args.criterion.now in
@@ -60,7 +51,22 @@ returns-clause-taken g c =
     let tag_is : c.in_ok-tag.tag ≡ c.args.tag = c.in_ok-tag.ensures.tag.0 in
     let below = c.in_ok-tag.ensures.tag.1 in
     let named : c.in_ok-tag.tag ≡ no_tag → ⊥ = λ e. omega (arith, below, e) in
-    label_put rules slots c.args.trip slot new
-    (slice_get_read slots (length slots) c.args.trip slot refl c.requires.trip c.index.ensures) c.requires.trip
-    c.requires.total c.requires.slots c.requires.value (sym c.beats.ensures ∙ c.if-beats.false) named
-    ∙ ap (λ tag. others rules c.args.value (slot_label slots c.args.trip) ++ record { value = c.args.value; tag = tag } ∷ []) tag_is
+    let at = slice_get_read slots (length slots) c.args.trip slot refl c.requires.trip c.index.ensures in
+    let free = sym c.beats.ensures ∙ c.if-beats.false in
+    record {
+      judged = unbeaten rules slots c.args.trip slot new at c.requires.trip free;
+      taken = label_put rules slots c.args.trip slot new at c.requires.trip c.requires.total c.requires.slots c.requires.value free
+          named ∙ ap (λ tag. others rules c.args.value (slot_label slots c.args.trip) ++ record { value = c.args.value; tag = tag } ∷ []) tag_is;
+      elsewhere = λ k other. ap (λ o. slot_or o []) (slice_get-set_other slots c.args.trip k new other);
+    }
+
+pub returns-in_err-tag-clause-err : goal.returns-in_err-tag-clause-err
+returns-in_err-tag-clause-err g c =
+    let slots = c.args.slots.now.items in
+    let slot = c.index.result.now in
+    on_err c.from_residual.result _ (record {
+      free = slot_free (g.C.Criterion.rules c.args.criterion.now) slots c.args.trip slot c.args.value
+          (slice_get_read slots (length slots) c.args.trip slot refl c.requires.trip c.index.ensures)
+          (sym c.beats.ensures ∙ c.if-beats.false);
+      stay = λ k. refl;
+    })

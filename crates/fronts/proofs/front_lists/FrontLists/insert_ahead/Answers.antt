@@ -31,10 +31,9 @@ returns-then-front_betters-clause-taken g c =
     let list = points_from (entries_of lists) (items_of lists) c.args.head in
     record {
       within = may.within;
-      takes = takes_points rules (steps_of lists) by.departure by.first by.walk by.secs (ride ∷ []) list list
-          (ahead_none rules (g.met.C.Criterion.laws (lists_criterion lists)) (entries_of lists) (items_of lists) may.sound
-          c.args.head by.departure by.first by.walk by.secs ride may.within c.requires.ahead may.short
-          (may.admitted ride (contains_first ride [])) (steps_of lists)
+      takes = takes_points rules (steps_of lists) by (ride ∷ []) list list
+          (ahead_none rules (g.met.C.Criterion.laws (lists_criterion lists)) (entries_of lists) (items_of lists) c.args.head by
+          ride may c.requires.ahead (steps_of lists)
           (read_low rules (entries_of lists) c.deref.result.now (items_of lists) c.deref-2.result.now c.args.head
           c.walk-value.result (rules.walk by.secs ride.value) c.front_betters.result c.deref.ensures.value
           c.deref-2.ensures.value c.walk-value.ensures c.front_betters.ensures c.if-front_betters.true));
@@ -62,21 +61,21 @@ returns-clause-more g c =
       steps = (_, c.put_one.ensures.steps ∙ c.in_ok-push.ensures.items);
     }
 
-pub put_one-requires-clause-may : goal.put_one-requires-clause-may
-put_one-requires-clause-may g c =
+pub put_one-requires : goal.put_one-requires
+put_one-requires g c =
     let lists = c.args.self.now in
     let rules = g.C.Criterion.rules (lists_criterion lists) in
     let by = c.args.boarding in
     let ride = c.args.ride in
-    let may = c.requires.may in
     let numbered = c.in_ok-tag.ensures.index in
-    ahead_may rules (g.met.C.Criterion.laws (lists_criterion lists)) (entries_of lists) (items_of lists) may.sound
-    c.args.head by.departure by.first by.walk by.secs ride may.within c.requires.ahead may.short
-    (may.admitted ride (contains_first ride [])) (steps_of lists) c.push.new.self.items c.in_ok-tag.tag
-    c.walk-value.result c.walk-value.ensures c.in_ok-push.ensures.items (omega (arith, numbered))
-    (read_fresh rules (entries_of lists) c.deref.result.now (items_of lists) c.deref-2.result.now c.args.head
-    c.walk-value.result c.front_betters.result c.deref.ensures.value c.deref-2.ensures.value c.front_betters.ensures
-    c.if-front_betters.false)
+    record {
+      may = ahead_may rules (g.met.C.Criterion.laws (lists_criterion lists)) (entries_of lists) (items_of lists) c.args.head by
+          ride c.requires.may c.requires.ahead (steps_of lists) c.push.new.self.items c.in_ok-tag.tag
+          c.walk-value.result c.walk-value.ensures c.in_ok-push.ensures.items (omega (arith, numbered))
+          (read_fresh rules (entries_of lists) c.deref.result.now (items_of lists) c.deref-2.result.now c.args.head
+          c.walk-value.result c.front_betters.result c.deref.ensures.value c.deref-2.ensures.value c.front_betters.ensures
+          c.if-front_betters.false);
+    }
 
 pub returns-clause-taken : goal.returns-clause-taken
 returns-clause-taken g c =
@@ -85,19 +84,16 @@ returns-clause-taken g c =
     let rules = g.C.Criterion.rules (lists_criterion lists) in
     let by = c.args.boarding in
     let ride = c.args.ride in
-    let may = c.requires.may in
     let list = points_from (entries_of lists) (items_of lists) c.args.head in
     let tag_is = c.in_ok-tag.ensures.index in
     let numbered : c.in_ok-tag.tag ≡ length (steps_of lists) = omega (arith, tag_is) in
-    taken_if_ok g.C.Criterion.rules by.departure by.first by.walk by.secs (ride ∷ []) lists now c.args.head
-    c.put_one.result c.put_one.ensures.within (IfOk-weaker c.put_one.result _ _
-    (λ new union. subst (λ steps. TakesBoardings rules steps by.departure by.first by.walk by.secs (ride ∷ []) list
+    taken_if_ok g.C.Criterion.rules by (ride ∷ []) lists now c.args.head c.put_one.result
+    (IfOk-weaker c.put_one.result _ _ (λ new put. put.within) c.put_one.ensures.joined)
+    (IfOk-weaker c.put_one.result _ _ (λ new put. subst (λ steps. TakesBoardings rules steps by (ride ∷ []) list
     (points_from (entries_of now) (items_of now) new)) (sym c.put_one.ensures.steps)
-    (ahead_one rules (g.met.C.Criterion.laws (lists_criterion lists)) (entries_of lists) (items_of lists) may.sound
-    c.args.head by.departure by.first by.walk by.secs ride may.within c.requires.ahead may.short
-    (may.admitted ride (contains_first ride [])) (steps_of lists) c.push.new.self.items c.in_ok-tag.tag
+    (ahead_one rules (g.met.C.Criterion.laws (lists_criterion lists)) (entries_of lists) (items_of lists) c.args.head by
+    ride c.requires.may c.requires.ahead (steps_of lists) c.push.new.self.items c.in_ok-tag.tag
     c.walk-value.result c.walk-value.ensures c.in_ok-push.ensures.items numbered
     (read_fresh rules (entries_of lists) c.deref.result.now (items_of lists) c.deref-2.result.now c.args.head
     c.walk-value.result c.front_betters.result c.deref.ensures.value c.deref-2.ensures.value c.front_betters.ensures
-    c.if-front_betters.false) (points_from (entries_of now) (items_of now) new) union))
-    c.put_one.ensures.union)
+    c.if-front_betters.false) (points_from (entries_of now) (items_of now) new) put.union)) c.put_one.ensures.joined)

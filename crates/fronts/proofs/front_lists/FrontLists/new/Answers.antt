@@ -1,18 +1,27 @@
-use Rattle.std.proofs.Common.{ap}
+use Rattle.std.proofs.Common.{◌++◌, ◌∷◌, [], length, map, refl, ◌∙◌, ap}
+use Rattle.fronts.specs.declared.entry.FrontEntry.{FrontEntry}
 use Rattle.fronts.specs.Lists.{point_of}
-use Rattle.std.proofs.Common.{map}
 use Rattle.fronts.proofs.Points.{none_at_end}
 use Rattle.fronts.proofs.Walks.{first_sound}
 use Rattle.fronts.proofs.front_lists.FrontLists.new.Goals as goal
 
-pub returns-clause-sound : goal.returns-clause-sound
-returns-clause-sound g c =
-    first_sound (g.C.Criterion.rules c.args.criterion) c.arrive.result c.new-entries.result.items c.push.new.self.items
-    c.new.result.items c.new-entries.ensures.items c.in_ok-push.ensures.items c.new.ensures.items
-
-pub returns-clause-empty : goal.returns-clause-empty
-returns-clause-empty g c =
+pub returns : goal.returns
+returns g c =
     let rules = g.C.Criterion.rules c.args.criterion in
-    ap (map point_of) (none_at_end rules c.push.new.self.items c.new.result.items
-    (first_sound rules c.arrive.result c.new-entries.result.items c.push.new.self.items c.new.result.items
-    c.new-entries.ensures.items c.in_ok-push.ensures.items c.new.ensures.items))
+    let sound = first_sound rules c.arrive.result c.new-entries.result.items c.push.new.self.items c.new.result.items
+    c.new-entries.ensures.items c.in_ok-push.ensures.items c.new.ensures.items in
+    let end : FrontEntry g.row.C-V.Denot = record {
+      departure = 4294967295;
+      next = 0;
+      rest = 0;
+      count = 0;
+      tag = 0;
+      value = c.arrive.result;
+    } in
+    record {
+      under = refl;
+      sound = sound;
+      empty = ap (map point_of) (none_at_end rules c.push.new.self.items c.new.result.items sound);
+      alone = ap length c.in_ok-push.ensures.items ∙ ap (λ es. length (es ++ end ∷ [])) c.new-entries.ensures.items;
+      no_steps = c.new-2.ensures.items;
+    }

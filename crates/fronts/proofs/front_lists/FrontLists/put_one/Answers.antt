@@ -1,7 +1,8 @@
 use Rattle.std.proofs.Common.{[], refl, subst}
 use Rattle.reasoning.proofs.ListLemmas.{contains_first, extends_none}
-use Rattle.fronts.specs.Entries.{AreEntries}
-use Rattle.fronts.specs.Lists.{lists_criterion, items_of, steps_of}
+use Rattle.fronts.specs.Entries.{AreMore}
+use Rattle.fronts.specs.Lists.{lists_criterion, entries_of, items_of, steps_of}
+use Rattle.fronts.proofs.Growth.{more_lists}
 use Rattle.fronts.proofs.front_lists.FrontLists.put_one.Goals as goal
 
 pub outdoes-requires-clause-value : goal.outdoes-requires-clause-value
@@ -10,20 +11,11 @@ outdoes-requires-clause-value g c = c.requires.may.admitted c.args.point (contai
 pub returns-then-outdoes-clause-more : goal.returns-then-outdoes-clause-more
 returns-then-outdoes-clause-more g c =
     let lists = c.args.self.now in
-    record {
-      sound = subst (AreEntries (g.C.Criterion.rules (lists_criterion lists)) c.put_alone.new.entries.items)
-          c.deref-then-outdoes.ensures.value c.put_alone.ensures.entries;
-      criterion = refl;
-      entries = c.put_alone.ensures.more_entries;
-      items = extends_none (items_of lists);
-      steps = extends_none (steps_of lists);
-    }
+    more_lists g.C.Criterion.rules lists _ (subst (λ items. AreMore (g.C.Criterion.rules (lists_criterion lists)) (entries_of lists)
+    items c.put_alone.new.entries.items items) c.deref-then-outdoes.ensures.value c.put_alone.ensures.more) refl
+    (extends_none (steps_of lists))
 
 pub returns-clause-more : goal.returns-clause-more
-returns-clause-more g c = record {
-  sound = c.put.ensures.entries;
-  criterion = refl;
-  entries = c.put.ensures.more_entries;
-  items = c.put.ensures.more_items;
-  steps = extends_none (steps_of c.args.self.now);
-}
+returns-clause-more g c =
+    let lists = c.args.self.now in
+    more_lists g.C.Criterion.rules lists _ c.put.ensures.more refl (extends_none (steps_of lists))

@@ -13,12 +13,12 @@ loop-k-init g c =
     record {
       more = more_none g.C.Criterion.rules lists c.requires.may.sound;
       within = c.requires.may.within;
-      takes = first_none (g.C.Criterion.rules (lists_criterion lists)) by.departure by.first by.walk by.secs c.args.ridden.now
+      takes = first_none (g.C.Criterion.rules (lists_criterion lists)) by c.args.ridden.now
           (steps_of lists) (list_points lists c.args.head);
     }
 
-pub take_one-requires : goal.take_one-requires
-take_one-requires g c =
+pub insert_one-requires : goal.insert_one-requires
+insert_one-requires g c =
     let ride = c.index-ridden-k.result in
     record {
       may = record {
@@ -33,8 +33,8 @@ take_one-requires g c =
 
 pub returns-in_err-new-clause-more : goal.returns-in_err-new-clause-more
 returns-in_err-new-clause-more g c =
-    more_on g.C.Criterion.rules c.args.self.now c.loop-k.self c.take_one.new.self c.loop-k.invariant.more
-    c.take_one.ensures.more
+    more_on g.C.Criterion.rules c.args.self.now c.loop-k.self c.insert_one.new.self c.loop-k.invariant.more
+    c.insert_one.ensures.more
 
 pub returns-clause-taken : goal.returns-clause-taken
 returns-clause-taken g c =
@@ -42,7 +42,7 @@ returns-clause-taken g c =
     let by = c.args.boarding in
     record {
       within = c.loop-k.invariant.within;
-      takes = first_all (g.C.Criterion.rules (lists_criterion lists)) by.departure by.first by.walk by.secs c.args.ridden.now
+      takes = first_all (g.C.Criterion.rules (lists_criterion lists)) by c.args.ridden.now
           (steps_of c.loop-k.self) c.loop-k.k (list_points lists c.args.head) (list_points c.loop-k.self c.loop-k.new)
           (omega arith) c.loop-k.invariant.takes;
     }
@@ -51,19 +51,19 @@ pub loop-k-preserved : goal.loop-k-preserved
 loop-k-preserved g c =
     let lists = c.args.self.now in
     let mid = c.loop-k.self in
-    let now = c.take_one.new.self in
+    let now = c.insert_one.new.self in
     let by = c.args.boarding in
     let inv = c.loop-k.invariant in
-    let more = c.take_one.ensures.more in
+    let more = c.insert_one.ensures.more in
     let done = c.in_ok-new.ensures.taken in
     let ride = c.index-ridden-k.result in
     record {
       more = more_on g.C.Criterion.rules lists mid now inv.more more;
       within = done.within;
-      takes = first_more (g.C.Criterion.rules (lists_criterion lists)) by.departure by.first by.walk by.secs
+      takes = first_more (g.C.Criterion.rules (lists_criterion lists)) by
           c.args.ridden.now (g.met.C.Criterion.laws (lists_criterion lists)) c.requires.may.short c.requires.may.admitted
           (steps_of mid) (steps_of now) c.loop-k.k ride (list_points lists c.args.head) (list_points mid c.loop-k.new)
           (list_points now c.in_ok-new.new) more.steps (omega arith) c.index-ridden-k.is
-          inv.takes (subst (λ k. TakesRidden (g.C.Criterion.rules k) (steps_of now) by.departure by.first by.walk
-          by.secs (ride ∷ []) (list_points mid c.loop-k.new) (list_points now c.in_ok-new.new)) inv.more.criterion done.takes);
+          inv.takes (subst (λ k. TakesRidden (g.C.Criterion.rules k) (steps_of now) by (ride ∷ []) (list_points mid c.loop-k.new)
+          (list_points now c.in_ok-new.new)) inv.more.criterion done.takes);
     }

@@ -7,6 +7,6 @@ abbrev pub invariant-loop-k : goal.invariant-loop-k
 invariant-loop-k g l = record {
   more : AreMoreLists g.C.Criterion.rules l.fn.self l.self;
   within : l.new < length (entries_of l.self);
-  takes : TakesFirst (g.C.Criterion.rules (lists_criterion l.fn.self)) (steps_of l.self) l.boarding.departure
-      l.boarding.first l.boarding.walk l.boarding.secs l.ridden l.k (list_points l.fn.self l.head) (list_points l.self l.new);
+  takes : TakesFirst (g.C.Criterion.rules (lists_criterion l.fn.self)) (steps_of l.self) l.boarding l.ridden l.k (list_points l.fn.self l.head)
+      (list_points l.self l.new);
 }

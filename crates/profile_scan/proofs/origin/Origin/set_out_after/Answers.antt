@@ -71,21 +71,24 @@ loop-k-preserved g c =
           c.loop-k.self.set_outs.items c.loop-k.invariant.origin.set_outs)) ext));
     }
 
-pub returns-clause-takes : goal.returns-clause-takes
-returns-clause-takes g c walks exits steps before all ext_before ext =
-    let rules = g.C.Criterion.rules c.args.asked.now.criterion in
-    let tags = from_to (spelling_of walks before) (spelling_of walks all) in
-    let labels = c.args.labels.now in
-    let long : length (label_points labels) ≡ length labels = length-map labels _ in
-    let over = c.loop-k-test.false in
-    takes_all rules (label_points c.args.labels.now) c.args.departure.time
-    (λ label. started rules c.args.departure.start (rules.ride label.value))
-    (λ label. (set_out_way tags c.args.departure.time label.value (record {
-      start = c.args.departure.start;
-      first =
-          c.args.place;
-      label = label.tag;
-    })).fits_tag tt) _ c.loop-k.k (points_of c.args.self.now.found)
-    (points_of c.loop-k.self.found) (omega arith)
-    (λ label tag h. h)
-    (c.loop-k.invariant.takes walks exits steps before all ext_before ext)
+pub returns : goal.returns
+returns g c = record {
+  origin = c.loop-k.invariant.origin;
+  takes = λ walks exits steps before all ext_before ext.
+      let rules = g.C.Criterion.rules c.args.asked.now.criterion in
+      let tags = from_to (spelling_of walks before) (spelling_of walks all) in
+      let labels = c.args.labels.now in
+      let long : length (label_points labels) ≡ length labels = length-map labels _ in
+      let over = c.loop-k-test.false in
+      takes_all rules (label_points c.args.labels.now) c.args.departure.time
+      (λ label. started rules c.args.departure.start (rules.ride label.value))
+      (λ label. (set_out_way tags c.args.departure.time label.value (record {
+        start = c.args.departure.start;
+        first =
+            c.args.place;
+        label = label.tag;
+      })).fits_tag tt) _ c.loop-k.k (points_of c.args.self.now.found)
+      (points_of c.loop-k.self.found) (omega arith)
+      (λ label tag h. h)
+      (c.loop-k.invariant.takes walks exits steps before all ext_before ext);
+}

@@ -22,24 +22,25 @@ pub returns-clause-origins : goal.returns-clause-origins
 returns-clause-origins g c =
     let at = at_stop g (goal.at.returns-clause-origins g c).After-index_mut in
     on_ok_more c.set_out_after.result _ _
-    (λ changes. origins_set c.args.stop c.args.self.now _ c.index_mut.result.now c.set_out_after.new.self at refl c.args.asked.now.criterion
-    c.requires.origins changes)
-    c.set_out_after.ensures.origin
+    (λ done. origins_set c.args.stop c.args.self.now _ c.index_mut.result.now c.set_out_after.new.self at refl c.args.asked.now.criterion
+    c.requires.origins done.origin)
+    c.set_out_after.ensures
 
 pub returns-clause-takes : goal.returns-clause-takes
 returns-clause-takes g c =
     let rules = g.C.Criterion.rules c.args.asked.now.criterion in
     let at = at_stop g (goal.at.returns-clause-takes g c).After-index_mut in
     on_ok_more c.set_out_after.result _ _
-    (λ takes walks. source_takes c.args.stop c.args.self.now.each.items
+    (λ done walks. source_takes c.args.stop c.args.self.now.each.items
     (set c.args.self.now.each.items c.args.stop c.set_out_after.new.self) c.index_mut.result.now c.set_out_after.new.self at refl rules walks
-    (λ tags. settings_out_after rules tags c.args.hop.now.place c.args.departure.time c.args.departure.start (label_points c.args.labels.now)) (takes walks))
-    c.set_out_after.ensures.takes
+    (λ tags. settings_out_after rules tags c.args.hop.now.place c.args.departure.time c.args.departure.start (label_points c.args.labels.now))
+    (done.takes walks))
+    c.set_out_after.ensures
 
 pub returns-clause-others : goal.returns-clause-others
 returns-clause-others g c =
     let at = at_stop g (goal.at.returns-clause-others g c).After-index_mut in
     on_ok_more c.set_out_after.result _ _
-    (λ changes other differs. set_others c.args.stop c.args.self.now.each.items
+    (λ done other differs. set_others c.args.stop c.args.self.now.each.items
     (set c.args.self.now.each.items c.args.stop c.set_out_after.new.self) c.index_mut.result.now c.set_out_after.new.self at refl other differs)
-    c.set_out_after.ensures.origin
+    c.set_out_after.ensures

@@ -47,7 +47,7 @@ is_idle-requires-clause-trip g c =
       there = subst (λ (n : ℕ). c.args.connection.now.trip < n) (sym state.long)
           (trip_in (g.S.ConnSource.timetable c.args.source.now) (g.met.S.ConnSource.legal c.args.source.now)
           c.args.place at.in_range c.args.connection.now at.is);
-      labels = state.labels;
+      sound = state.labels;
     }
 
 pub is_idle-requires-clause-stop : goal.is_idle-requires-clause-stop

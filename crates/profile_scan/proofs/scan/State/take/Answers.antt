@@ -14,7 +14,8 @@ use Rattle.profile_scan.specs.ScanRecords.{spelling_of}
 use Rattle.profile_scan.specs.Hops.{IsHop}
 use Rattle.profile_scan.specs.ScanState.{AreStops, IsState, scan_value_of, points_at, scan_records_of}
 use Rattle.profile_scan.specs.LawStatements.{CanScan}
-use Rattle.profile_scan.specs.Parts.{HasTrip, SourceTakes, StopTakes}
+use Rattle.fronts.specs.Labels.{HasTrip}
+use Rattle.profile_scan.specs.Parts.{SourceTakes, StopTakes}
 use Rattle.profile_scan.specs.declared.scan.State.{State}
 use Rattle.profile_scan.specs.declared.trips.Trips.{Trips}
 use Rattle.profile_scan.proofs.Admitted.{AreAdmitted}
@@ -31,29 +32,30 @@ within g c =
     hop_within (g.C.Criterion.rules c.args.asked.now.criterion) (g.S.ConnSource.timetable c.args.source.now)
     (g.met.S.ConnSource.limits c.args.source.now) (question c.args.asked.now.query) c.args.hop.now c.requires.hop
 
-has_trip : (g : given.Over) (c : goal.Start g) → HasTrip (g.C.Criterion.rules c.args.asked.now.criterion) c.args.hop.now.connection.trip c.args.self.now.trips
+has_trip : (g : given.Over) (c : goal.Start g) → HasTrip (g.C.Criterion.rules c.args.asked.now.criterion) c.args.self.now.trips.labels
+    c.args.hop.now.connection.trip
 has_trip g c =
     let at = c.requires.hop.stands in
     record {
       there = subst (λ (n : ℕ). c.args.hop.now.connection.trip < n) (sym c.requires.state.long)
           (trip_in (g.S.ConnSource.timetable c.args.source.now) (g.met.S.ConnSource.legal c.args.source.now)
           c.args.hop.now.place at.in_range c.args.hop.now.connection at.is);
-      labels = c.requires.state.labels;
+      sound = c.requires.state.labels;
     }
 
-pub end-requires-clause-hop : goal.end-requires-clause-hop
-end-requires-clause-hop g c = within g (goal.at.end-requires-clause-hop g c).Start
+pub end-requires : goal.end-requires
+end-requires g c =
+    let start = (goal.at.end-requires g c).Start in
+    record { hop = within g start; trip = has_trip g start }
 
-pub end-requires-clause-trip : goal.end-requires-clause-trip
-end-requires-clause-trip g c = has_trip g (goal.at.end-requires-clause-trip g c).Start
-
-pub change-requires-clause-hop : goal.change-requires-clause-hop
-change-requires-clause-hop g c = within g (goal.at.change-requires-clause-hop g c).Start
-
-pub change-requires-clause-trip : goal.change-requires-clause-trip
-change-requires-clause-trip g c =
-    still_there (g.C.Criterion.rules c.args.asked.now.criterion) c.args.hop.now.connection.trip c.args.self.now.trips
-    c.end.new.self (has_trip g (goal.at.change-requires-clause-trip g c).Start) c.in_ok-end.ensures.trip
+pub change-requires-clause-can : goal.change-requires-clause-can
+change-requires-clause-can g c =
+    let start = (goal.at.change-requires-clause-can g c).Start in
+    record {
+      hop = within g start;
+      trip = still_there (g.C.Criterion.rules c.args.asked.now.criterion) c.args.hop.now.connection.trip c.args.self.now.trips
+          c.end.new.self (has_trip g start) c.in_ok-end.ensures.trip;
+    }
 
 pub change-requires-clause-stop : goal.change-requires-clause-stop
 change-requires-clause-stop g c =
@@ -71,13 +73,12 @@ labels_of-labels-requires g c =
     let rules = g.C.Criterion.rules c.args.asked.now.criterion in
     let trip = c.args.hop.now.connection.trip in
     let has = has_trip g (goal.at.labels_of-labels-requires g c).Start in
-    let there : HasTrip rules trip c.if-hop.self.trips = elim c.if-hop.branch [
-      | then-hop+in_ok-end+in_ok-change w ↦ subst (λ (s : State g.row.C.Denot g.row.O.Denot g.row.C-V.Denot). HasTrip rules trip s.trips) (sym w.self-is)
+    elim c.if-hop.branch [
+      | then-hop+in_ok-end+in_ok-change w ↦ subst (λ (s : State g.row.C.Denot g.row.O.Denot g.row.C-V.Denot). HasTrip rules s.trips.labels trip) (sym w.self-is)
           (still_there rules trip c.args.self.now.trips w.change.new.self has
           (changes_on rules trip c.args.self.now.trips w.end.new.self w.change.new.self w.in_ok-end.ensures.trip w.in_ok-change.ensures.trip))
-      | else-hop w ↦ subst (λ (s : State g.row.C.Denot g.row.O.Denot g.row.C-V.Denot). HasTrip rules trip s.trips) (sym w.self-is) has
-    ] in
-    record { trip = there.there; labels = there.labels }
+      | else-hop w ↦ subst (λ (s : State g.row.C.Denot g.row.O.Denot g.row.C-V.Denot). HasTrip rules s.trips.labels trip) (sym w.self-is) has
+    ]
 
 -- the trip is left, and nothing else has changed
 left : (g : given.Over) (c : goal.After-labels_of-labels g)
@@ -95,7 +96,7 @@ left g c =
     elim c.if-hop.branch [
       | then-hop+in_ok-end+in_ok-change w ↦ subst Left (sym w.self-is) (
         left_by rules laws q hop old.stops (within g (goal.at.After-labels_of-labels g c).Start) old.trips w.end.new.self w.change.new.self
-            w.if-hop.true w.in_ok-end.ensures.trip w.in_ok-end.ensures.takes w.in_ok-change.ensures.trip w.in_ok-change.ensures.takes,
+            w.if-hop.true w.in_ok-end.ensures w.in_ok-change.ensures,
         refl,
       )
       | else-hop w ↦ subst Left (sym w.self-is) (

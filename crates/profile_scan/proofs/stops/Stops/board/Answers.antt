@@ -1,6 +1,9 @@
-use Rattle.std.proofs.Common.{◌<◌, ℕ, [], OnOk, Contains, sym, subst, arith}
+use Rattle.std.proofs.Common.{◌≡◌, ◌<◌, ℕ, [], false, OnOk, Contains, sym, ◌∙◌, subst, arith}
+use Rattle.std.proofs.lemmas.Bool.{true≢false}
 use Rattle.std.proofs.lemmas.List.Elements.{Contains-push}
 use Rattle.reasoning.proofs.ListLemmas.{extends_none}
+use Rattle.timetable.specs.declared.network.Connection.{Connection}
+use Rattle.timetable.specs.Journeys.{connection_at}
 use Rattle.fronts.specs.Lists.{steps_of}
 use Rattle.profile_scan.specs.Matching.{from_to}
 use Rattle.profile_scan.specs.ScanRecords.{spelling_of}
@@ -8,7 +11,7 @@ use Rattle.profile_scan.specs.Steps.{boardings}
 use Rattle.profile_scan.specs.Adding.{label_points}
 use Rattle.profile_scan.specs.Bound.{survivors}
 use Rattle.profile_scan.specs.ScanState.{points_at}
-use Rattle.profile_scan.specs.Parts.{StopTakes}
+use Rattle.profile_scan.specs.Parts.{Boards}
 use Rattle.profile_scan.proofs.Offers.{takes_none}
 use Rattle.profile_scan.proofs.BoundLemmas.{from_survivors}
 use Rattle.profile_scan.proofs.LabelLemmas.{as_point}
@@ -18,6 +21,10 @@ use Rattle.profile_scan.proofs.StepFacts.{begins_in}
 use Rattle.profile_scan.proofs.stops.Stops.board.Given as given
 use Rattle.profile_scan.proofs.stops.Stops.board.Goals.{Start}
 use Rattle.profile_scan.proofs.stops.Stops.board.Goals as goal
+
+-- a connection that isn't boarded
+not_boarded : (c d : Connection) → c ≡ d → c.board ≡ false → d.board ≡ false
+not_boarded c d is no = subst (λ (x : Connection). x.board ≡ false) is no
 
 -- the connection begins at a stop
 begins : (g : given.Over) (c : goal.Start g) → c.args.hop.now.connection.from < (g.S.ConnSource.timetable c.args.source.now).stops
@@ -56,49 +63,62 @@ board_walks-requires-clause-ready g c =
           c.in_ok-ride_labels.ensures;
     }
 
-pub returns-clause-takes : goal.returns-clause-takes
-returns-clause-takes g c stop exits set_outs before all ext_before ext =
-    let rules = g.C.Criterion.rules c.args.asked.now.criterion in
-    let t = g.S.ConnSource.timetable c.args.source.now in
-    let all_labels = label_points c.args.labels.now in
-    let values = c.args.hop.now.bound.now in
-    boardings_taken rules t (from_to (spelling_of t.footpaths before) (spelling_of t.footpaths all)) c.args.hop.now.place
-    c.args.hop.now.connection c.requires.hop.stands.is c.if-not-hop.false c.walks_into-begin.result.0
-    c.walks_into-begin.result.1 c.walks_into-begin.ensures.exact (survivors rules values all_labels)
-    stop (points_at c.args.self.now stop) (points_at c.board_walks.new.self stop)
-    (c.in_ok-board_walks.ensures.takes (survivors rules values all_labels) c.in_ok-ride_labels.ensures
-    (λ p h. c.requires.labels p (from_survivors rules values all_labels p h).0) stop exits set_outs before all
-    ext_before ext)
-
 -- all labels are bettered
-pub returns-then-len-eq0-clause-takes : goal.returns-then-len-eq0-clause-takes
-returns-then-len-eq0-clause-takes g c stop exits set_outs before all ext_before ext =
-    let rules = g.C.Criterion.rules c.args.asked.now.criterion in
-    let t = g.S.ConnSource.timetable c.args.source.now in
-    let labels = survivors rules c.args.hop.now.bound.now (label_points c.args.labels.now) in
-    takes_none rules (boardings rules t (from_to (spelling_of t.footpaths before) (spelling_of t.footpaths all)) c.args.hop.now.place
-    stop labels) (points_at c.args.self.now stop)
-    (λ way may. no_ridden rules labels c.ride_labels.new.ridden.items c.in_ok-ride_labels.ensures (omega arith) way.label may.is_label)
-
-pub returns-clause-stops : goal.returns-clause-stops
-returns-clause-stops g c = record { stops = c.in_ok-board_walks.ensures.stops.stops; steps = c.in_ok-board_walks.ensures.stops.steps }
-
-pub returns-then-len-eq0-clause-stops : goal.returns-then-len-eq0-clause-stops
-returns-then-len-eq0-clause-stops g c = record {
+pub returns : goal.returns
+returns g c = record {
   stops =
-      record {
-        under = c.requires.stops.under;
-        sound = c.requires.stops.sound;
-        long = c.requires.stops.long;
-        within = c.requires.stops.within;
-        many = c.requires.stops.many;
-        offered = c.requires.stops.offered;
-      };
-  steps = extends_none (steps_of c.args.self.now.lists);
+      record { stops = c.in_ok-board_walks.ensures.stops.stops; steps = c.in_ok-board_walks.ensures.stops.steps };
+  takes = λ stop exits set_outs before all ext_before ext.
+      let rules = g.C.Criterion.rules c.args.asked.now.criterion in
+      let t = g.S.ConnSource.timetable c.args.source.now in
+      let all_labels = label_points c.args.labels.now in
+      let values = c.args.hop.now.bound.now in
+      boardings_taken rules t (from_to (spelling_of t.footpaths before) (spelling_of t.footpaths all)) c.args.hop.now.place
+      c.args.hop.now.connection c.requires.hop.stands.is c.if-not-hop.false c.walks_into-begin.result.0
+      c.walks_into-begin.result.1 c.walks_into-begin.ensures.exact (survivors rules values all_labels)
+      stop (points_at c.args.self.now stop) (points_at c.board_walks.new.self stop)
+      (c.in_ok-board_walks.ensures.takes (survivors rules values all_labels) c.in_ok-ride_labels.ensures
+      (λ p h. c.requires.labels p (from_survivors rules values all_labels p h).0) stop exits set_outs before all
+      ext_before ext);
 }
 
-pub returns-then-not-hop-clause-stops : goal.returns-then-not-hop-clause-stops
-returns-then-not-hop-clause-stops g c = record { stops = c.requires.stops; steps = extends_none (steps_of c.args.self.now.lists) }
+pub returns-then-len-eq0 : goal.returns-then-len-eq0
+returns-then-len-eq0 g c = record {
+  stops =
+      record {
+        stops =
+            record {
+              under = c.requires.stops.under;
+              sound = c.requires.stops.sound;
+              long = c.requires.stops.long;
+              within = c.requires.stops.within;
+              many = c.requires.stops.many;
+              offered = c.requires.stops.offered;
+            };
+        steps = extends_none (steps_of c.args.self.now.lists);
+      };
+  takes = λ stop exits set_outs before all ext_before ext.
+      let rules = g.C.Criterion.rules c.args.asked.now.criterion in
+      let t = g.S.ConnSource.timetable c.args.source.now in
+      let labels = survivors rules c.args.hop.now.bound.now (label_points c.args.labels.now) in
+      takes_none rules (boardings rules t (from_to (spelling_of t.footpaths before) (spelling_of t.footpaths all)) c.args.hop.now.place
+      stop labels) (points_at c.args.self.now stop)
+      (λ way may. no_ridden rules labels c.ride_labels.new.ridden.items c.in_ok-ride_labels.ensures (omega arith) way.label may.is_label);
+}
+
+pub returns-then-not-hop : goal.returns-then-not-hop
+returns-then-not-hop g c = record {
+  stops =
+      record { stops = c.requires.stops; steps = extends_none (steps_of c.args.self.now.lists) };
+  takes = λ stop exits set_outs before all ext_before ext.
+      takes_none (g.C.Criterion.rules c.args.asked.now.criterion) (boardings (g.C.Criterion.rules c.args.asked.now.criterion)
+      (g.S.ConnSource.timetable c.args.source.now)
+      (from_to (spelling_of (g.S.ConnSource.timetable c.args.source.now).footpaths before)
+      (spelling_of (g.S.ConnSource.timetable c.args.source.now).footpaths all)) c.args.hop.now.place stop
+      (survivors (g.C.Criterion.rules c.args.asked.now.criterion) c.args.hop.now.bound.now (label_points c.args.labels.now)))
+      (points_at c.args.self.now stop) (λ way may. true≢false (sym may.boards ∙ not_boarded c.args.hop.now.connection
+      (connection_at (g.S.ConnSource.timetable c.args.source.now) c.args.hop.now.place) c.requires.hop.stands.is c.if-not-hop.true));
+}
 
 -- the trip has one label alone
 pub board_only_label-requires-clause-label : goal.board_only_label-requires-clause-label
@@ -108,12 +128,9 @@ board_only_label-requires-clause-label g c =
     c.requires.labels (as_point label) (subst (λ ls. Contains (label_points ls) (as_point label)) (sym only)
     (Contains-push [] (as_point label)))
 
-pub returns-then-labels-eq1-clause-takes : goal.returns-then-labels-eq1-clause-takes
-returns-then-labels-eq1-clause-takes g c =
-    let rules = g.C.Criterion.rules c.args.asked.now.criterion in
-    let t = g.S.ConnSource.timetable c.args.source.now in
-    let values = c.args.hop.now.bound.now in
+pub returns-then-labels-eq1 : goal.returns-then-labels-eq1
+returns-then-labels-eq1 g c =
     let only = one_alone c.args.labels.now c.index-labels-0.result c.if-labels-eq1.true c.index-labels-0.is in
-    subst (λ ls. OnOk c.board_only_label.result ((stop : ℕ) → StopTakes rules t.footpaths stop
-    (λ tags. boardings rules t tags c.args.hop.now.place stop (survivors rules values (label_points ls)))
-    c.args.self.now c.board_only_label.new.self)) (sym only) c.board_only_label.ensures.takes
+    subst (λ ls. OnOk c.board_only_label.result (Boards g.C.Criterion.rules c.args.asked.now.criterion
+    (g.S.ConnSource.timetable c.args.source.now) c.args.hop.now ls c.args.self.now c.board_only_label.new.self)) (sym only)
+    c.board_only_label.ensures

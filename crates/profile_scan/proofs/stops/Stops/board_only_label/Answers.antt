@@ -46,39 +46,40 @@ board_walks_one-requires-clause-ride g c =
     ((g.met.C.Criterion.laws c.args.asked.now.criterion).ride_admits c.args.label.now.value c.requires.label)
 
 -- the label is bettered
-pub returns-then-any_no_worse-clause-stops : goal.returns-then-any_no_worse-clause-stops
-returns-then-any_no_worse-clause-stops g c = record { stops = c.requires.stops; steps = extends_none (steps_of c.args.self.now.lists) }
+pub returns-then-any_no_worse : goal.returns-then-any_no_worse
+returns-then-any_no_worse g c = record {
+  stops =
+      record { stops = c.requires.stops; steps = extends_none (steps_of c.args.self.now.lists) };
+  takes = λ stop exits set_outs before all ext_before ext.
+      let rules = g.C.Criterion.rules c.args.asked.now.criterion in
+      let t = g.S.ConnSource.timetable c.args.source.now in
+      let values = c.args.hop.now.bound.now in
+      let labels = survivors rules values (label_points (c.args.label.now ∷ [])) in
+      let none = alone_bettered rules values (as_point c.args.label.now) c.ride-value.result c.ride-value.ensures
+      (sym c.any_no_worse.ensures ∙ c.if-any_no_worse.true) in
+      takes_none rules (boardings rules t (from_to (spelling_of t.footpaths before) (spelling_of t.footpaths all)) c.args.hop.now.place
+      stop labels) (points_at c.args.self.now stop) (λ way may. no_ridden rules labels [] none refl way.label may.is_label);
+}
 
-pub returns-then-any_no_worse-clause-takes : goal.returns-then-any_no_worse-clause-takes
-returns-then-any_no_worse-clause-takes g c stop exits set_outs before all ext_before ext =
-    let rules = g.C.Criterion.rules c.args.asked.now.criterion in
-    let t = g.S.ConnSource.timetable c.args.source.now in
-    let values = c.args.hop.now.bound.now in
-    let labels = survivors rules values (label_points (c.args.label.now ∷ [])) in
-    let none = alone_bettered rules values (as_point c.args.label.now) c.ride-value.result c.ride-value.ensures
-    (sym c.any_no_worse.ensures ∙ c.if-any_no_worse.true) in
-    takes_none rules (boardings rules t (from_to (spelling_of t.footpaths before) (spelling_of t.footpaths all)) c.args.hop.now.place
-    stop labels) (points_at c.args.self.now stop) (λ way may. no_ridden rules labels [] none refl way.label may.is_label)
-
-pub returns-clause-stops : goal.returns-clause-stops
-returns-clause-stops g c =
-    let changes = c.in_ok-board_walks_one.ensures.stops in
-    record { stops = changes.stops; steps = changes.steps }
-
-pub returns-clause-takes : goal.returns-clause-takes
-returns-clause-takes g c stop exits set_outs before all ext_before ext =
-    let rules = g.C.Criterion.rules c.args.asked.now.criterion in
-    let t = g.S.ConnSource.timetable c.args.source.now in
-    let label = as_point c.args.label.now in
-    let values = c.args.hop.now.bound.now in
-    let labels = survivors rules values (label_points (c.args.label.now ∷ [])) in
-    let ride : RiddenLabel g.row.C-V.Denot = record { value = c.ride-value.result; label = c.args.label.now.tag } in
-    let are = alone_ridden rules values label ride (sym c.any_no_worse.ensures ∙ c.if-any_no_worse.false)
-    c.ride-value.ensures refl in
-    let boards = c.in_ok-board_walks_one.ensures.takes in
-    boardings_taken rules t (from_to (spelling_of t.footpaths before) (spelling_of t.footpaths all)) c.args.hop.now.place
-    c.args.hop.now.connection c.requires.hop.stands.is c.requires.boards c.walks_into-begin.result.0
-    c.walks_into-begin.result.1 c.walks_into-begin.ensures.exact labels stop (points_at c.args.self.now stop)
-    (points_at c.board_walks_one.new.self stop)
-    (boards labels are (λ p h. alone_admitted rules values label c.requires.label p h)
-    stop exits set_outs before all ext_before ext)
+pub returns : goal.returns
+returns g c = record {
+  stops =
+      let changes = c.in_ok-board_walks_one.ensures.stops in
+      record { stops = changes.stops; steps = changes.steps };
+  takes = λ stop exits set_outs before all ext_before ext.
+      let rules = g.C.Criterion.rules c.args.asked.now.criterion in
+      let t = g.S.ConnSource.timetable c.args.source.now in
+      let label = as_point c.args.label.now in
+      let values = c.args.hop.now.bound.now in
+      let labels = survivors rules values (label_points (c.args.label.now ∷ [])) in
+      let ride : RiddenLabel g.row.C-V.Denot = record { value = c.ride-value.result; label = c.args.label.now.tag } in
+      let are = alone_ridden rules values label ride (sym c.any_no_worse.ensures ∙ c.if-any_no_worse.false)
+      c.ride-value.ensures refl in
+      let boards = c.in_ok-board_walks_one.ensures.takes in
+      boardings_taken rules t (from_to (spelling_of t.footpaths before) (spelling_of t.footpaths all)) c.args.hop.now.place
+      c.args.hop.now.connection c.requires.hop.stands.is c.requires.boards c.walks_into-begin.result.0
+      c.walks_into-begin.result.1 c.walks_into-begin.ensures.exact labels stop (points_at c.args.self.now stop)
+      (points_at c.board_walks_one.new.self stop)
+      (boards labels are (λ p h. alone_admitted rules values label c.requires.label p h)
+      stop exits set_outs before all ext_before ext);
+}

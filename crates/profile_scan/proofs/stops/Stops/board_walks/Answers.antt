@@ -72,15 +72,18 @@ loop-walk_index-preserved g c =
           (grows_on before s0 s1 ext_before (steps_grow exits old_steps mid_steps set_outs inv.stops.steps)) ext);
     }
 
-pub returns-clause-takes : goal.returns-clause-takes
-returns-clause-takes g c labels are admitted stop exits set_outs before all ext_before ext =
-    let rules = g.C.Criterion.rules c.args.asked.now.criterion in
-    let t = g.S.ConnSource.timetable c.args.source.now in
-    let over = c.loop-walk_index-test.false in
-    let within = c.loop-walk_index.auto.walk_index-end c.requires.walks.order in
-    let at_end : c.loop-walk_index.walk_index ≡ c.args.walks.end = omega arith in
-    subst (λ (n : ℕ). TakesIn rules (each_of (StandsBetween t.footpaths c.args.walks.start n)
-    (boardings_by rules (from_to (spelling_of t.footpaths before) (spelling_of t.footpaths all)) c.args.hop.now.place
-    c.args.hop.now.connection stop labels)) (points_at c.args.self.now stop) (points_at c.loop-walk_index.self stop))
-    at_end
-    (c.loop-walk_index.invariant.takes labels are admitted stop exits set_outs before all ext_before ext)
+pub returns : goal.returns
+returns g c = record {
+  stops = c.loop-walk_index.invariant.stops;
+  takes = λ labels are admitted stop exits set_outs before all ext_before ext.
+      let rules = g.C.Criterion.rules c.args.asked.now.criterion in
+      let t = g.S.ConnSource.timetable c.args.source.now in
+      let over = c.loop-walk_index-test.false in
+      let within = c.loop-walk_index.auto.walk_index-end c.requires.walks.order in
+      let at_end : c.loop-walk_index.walk_index ≡ c.args.walks.end = omega arith in
+      subst (λ (n : ℕ). TakesIn rules (each_of (StandsBetween t.footpaths c.args.walks.start n)
+      (boardings_by rules (from_to (spelling_of t.footpaths before) (spelling_of t.footpaths all)) c.args.hop.now.place
+      c.args.hop.now.connection stop labels)) (points_at c.args.self.now stop) (points_at c.loop-walk_index.self stop))
+      at_end
+      (c.loop-walk_index.invariant.takes labels are admitted stop exits set_outs before all ext_before ext);
+}

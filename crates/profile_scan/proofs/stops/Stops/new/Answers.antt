@@ -6,7 +6,7 @@ use Rattle.profile_scan.proofs.stops.Stops.new.Goals as goal
 
 pub returns-clause-stops : goal.returns-clause-stops
 returns-clause-stops g c = record {
-  under = c.in_ok-lists.ensures.criterion;
+  under = c.in_ok-lists.ensures.under;
   sound = c.in_ok-lists.ensures.sound;
   long = c.in_ok-heads.heads.ok.0 ∙ ap length c.in_ok-heads.ensures ∙ length-replicate {A = ℕ} c.args.count 0;
   within = λ stop. let none = ap (λ hs. slice_index hs stop) c.in_ok-heads.ensures

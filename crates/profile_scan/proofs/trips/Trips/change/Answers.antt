@@ -8,7 +8,7 @@ use Rattle.profile_scan.specs.Adding.{changes_from, trip_points}
 use Rattle.profile_scan.specs.Bound.{survivors}
 use Rattle.profile_scan.specs.Steps.{TakesIn}
 use Rattle.profile_scan.proofs.LabelLemmas.{trip_admitted}
-use Rattle.profile_scan.proofs.PartLemmas.{changes_on, still_there}
+use Rattle.profile_scan.proofs.PartLemmas.{changes_none, changes_on, still_there}
 use Rattle.profile_scan.proofs.Admitted.{AreAdmitted}
 use Rattle.profile_scan.proofs.Offers.{takes_first, takes_next}
 use Rattle.profile_scan.proofs.ScanRecordLemmas.{exits_grow, grows_on}
@@ -47,10 +47,12 @@ change_by-requires-in-loop-k-clause-point g c =
     c.args.hop.now.connection.arr front) c.requires.stop.stops.under c.front_from-entry.ensures.made_of in
     (are c.front_point-point.result (Contains-At front c.loop-k.k c.front_point-point.result c.front_point-point.ensures)).2
 
-pub change_by-requires-in-loop-k-clause-trip : goal.change_by-requires-in-loop-k-clause-trip
-change_by-requires-in-loop-k-clause-trip g c =
-    still_there (g.C.Criterion.rules c.args.asked.now.criterion) c.args.hop.now.connection.trip c.args.self.now
-    c.loop-k.self c.requires.trip c.loop-k.invariant.trip
+pub change_by-requires-in-loop-k-clause-can : goal.change_by-requires-in-loop-k-clause-can
+change_by-requires-in-loop-k-clause-can g c = record {
+  hop = c.requires.can.hop;
+  trip = still_there (g.C.Criterion.rules c.args.asked.now.criterion) c.args.hop.now.connection.trip c.args.self.now
+      c.loop-k.self c.requires.can.trip c.loop-k.invariant.trip;
+}
 
 pub loop-k-preserved : goal.loop-k-preserved
 loop-k-preserved g c =
@@ -79,57 +81,75 @@ loop-k-preserved g c =
           steps set_outs c.loop-k.invariant.trip.exits)) ext);
     }
 
-pub returns-then-count-eq0-clause-takes : goal.returns-then-count-eq0-clause-takes
-returns-then-count-eq0-clause-takes g c walks steps set_outs before all ext_before ext =
-    let lists = c.args.stops.now.lists in
-    let laws = g.met.C.Criterion.laws c.args.asked.now.criterion in
-    let front = front_at lists c.front_from-entry.result in
-    let points = list_points lists c.head-head.result in
-    let admitted = subst (λ k. AreAdmitted (g.C.Criterion.rules k) points) c.requires.stop.stops.under
-    (list_admitted (g.C.Criterion.rules (lists_criterion lists)) lists.entries.items lists.items.items
-    c.requires.stop.stops.sound c.head-head.result) in
-    subst (λ (n : ℕ). TakesIn (g.C.Criterion.rules c.args.asked.now.criterion)
-    (changes_from (from_to (spelling_of walks before) (spelling_of walks all)) c.args.hop.now.place c.args.hop.now.connection.arr
-    (survivors (g.C.Criterion.rules c.args.asked.now.criterion) c.args.hop.now.bound.now (list_points lists n)))
-    (trip_points c.args.self.now.labels c.args.hop.now.connection.trip)
-    (trip_points c.args.self.now.labels c.args.hop.now.connection.trip)) c.head-head.ensures
-    (changes_under g.C.Criterion.rules (lists_criterion lists) c.args.asked.now.criterion c.requires.stop.stops.under
-    points laws admitted (from_to (spelling_of walks before) (spelling_of walks all)) c.args.hop.now.place
-    c.args.hop.now.connection.arr c.args.hop.now.bound.now c.requires.hop.bound front 0
-    (trip_points c.args.self.now.labels c.args.hop.now.connection.trip)
-    (trip_points c.args.self.now.labels c.args.hop.now.connection.trip)
-    (trip_admitted (g.C.Criterion.rules c.args.asked.now.criterion) c.args.self.now.labels
-    c.requires.trip.labels c.args.hop.now.connection.trip)
-    c.front_from-entry.ensures.made_of c.front_from-entry.ensures.betters (omega arith)
-    (takes_first (g.C.Criterion.rules c.args.asked.now.criterion) front
-    (change_way (g.C.Criterion.rules c.args.asked.now.criterion)
-    (from_to (spelling_of walks before) (spelling_of walks all)) c.args.hop.now.place c.args.hop.now.bound.now)
-    (trip_points c.args.self.now.labels c.args.hop.now.connection.trip)))
+pub returns-then-count-eq0 : goal.returns-then-count-eq0
+returns-then-count-eq0 g c = record {
+  trip = changes_none (g.C.Criterion.rules c.args.asked.now.criterion) c.args.hop.now.connection.trip c.args.self.now c.requires.can.trip;
+  takes = λ walks steps set_outs before all ext_before ext.
+      let lists = c.args.stops.now.lists in
+      let laws = g.met.C.Criterion.laws c.args.asked.now.criterion in
+      let front = front_at lists c.front_from-entry.result in
+      let points = list_points lists c.head-head.result in
+      let admitted = subst (λ k. AreAdmitted (g.C.Criterion.rules k) points) c.requires.stop.stops.under
+      (list_admitted (g.C.Criterion.rules (lists_criterion lists)) lists.entries.items lists.items.items
+      c.requires.stop.stops.sound c.head-head.result) in
+      subst (λ (n : ℕ). TakesIn (g.C.Criterion.rules c.args.asked.now.criterion)
+      (changes_from (from_to (spelling_of walks before) (spelling_of walks all)) c.args.hop.now.place c.args.hop.now.connection.arr
+      (survivors (g.C.Criterion.rules c.args.asked.now.criterion) c.args.hop.now.bound.now (list_points lists n)))
+      (trip_points c.args.self.now.labels c.args.hop.now.connection.trip)
+      (trip_points c.args.self.now.labels c.args.hop.now.connection.trip)) c.head-head.ensures
+      (changes_under g.C.Criterion.rules (lists_criterion lists) c.args.asked.now.criterion c.requires.stop.stops.under
+      points laws admitted (from_to (spelling_of walks before) (spelling_of walks all)) c.args.hop.now.place
+      c.args.hop.now.connection.arr c.args.hop.now.bound.now c.requires.can.hop.bound front 0
+      (trip_points c.args.self.now.labels c.args.hop.now.connection.trip)
+      (trip_points c.args.self.now.labels c.args.hop.now.connection.trip)
+      (trip_admitted (g.C.Criterion.rules c.args.asked.now.criterion) c.args.self.now.labels
+      c.requires.can.trip.sound c.args.hop.now.connection.trip)
+      c.front_from-entry.ensures.made_of c.front_from-entry.ensures.betters (omega arith)
+      (takes_first (g.C.Criterion.rules c.args.asked.now.criterion) front
+      (change_way (g.C.Criterion.rules c.args.asked.now.criterion)
+      (from_to (spelling_of walks before) (spelling_of walks all)) c.args.hop.now.place c.args.hop.now.bound.now)
+      (trip_points c.args.self.now.labels c.args.hop.now.connection.trip)));
+}
 
-pub returns-clause-takes : goal.returns-clause-takes
-returns-clause-takes g c walks steps set_outs before all ext_before ext =
-    let lists = c.args.stops.now.lists in
-    let laws = g.met.C.Criterion.laws c.args.asked.now.criterion in
-    let front = front_at lists c.front_from-entry.result in
-    let points = list_points lists c.head-head.result in
-    let admitted = subst (λ k. AreAdmitted (g.C.Criterion.rules k) points) c.requires.stop.stops.under
-    (list_admitted (g.C.Criterion.rules (lists_criterion lists)) lists.entries.items lists.items.items
-    c.requires.stop.stops.sound c.head-head.result) in
-    subst (λ (n : ℕ). TakesIn (g.C.Criterion.rules c.args.asked.now.criterion)
-    (changes_from (from_to (spelling_of walks before) (spelling_of walks all)) c.args.hop.now.place c.args.hop.now.connection.arr
-    (survivors (g.C.Criterion.rules c.args.asked.now.criterion) c.args.hop.now.bound.now (list_points lists n)))
-    (trip_points c.args.self.now.labels c.args.hop.now.connection.trip)
-    (trip_points c.loop-k.self.labels c.args.hop.now.connection.trip)) c.head-head.ensures
-    (changes_under g.C.Criterion.rules (lists_criterion lists) c.args.asked.now.criterion c.requires.stop.stops.under
-    points laws admitted (from_to (spelling_of walks before) (spelling_of walks all)) c.args.hop.now.place
-    c.args.hop.now.connection.arr c.args.hop.now.bound.now c.requires.hop.bound front c.loop-k.k
-    (trip_points c.args.self.now.labels c.args.hop.now.connection.trip)
-    (trip_points c.loop-k.self.labels c.args.hop.now.connection.trip)
-    (trip_admitted (g.C.Criterion.rules c.args.asked.now.criterion) c.loop-k.self.labels
-    c.loop-k.invariant.trip.labels.labels c.args.hop.now.connection.trip)
-    c.front_from-entry.ensures.made_of c.front_from-entry.ensures.betters (omega arith)
-    (c.loop-k.invariant.takes walks steps set_outs before all ext_before ext))
+pub returns : goal.returns
+returns g c = record {
+  trip = c.loop-k.invariant.trip;
+  takes = λ walks steps set_outs before all ext_before ext.
+      let lists = c.args.stops.now.lists in
+      let laws = g.met.C.Criterion.laws c.args.asked.now.criterion in
+      let front = front_at lists c.front_from-entry.result in
+      let points = list_points lists c.head-head.result in
+      let admitted = subst (λ k. AreAdmitted (g.C.Criterion.rules k) points) c.requires.stop.stops.under
+      (list_admitted (g.C.Criterion.rules (lists_criterion lists)) lists.entries.items lists.items.items
+      c.requires.stop.stops.sound c.head-head.result) in
+      subst (λ (n : ℕ). TakesIn (g.C.Criterion.rules c.args.asked.now.criterion)
+      (changes_from (from_to (spelling_of walks before) (spelling_of walks all)) c.args.hop.now.place c.args.hop.now.connection.arr
+      (survivors (g.C.Criterion.rules c.args.asked.now.criterion) c.args.hop.now.bound.now (list_points lists n)))
+      (trip_points c.args.self.now.labels c.args.hop.now.connection.trip)
+      (trip_points c.loop-k.self.labels c.args.hop.now.connection.trip)) c.head-head.ensures
+      (changes_under g.C.Criterion.rules (lists_criterion lists) c.args.asked.now.criterion c.requires.stop.stops.under
+      points laws admitted (from_to (spelling_of walks before) (spelling_of walks all)) c.args.hop.now.place
+      c.args.hop.now.connection.arr c.args.hop.now.bound.now c.requires.can.hop.bound front c.loop-k.k
+      (trip_points c.args.self.now.labels c.args.hop.now.connection.trip)
+      (trip_points c.loop-k.self.labels c.args.hop.now.connection.trip)
+      (trip_admitted (g.C.Criterion.rules c.args.asked.now.criterion) c.loop-k.self.labels
+      c.loop-k.invariant.trip.labels.labels c.args.hop.now.connection.trip)
+      c.front_from-entry.ensures.made_of c.front_from-entry.ensures.betters (omega arith)
+      (c.loop-k.invariant.takes walks steps set_outs before all ext_before ext));
+}
 
-pub front_from-entry-requires-clause-head : goal.front_from-entry-requires-clause-head
-front_from-entry-requires-clause-head g c =
-    subst (λ (n : ℕ). n < length (entries_of c.args.stops.now.lists)) (sym c.head-head.ensures) (c.requires.stop.stops.within c.args.hop.now.connection.to)
+pub front_from-entry-requires : goal.front_from-entry-requires
+front_from-entry-requires g c = record {
+  sound = c.requires.stop.stops.sound;
+  within = subst (λ (n : ℕ). n < length (entries_of c.args.stops.now.lists)) (sym c.head-head.ensures)
+      (c.requires.stop.stops.within c.args.hop.now.connection.to);
+}
+
+pub front_len-count-requires : goal.front_len-count-requires
+front_len-count-requires g c = record { sound = c.requires.stop.stops.sound; within = c.front_from-entry.ensures.within }
+
+pub front_point-own-requires-clause-entry : goal.front_point-own-requires-clause-entry
+front_point-own-requires-clause-entry g c = record { sound = c.requires.stop.stops.sound; within = c.front_from-entry.ensures.within }
+
+pub front_point-point-requires-clause-entry : goal.front_point-point-requires-clause-entry
+front_point-point-requires-clause-entry g c = record { sound = c.requires.stop.stops.sound; within = c.front_from-entry.ensures.within }

@@ -1,31 +1,43 @@
 use Rattle.std.proofs.Common.{ℕ, sym, ◌∙◌, ap, subst}
+use Rattle.std.proofs.lemmas.Result.{on_ok_weaker}
 use Rattle.criteria.specs.Laws.{Admits}
 use Rattle.profile_scan.specs.SetQuery.{question}
 use Rattle.profile_scan.specs.Values.{started}
-use Rattle.profile_scan.specs.Adding.{trip_points}
+use Rattle.profile_scan.specs.Adding.{endings, trip_points}
 use Rattle.profile_scan.specs.Matching.{from_to}
 use Rattle.profile_scan.specs.ScanRecords.{spelling_of}
-use Rattle.profile_scan.proofs.Offers.{on_ok_more}
+use Rattle.profile_scan.proofs.Offers.{takes_none}
 use Rattle.profile_scan.proofs.PartLemmas.{changes_none}
 use Rattle.profile_scan.proofs.EndLemmas.{end_admits, takes_the_end}
 use Rattle.profile_scan.proofs.trips.Trips.end.Goals as goal
 
-pub returns-in-Some-clause-takes : goal.returns-in-Some-clause-takes
-returns-in-Some-clause-takes g c =
+pub returns-in-Some : goal.returns-in-Some
+returns-in-Some g c =
     let rules = g.C.Criterion.rules c.args.asked.now.criterion in
     let end = c.in-Some.end in
     let is = c.in-Some.ensures in
-    on_ok_more c.offer.result _ _
-    (λ takes walks steps set_outs before all ext_before ext.
-    takes_the_end rules (from_to (spelling_of walks before) (spelling_of walks all)) c.args.hop.now.place
-    c.args.hop.now.connection (question c.args.asked.now.query) c.args.hop.now.final_walk end.walk c.value_at_end-value.result
-    end.time (trip_points c.args.self.now.labels c.args.hop.now.connection.trip)
-    (trip_points c.offer.new.self.labels c.args.hop.now.connection.trip)
-    is.0 is.3 c.value_at_end-value.ensures is.1 (takes walks steps set_outs before all ext_before ext))
-    c.offer.ensures.takes
+    on_ok_weaker c.offer.result
+    (λ taken. record {
+      trip = taken.trip;
+      takes = λ walks steps set_outs before all ext_before ext.
+          takes_the_end rules (from_to (spelling_of walks before) (spelling_of walks all)) c.args.hop.now.place
+          c.args.hop.now.connection (question c.args.asked.now.query) c.args.hop.now.final_walk end.walk c.value_at_end-value.result
+          end.time (trip_points c.args.self.now.labels c.args.hop.now.connection.trip)
+          (trip_points c.offer.new.self.labels c.args.hop.now.connection.trip)
+          is.0 is.3 c.value_at_end-value.ensures is.1 (taken.takes walks steps set_outs before all ext_before ext);
+    })
+    c.offer.ensures
 
-pub returns-in-None-clause-trip : goal.returns-in-None-clause-trip
-returns-in-None-clause-trip g c = changes_none (g.C.Criterion.rules c.args.asked.now.criterion) c.args.hop.now.connection.trip c.args.self.now c.requires.trip
+pub returns-in-None : goal.returns-in-None
+returns-in-None g c = record {
+  trip =
+      changes_none (g.C.Criterion.rules c.args.asked.now.criterion) c.args.hop.now.connection.trip c.args.self.now c.requires.trip;
+  takes = λ walks steps set_outs before all ext_before ext.
+      takes_none (g.C.Criterion.rules c.args.asked.now.criterion) (endings (g.C.Criterion.rules c.args.asked.now.criterion)
+      (from_to (spelling_of walks before) (spelling_of walks all)) c.args.hop.now.place c.args.hop.now.connection
+      (question c.args.asked.now.query) c.args.hop.now.final_walk) (trip_points c.args.self.now.labels c.args.hop.now.connection.trip)
+      (λ way opened. c.in-None.ensures way opened);
+}
 
 pub offer-requires-clause-admitted : goal.offer-requires-clause-admitted
 offer-requires-clause-admitted g c =
