@@ -9,13 +9,13 @@ use Rattle.version_core.specs.declared.event.Reply.{Reply}
 use Rattle.version_core.specs.declared.state.Worker.{Worker}
 use Rattle.version_core.specs.declared.state.Shelf.{Shelf}
 use Rattle.version_core.specs.State.{State, start, looked}
-use Rattle.version_core.specs.Steps.{Step, LookStep, TakeStep, DropStep, IsIdle, Holds}
+use Rattle.version_core.specs.Steps.{Step, LookStep, TakeStep, DropStep, IsIdle}
 use Rattle.version_core.specs.Invariants.{KeepsInvariants}
 use Rattle.version_core.specs.Rest.{IsNoLoad, RestStays}
-use Rattle.version_core.specs.Laws.{RunsGrow, LooksAndTakesHold, DropsLetGo}
+use Rattle.version_core.specs.Laws.{RunsGrow, LooksAndTakesHold}
 use Rattle.shelf_steps.specs.declared.edition.Edition.{Edition}
 use Rattle.epochs.specs.History.{IsHistory, AreShelved, IsEdition}
-use Rattle.epochs.specs.Pins.{IsCurrent, IsLookAndTake, IsDrop}
+use Rattle.epochs.specs.Pins.{IsCurrent, IsLookAndTake}
 
 -- what a worker's event leaves alone
 pub record SameShelves (s t : State) : Type 0 where
@@ -98,18 +98,4 @@ looks_and_takes s t u w first second before events images law kept idle look tak
       images = refl;
       holds = both.3;
       seen = subst (λ (x : State). slice_get x.seen w ≡ Some s.current) (sym both.2) (looked_seen s w kept idle);
-    }
-
-pub drops : (s t : State) (w k v : ℕ) (r : Reply) (before events : List Event) (images : List ImageValue) → DropsLetGo
-    → KeepsInvariants s → Holds s w k v → DropStep s w r t
-    → events ≡ before ++ Event.Drop w ∷ []
-    → IsDrop (record { state = s; events = before; images = images }) w (record { state = t; events = events; images = images })
-drops s t w k v r before events images law kept holds drop more =
-    let is = law s t w k v r kept holds drop in
-    record {
-      run = (t, subst (λ (x : Reply). DropStep s w x t) is.0 drop, refl);
-      events = more;
-      images = refl;
-      idle = is.2;
-      seen = ap (λ (x : State). x.seen) is.1;
     }

@@ -1,50 +1,11 @@
 -- What a notice does to a seat.
-use Rattle.std.proofs.Common.{◌≡◌, ℕ, zero, suc, ◌≤◌, max, [], Some, None, Option, Result, Ok, Err, refl, ap, sym, ◌∙◌, subst, arith, inl, inr}
-use Rattle.version_core.specs.declared.state.Worker.{Worker}
-use Rattle.shelf_steps.specs.declared.edition.Edition.{Edition}
-use Rattle.shelf_steps.specs.declared.views.LoaderView.{LoaderView}
-use Rattle.shelf_steps.specs.declared.views.KnownHistory.{KnownHistory}
-use Rattle.shelf_steps.specs.declared.views.View.{View}
-use Rattle.shelf_steps.specs.Plays.{OfWorker, SeatAndSlots, IsSettled, IsLoading, joins_notice, with_note, gives_notice, new_notice}
+use Rattle.std.proofs.Common.{◌≡◌, ℕ, zero, suc, ◌≤◌, Some, None, Option, Result, Ok, Err, ap, sym, ◌∙◌, arith, inl, inr}
 use Rattle.epochs.specs.declared.faults.PinFault.{PinFault}
 use Rattle.epochs.specs.Seats.{SeatValue, PinStep, ReleaseStep, JoinStep}
 use Rattle.std.specs.Arc.{arc_value}
 use Rattle.image_layout.specs.Image.{ImageValue}
 use Rattle.epochs.specs.SeatLaws.{SeatStep, SeatSteps, GivesFrom, JoinedVersionsStay, PinsSo, SeatCall, SeatCalls, AnswersFrom, JoinedVersionsStayAtShelves}
-use Rattle.epochs.specs.ShelfSeats.{ShelfSeatValue, FitsSeat, seen_of}
-use Rattle.epochs.specs.SeatHistory.{HoldsIn}
-use Rattle.epochs.specs.ShelfLoads.{Rests, RestsHere}
-use Rattle.epochs.proofs.GrowthLemmas.{join_knows}
-use Rattle.version_core.specs.declared.state.Shelf.{Shelf}
-use Rattle.std.proofs.Common.{List}
-
-idle_settled : (number : ℕ) (u : View) → OfWorker u (λ a. (a.now ≡ Worker.Idle) × (a.number ≡ number)) → IsSettled u
-idle_settled number (View.Working a) h = inl h.0
-idle_settled number (View.Loading l) h = absurd h
-idle_settled number (View.Noting n) h = absurd h
-idle_settled number View.Spent h = absurd h
-
-holding_settled : (number shelf : ℕ) (e : Edition) (u : View) → OfWorker u (λ a. (a.now ≡ Worker.Holding shelf e.version) × (a.number ≡ number)
-    × (a.edition ≡ Some e)) → IsSettled u
-holding_settled number shelf e (View.Working a) h = inr (shelf, e.version, h.0)
-holding_settled number shelf e (View.Loading l) h = absurd h
-holding_settled number shelf e (View.Noting n) h = absurd h
-holding_settled number shelf e View.Spent h = absurd h
-
-idle_joined : (number n : ℕ) (u : View) → OfWorker u (λ a. (a.now ≡ Worker.Idle) × (a.number ≡ number))
-    → OfWorker (joins_notice u (View.Noting n)) (λ a. (a.now ≡ Worker.Idle) × (a.number ≡ number))
-idle_joined number n (View.Working a) h = h
-idle_joined number n (View.Loading l) h = absurd h
-idle_joined number n (View.Noting x) h = absurd h
-idle_joined number n View.Spent h = absurd h
-
-holding_joined : (number shelf n : ℕ) (e : Edition) (u : View) → OfWorker u (λ a. (a.now ≡ Worker.Holding shelf e.version) × (a.number ≡ number)
-    × (a.edition ≡ Some e))
-    → OfWorker (joins_notice u (View.Noting n)) (λ a. (a.now ≡ Worker.Holding shelf e.version) × (a.number ≡ number) × (a.edition ≡ Some e))
-holding_joined number shelf n e (View.Working a) h = h
-holding_joined number shelf n e (View.Loading l) h = absurd h
-holding_joined number shelf n e (View.Noting x) h = absurd h
-holding_joined number shelf n e View.Spent h = absurd h
+use Rattle.epochs.specs.ShelfSeats.{ShelfSeatValue}
 
 pin_rises : (a b : SeatValue) (r : Result (Unit {0}) PinFault) → PinStep a r b → a.seen ≤ b.seen
 pin_rises a b (Ok u) h = let is = ap (λ (s : SeatValue). s.seen) h.1.3 in let up = h.1.2 in omega arith

@@ -1,6 +1,6 @@
 -- Tries at closing shelves.
 use Rattle.std.proofs.Common.{◌≡◌, ℕ, zero, suc, ◌+◌, ◌<◌, ◌≤◌, Bool, true, false, List, [], ◌∷◌, ◌++◌, length, set}
-use Rattle.std.proofs.Common.{replicate, Option, Some, None, slice_get, get_or, refl, ap, sym, ◌∙◌, subst, arith, inl}
+use Rattle.std.proofs.Common.{Option, Some, None, slice_get, get_or, refl, ap, sym, ◌∙◌, subst, arith, inl}
 use Rattle.std.proofs.Common.{inr, append_assoc, length-set}
 use Rattle.std.proofs.lemmas.Option.{get_or_from_slice_get, slice_get_within}
 use mathlib.Core.Logic.{dite}
@@ -104,10 +104,6 @@ pub record CollectsBelow (n : ℕ) (a : TableValue) (freed : List Bool) (busy : 
       → (slice_get freed k ≡ Some (is_freed shelf (get_or a.state.counts k 0)))
       × (slice_get busy k ≡ Some (busy_count shelf (get_or a.state.counts k 0)))
       × (slice_get b.state.shelves k ≡ Some (after_try shelf (get_or a.state.counts k 0)))
-
-append_nothing : {X : Type 0} (xs : List X) → xs ≡ xs ++ []
-append_nothing [] = refl
-append_nothing (x ∷ xs) = ap (λ l. x ∷ l) (append_nothing xs)
 
 join_runs : (s t u : State) (first second : List Event) → RunsJoin → IsRun s first t → IsRun t second u → IsRun s (first ++ second) u
 join_runs s t u first second law a b = record { replies = a.replies ++ b.replies; run = law s t u first second a.replies b.replies a.run b.run }

@@ -1,5 +1,5 @@
 -- What the calls of the loader's seat do at shelves without a lock.
-use Rattle.std.specs.Prelude.{◌≡◌, ◌≢◌, ℕ, zero, suc, ◌<◌, ◌≤◌, ◌⊎◌, Bool, true, false, List, [], length, slice_get, slice_index_or, Option, Some, None}
+use Rattle.std.specs.Prelude.{◌≡◌, ◌≢◌, ℕ, zero, suc, ◌+◌, ◌<◌, ◌≤◌, ◌⊎◌, Bool, true, false, List, [], length, slice_get, slice_index_or, Option, Some, None}
 use Rattle.atomic_table.specs.Seated.{TableId}
 use Rattle.version_core.specs.declared.state.Shelf.{Shelf}
 use Rattle.version_core.specs.State.{State, start}
@@ -15,7 +15,8 @@ use Rattle.shelf_steps.specs.Plays.{OfLoader, SeatAndSlots, newest_of, gives_not
 use Rattle.shelf_steps.specs.Loading.{Loads, Frees, FindsBusy}
 use Rattle.shelf_steps.specs.EventHistory.{LeadsToItsState, leading_to}
 use Rattle.shelf_steps.specs.Events.{known_of}
-use Rattle.epochs.specs.SeatHistory.{EachClosingIsTried}
+use Rattle.epochs.specs.Seats.{PublishStep, RefuseStep, CollectStep}
+use Rattle.epochs.specs.SeatHistory.{Grows, IsPublished, EndsPublish, FindsByTries, EachClosingIsTried, IsFullByTries, EndsRefused}
 
 -- the shelves that the seat is at, what it knows, the current version, and what it was answered
 pub record ShelfLoaderValue : Type 0 where
@@ -113,3 +114,41 @@ RefusesBySteps u PublishFault.OutOfMemory u' = IsUnspent u × MakesRoomBySteps u
 RefusesBySteps u (PublishFault.ShelvesFull counts) u' =
     IsUnspent u × (¬ (HasFree u)) × ((found : Collected) × CollectsBySteps u found u' × (counts ≡ found.busy))
     × (¬ (HasFree u')) × AreFull u counts
+
+-- what each call leaves of the loader's seat: its shelves, and all that it knew before
+pub record LoaderGoesOn (a b : ShelfLoaderValue) : Type 0 where
+  pub table : b.table ≡ a.table
+  pub grows : Grows (known_of a.view) (known_of b.view)
+
+-- the version is the next one, and current from then on
+pub record IsNext (a : ShelfLoaderValue) (version : ℕ) (b : ShelfLoaderValue) : Type 0 where
+  pub next : version ≡ a.current + 1
+  pub current : b.current ≡ version
+
+-- the image is published as this version, and one notice of it goes out
+pub record PublishesImage (a : ShelfLoaderValue) (image : ImageValue) (version : ℕ) (b : ShelfLoaderValue) : Type 0 where
+  pub goes_on : LoaderGoesOn a b
+  pub number : IsNext a version b
+  pub loader : PublishStep a.answers image version b.answers
+  pub steps : (room : View) × MakesRoomBySteps a.view room × PublishesWithNotice room image version b.view
+  pub published : IsPublished (known_of b.view) version image
+  pub ends : EndsPublish (known_of a.view) version (known_of b.view)
+
+-- a publish is refused with this fault, and the current version stays
+pub record RefusesImage (a : ShelfLoaderValue) (fault : PublishFault) (b : ShelfLoaderValue) : Type 0 where
+  pub goes_on : LoaderGoesOn a b
+  pub current : b.current ≡ a.current
+  pub loader : RefuseStep a.answers fault b.answers
+  pub spent : IsSpentAt a.current fault
+  pub steps : RefusesBySteps a.view fault b.view
+  pub full : IsFullByTries (known_of a.view) fault (known_of b.view)
+  pub refused : EndsRefused (known_of a.view) (known_of b.view)
+
+-- each closing shelf is tried, and the current version stays
+pub record CollectsShelves (a : ShelfLoaderValue) (found : Collected) (b : ShelfLoaderValue) : Type 0 where
+  pub goes_on : LoaderGoesOn a b
+  pub current : b.current ≡ a.current
+  pub loader : CollectStep a.answers found b.answers
+  pub steps : CollectsBySteps a.view found b.view
+  pub tries : FindsByTries (known_of a.view) found (known_of b.view)
+  pub all : EachClosingIsTried (known_of a.view) found

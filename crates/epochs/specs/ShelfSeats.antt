@@ -10,8 +10,8 @@ use Rattle.shelf_steps.specs.declared.views.WorkerView.{WorkerView}
 use Rattle.shelf_steps.specs.Plays.{SeatAndSlots, OfWorker, newcomer, joins_notice}
 use Rattle.shelf_steps.specs.Pinning.{Pins, Moves, Releases, IsIdleAs, IsHoldingAs}
 use Rattle.epochs.specs.declared.faults.PinFault.{PinFault}
-use Rattle.epochs.specs.Seats.{SeatValue}
-use Rattle.epochs.specs.SeatHistory.{HoldsIn}
+use Rattle.epochs.specs.Seats.{SeatValue, PinStep, ReleaseStep, JoinStep}
+use Rattle.epochs.specs.SeatHistory.{Grows, HoldsIn, HoldsAsKnown, EndsPin, EndsRelease}
 use Rattle.shelf_steps.specs.Events.{known_of}
 
 -- the shelves that the seat is at, the number of its worker, what it knows, the slots that are out with it, and what it shows
@@ -95,3 +95,31 @@ new_seat table number = record {
 -- n seats of the table, numbered from 0
 abbrev pub SeatsHanded : TableId → ℕ → List ShelfSeatValue → Type 0
 SeatsHanded table n seats = (length seats ≡ n) × ((j : ℕ) → j < n → slice_get seats j ≡ Some (new_seat table j))
+
+-- what each call leaves of a seat: its shelves, the number of its worker, and all that it knew before
+pub record GoesOn (a b : ShelfSeatValue) : Type 0 where
+  pub table : b.table ≡ a.table
+  pub number : b.number ≡ a.number
+  pub grows : Grows (known_of a.view) (known_of b.view)
+
+-- a pin with this result. What is held after it was published, in what the seat knows
+pub record PinsSeat (a : ShelfSeatValue) (result : Result (Unit {0}) PinFault) (b : ShelfSeatValue) : Type 0 where
+  pub goes_on : GoesOn a b
+  pub pin : PinStep a.shown result b.shown
+  pub steps : PinsBySteps a result b
+  pub known : HoldsAsKnown (known_of b.view) b.number b.shown.held
+  pub ends : EndsPin (known_of a.view) a.number result b.shown.held (known_of b.view)
+
+-- a release with this result
+pub record ReleasesSeat (a : ShelfSeatValue) (result : Result (Unit {0}) PinFault) (b : ShelfSeatValue) : Type 0 where
+  pub goes_on : GoesOn a b
+  pub release : ReleaseStep a.shown result b.shown
+  pub steps : ReleasesBySteps a result b
+  pub ends : EndsRelease (known_of a.view) a.number result (known_of b.view)
+
+-- a notice of this version is taken in. The seat learns nothing of the history by it
+pub record JoinsSeat (a : ShelfSeatValue) (version : ℕ) (b : ShelfSeatValue) : Type 0 where
+  pub goes_on : GoesOn a b
+  pub join : JoinStep a.shown version b.shown
+  pub step : JoinsByStep a version b
+  pub same : known_of b.view ≡ known_of a.view

@@ -1,17 +1,10 @@
 //! Shelves without a lock that have a name: a seat, a loader or a notice of one name can't be used at shelves of
 //! another.
 
-ghost use Rattle.std.specs.Prelude.{◌≡◌, ◌+◌, ◌<◌, Some, None, IfOk, IfErr, IfSome, MatchOption, MatchResult};
+ghost use Rattle.std.specs.Prelude.{◌≡◌, ◌<◌, Some, IfOk, IfErr, IfSome};
 ghost use Rattle.std.specs.Arc.{arc_value};
-ghost use Rattle.shelf_steps.specs.declared.views.View.{View};
-ghost use Rattle.epochs.specs.SeatHistory.{Grows, HoldsAsKnown, EndsPin, EndsRelease, IsPublished, EndsPublish};
-ghost use Rattle.epochs.specs.SeatHistory.{FindsByTries, EachClosingIsTried, IsFullByTries, EndsRefused};
-ghost use Rattle.shelf_steps.specs.Events.{known_of};
-ghost use Rattle.epochs.specs.Seats.{PinStep, ReleaseStep, JoinStep, PublishStep, RefuseStep, CollectStep};
-ghost use Rattle.epochs.specs.Seats.{KnowsItsSeats};
-ghost use Rattle.epochs.specs.ShelfSeats.{PinsBySteps, ReleasesBySteps, JoinsByStep, ShowsWhatItKnows};
-ghost use Rattle.epochs.specs.ShelfLoads.{CollectsBySteps, MakesRoomBySteps, PublishesWithNotice, RefusesBySteps};
-ghost use Rattle.epochs.specs.ShelfLoads.{IsSpentAt};
+ghost use Rattle.epochs.specs.ShelfSeats.{PinsSeat, ReleasesSeat, JoinsSeat, ShowsWhatItKnows};
+ghost use Rattle.epochs.specs.ShelfLoads.{CollectsShelves, PublishesImage, RefusesImage};
 ghost use Rattle.epochs.specs.ShelfWords.{shelf_loader, shelf_seats};
 ghost use Rattle.epochs.specs.declared.faults.PublishFault.{PublishFault};
 
@@ -216,14 +209,7 @@ impl<B: ShelvesName, K> Versions for NamedShelves<B, K> {
 
     fn pin(&self, seat: &mut NamedSeat<B>) -> Result<(), PinFault>
         ensures fits { seat.new.table ≡ self.now }
-        ensures number { seat.new.number ≡ seat.old.number }
-        ensures pin { PinStep seat.old.shown result seat.new.shown }
-        ensures refused { IfErr result KnowsItsSeats }
-        ensures known { HoldsAsKnown (known_of seat.new.view) seat.new.number seat.new.shown.held }
-        ensures grows { Grows (known_of seat.old.view) (known_of seat.new.view) }
-        ensures ends { EndsPin (known_of seat.old.view) seat.old.number result seat.new.shown.held
-            (known_of seat.new.view) }
-        ensures steps { PinsBySteps seat.old result seat.new }
+        ensures pin { PinsSeat seat.old result seat.new }
     {
         self.shelves.pin(&mut seat.inner)
     }
@@ -234,22 +220,14 @@ impl<B: ShelvesName, K> Versions for NamedShelves<B, K> {
 
     fn release(&self, seat: &mut NamedSeat<B>) -> Result<(), PinFault>
         ensures fits { seat.new.table ≡ self.now }
-        ensures number { seat.new.number ≡ seat.old.number }
-        ensures release { ReleaseStep seat.old.shown result seat.new.shown }
-        ensures refused { IfErr result KnowsItsSeats }
-        ensures steps { ReleasesBySteps seat.old result seat.new }
-        ensures grows { Grows (known_of seat.old.view) (known_of seat.new.view) }
-        ensures ends { EndsRelease (known_of seat.old.view) seat.old.number result (known_of seat.new.view) }
+        ensures release { ReleasesSeat seat.old result seat.new }
     {
         self.shelves.release(&mut seat.inner)
     }
 
     fn join(&self, seat: &mut NamedSeat<B>, notice: NamedNotice<B>)
         ensures fits { seat.new.table ≡ self.now }
-        ensures number { seat.new.number ≡ seat.old.number }
-        ensures join { JoinStep seat.old.shown notice.version seat.new.shown }
-        ensures step { JoinsByStep seat.old notice.version seat.new }
-        ensures same { known_of seat.new.view ≡ known_of seat.old.view }
+        ensures join { JoinsSeat seat.old notice.version seat.new }
     {
         self.shelves.join(&mut seat.inner, notice.inner);
     }
@@ -271,22 +249,9 @@ impl<B: ShelvesName, K> Loads for NamedShelves<B, K> {
     ) -> Result<(u64, Option<NamedNotice<B>>), (Arc<Verified, Global>, PublishFault)>
         ensures loads { loader.new.table ≡ self.now }
         ensures back { IfErr result (λ e. e.0 ≡ image) }
-        ensures current { MatchResult result (λ r. loader.new.current ≡ r.0) (λ _. loader.new.current
-            ≡ loader.old.current) }
-        ensures next { IfOk result (λ r. r.0 ≡ loader.old.current + 1) }
-        ensures loader { MatchResult result (λ r.
-            PublishStep loader.old.answers (arc_value image) r.0 loader.new.answers)
-            (λ e. RefuseStep loader.old.answers e.1 loader.new.answers) }
-        ensures spent { IfErr result (λ e. IsSpentAt loader.old.current e.1) }
-        ensures full { IfErr result (λ e. IsFullByTries (known_of loader.old.view) e.1 (known_of loader.new.view)) }
-        ensures refused { IfErr result (λ _. EndsRefused (known_of loader.old.view) (known_of loader.new.view)) }
-        ensures steps { MatchResult result (λ r. (room : View) × MakesRoomBySteps loader.old.view room
-            × PublishesWithNotice room (arc_value image) r.0 loader.new.view)
-            (λ e. RefusesBySteps loader.old.view e.1 loader.new.view) }
+        ensures published { IfOk result (λ r. PublishesImage loader.old (arc_value image) r.0 loader.new) }
         ensures notice { IfOk result (λ r. r.1 ≡ Some (record { table = self.now; version = r.0 })) }
-        ensures published { IfOk result (λ r. IsPublished (known_of loader.new.view) r.0 (arc_value image)) }
-        ensures grows { Grows (known_of loader.old.view) (known_of loader.new.view) }
-        ensures ends { IfOk result (λ r. EndsPublish (known_of loader.old.view) r.0 (known_of loader.new.view)) }
+        ensures refused { IfErr result (λ e. RefusesImage loader.old e.1 loader.new) }
     {
         let published = match self.shelves.publish(&mut loader.inner, image) {
             Ok(published) => published,
@@ -297,12 +262,7 @@ impl<B: ShelvesName, K> Loads for NamedShelves<B, K> {
 
     fn collect(&self, loader: &mut NamedLoader<B>) -> Collected
         ensures loads { loader.new.table ≡ self.now }
-        ensures current { loader.new.current ≡ loader.old.current }
-        ensures loader { CollectStep loader.old.answers result loader.new.answers }
-        ensures steps { CollectsBySteps loader.old.view result loader.new.view }
-        ensures grows { Grows (known_of loader.old.view) (known_of loader.new.view) }
-        ensures tries { FindsByTries (known_of loader.old.view) result (known_of loader.new.view) }
-        ensures all { EachClosingIsTried (known_of loader.old.view) result }
+        ensures collect { CollectsShelves loader.old result loader.new }
     {
         self.shelves.collect(&mut loader.inner)
     }

@@ -10,10 +10,10 @@ ghost use Rattle.shelf_steps.specs.Loading.{Loads};
 ghost use Rattle.shelf_steps.specs.Plays.{gives_notice};
 ghost use Rattle.shelf_steps.specs.declared.views.View.{View};
 ghost use Rattle.shelf_steps.specs.Events.{known_of};
-ghost use Rattle.epochs.specs.SeatHistory.{Grows, IsPublished, EndsPublish, FindsByTries, EachClosingIsTried};
-ghost use Rattle.epochs.specs.Seats.{PublishStep, RefuseStep, CollectStep};
+ghost use Rattle.epochs.specs.SeatHistory.{IsPublished};
 ghost use Rattle.epochs.specs.ShelfLoads.{CollectsBySteps, TriedShelf, shelf_of, IsFreeIn, HasFree, IsLeastFree};
 ghost use Rattle.epochs.specs.ShelfLoads.{MakesRoomBySteps, PublishesBySteps, RefusesBySteps, IsUnspent, IsSpentAt};
+ghost use Rattle.epochs.specs.ShelfLoads.{CollectsShelves, PublishesImage, RefusesImage, IsNext};
 ghost use Rattle.epochs.specs.declared.faults.PublishFault.{PublishFault};
 
 use crate::collected::Collected;
@@ -76,12 +76,7 @@ impl ShelfLoader {
     // Tries each closing shelf, and notes what was found.
     pub(crate) fn collect_at(&mut self, table: &ShelfTable) -> Collected
         requires { self.old.table ≡ table.now }
-        ensures table { (self.new.table ≡ self.old.table) × (self.new.current ≡ self.old.current) }
-        ensures loader { CollectStep self.old.answers result self.new.answers }
-        ensures steps { CollectsBySteps self.old.view result self.new.view }
-        ensures grows { Grows (known_of self.old.view) (known_of self.new.view) }
-        ensures tries { FindsByTries (known_of self.old.view) result (known_of self.new.view) }
-        ensures all { EachClosingIsTried (known_of self.old.view) result }
+        ensures { CollectsShelves self.old result self.new }
     {
         let found = self.try_all(table);
         self.note_answer(LoaderAnswer::Collected { found });
@@ -106,27 +101,18 @@ impl ShelfLoader {
         Notice::of(table_seat, self.current)
     }
 
-    // Publishes, or returns why not, and notes the answer.
+    // Publishes the image and gives one notice of its version, or returns why not, and notes the answer.
     pub(crate) fn publish_at(
         &mut self,
         table: &ShelfTable,
         alloc: Global,
         image: Arc<Verified, Global>,
-    ) -> Result<u64, (Arc<Verified, Global>, PublishFault)>
+    ) -> Result<(u64, Notice), (Arc<Verified, Global>, PublishFault)>
         requires { self.old.table ≡ table.now }
-        ensures table { self.new.table ≡ self.old.table }
         ensures back { IfErr result (λ e. e.0 ≡ image) }
-        ensures current { MatchResult result (λ v. self.new.current ≡ v) (λ _. self.new.current ≡ self.old.current) }
-        ensures next { IfOk result (λ v. v ≡ self.old.current + 1) }
-        ensures loader { MatchResult result (λ v. PublishStep self.old.answers (arc_value image) v self.new.answers)
-            (λ e. RefuseStep self.old.answers e.1 self.new.answers) }
-        ensures spent { IfErr result (λ e. IsSpentAt self.old.current e.1) }
-        ensures steps { MatchResult result (λ v. (room : View) × MakesRoomBySteps self.old.view room
-            × PublishesBySteps room (arc_value image) v self.new.view)
-            (λ e. RefusesBySteps self.old.view e.1 self.new.view) }
-        ensures published { IfOk result (λ v. IsPublished (known_of self.new.view) v (arc_value image)) }
-        ensures grows { Grows (known_of self.old.view) (known_of self.new.view) }
-        ensures ends { IfOk result (λ v. EndsPublish (known_of self.old.view) v (known_of self.new.view)) }
+        ensures published { IfOk result (λ r. PublishesImage self.old (arc_value image) r.0 self.new) }
+        ensures notice { IfOk result (λ r. r.1 ≡ record { table = table.now; version = r.0 }) }
+        ensures refused { IfErr result (λ e. RefusesImage self.old e.1 self.new) }
     {
         match self.publish_quietly(table, alloc, &image) {
             Ok(version) => {
@@ -135,7 +121,8 @@ impl ShelfLoader {
                     version,
                     image: shown,
                 });
-                Ok(version)
+                let notice = self.note_at(table);
+                Ok((version, notice))
             }
             Err(fault) => {
                 self.note_answer(LoaderAnswer::PublishRefused { fault });
@@ -153,14 +140,12 @@ impl ShelfLoader {
     ) -> Result<u64, PublishFault>
         requires { self.old.table ≡ table.now }
         ensures table { (self.new.table ≡ self.old.table) × (self.new.answers ≡ self.old.answers) }
-        ensures number { IfOk result (λ v. (1 < v) × (v ≤ 1000000000)) }
-        ensures next { IfOk result (λ v. v ≡ self.old.current + 1) }
-        ensures current { MatchResult result (λ v. self.new.current ≡ v) (λ _. self.new.current ≡ self.old.current) }
+        ensures next { IfOk result (λ v. IsNext self.old v self.new × (1 < v) × (v ≤ 1000000000)) }
         ensures published { IfOk result (λ v. (room : View) × MakesRoomBySteps self.old.view room
             × PublishesBySteps room (arc_value image.now) v self.new.view) }
         ensures known { IfOk result (λ v. IsPublished (known_of self.new.view) v (arc_value image.now)) }
-        ensures refused { IfErr result (λ e. RefusesBySteps self.old.view e self.new.view) }
-        ensures spent { IfErr result (λ e. IsSpentAt self.old.current e) }
+        ensures refused { IfErr result (λ e. (self.new.current ≡ self.old.current) × IsSpentAt self.old.current e
+            × RefusesBySteps self.old.view e self.new.view) }
     {
         if self.current >= MOST_VERSIONS {
             return Err(PublishFault::VersionsSpent);
@@ -232,8 +217,7 @@ impl ShelfLoader {
         requires left { self.old.current < 1000000000 }
         requires free { (shelf < 8) × (shelf_of self.old.view shelf ≡ Some Shelf.Free) }
         ensures table { (self.new.table ≡ self.old.table) × (self.new.answers ≡ self.old.answers) }
-        ensures number { IfOk result (λ v. (1 < v) × (v ≤ 1000000000) × (self.new.current ≡ v)) }
-        ensures next { IfOk result (λ v. v ≡ self.old.current + 1) }
+        ensures next { IfOk result (λ v. IsNext self.old v self.new × (1 < v) × (v ≤ 1000000000)) }
         ensures loads { IfOk result (λ version. (before : ℕ)
             × Loads shelf version before (arc_value image.now) self.old.view self.new.view) }
         ensures known { IfOk result (λ v. IsPublished (known_of self.new.view) v (arc_value image.now)) }

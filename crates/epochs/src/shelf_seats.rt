@@ -4,10 +4,9 @@ ghost use Rattle.std.specs.Prelude.{◌≡◌, ◌<◌, [], None, Some, MatchOpt
 ghost use Rattle.std.specs.Arc.{arc_value};
 ghost use Rattle.shelf_steps.specs.Plays.{newcomer};
 ghost use Rattle.shelf_steps.specs.declared.views.View.{View};
-ghost use Rattle.epochs.specs.SeatHistory.{Grows, HoldsAsKnown, EndsPin, EndsRelease};
+ghost use Rattle.epochs.specs.SeatHistory.{HoldsAsKnown};
 ghost use Rattle.shelf_steps.specs.Events.{known_of};
-ghost use Rattle.epochs.specs.Seats.{PinStep, ReleaseStep, JoinStep};
-ghost use Rattle.epochs.specs.ShelfSeats.{PinsBySteps, ReleasesBySteps, JoinsByStep, ShowsWhatItKnows, new_seat};
+ghost use Rattle.epochs.specs.ShelfSeats.{PinsSeat, ReleasesSeat, JoinsSeat, ShowsWhatItKnows, new_seat};
 
 use crate::faults::PinFault;
 use crate::notice::Notice;
@@ -88,13 +87,7 @@ impl ShelfSeat {
     // Looks and takes, at most four times.
     pub(crate) fn pin_at(&mut self, shelves: &ShelfTable) -> Result<(), PinFault>
         requires { self.old.table ≡ shelves.now }
-        ensures table { (self.new.table ≡ self.old.table) × (self.new.number ≡ self.old.number) }
-        ensures pin { PinStep self.old.shown result self.new.shown }
-        ensures steps { PinsBySteps self.old result self.new }
-        ensures known { HoldsAsKnown (known_of self.new.view) self.new.number self.new.shown.held }
-        ensures grows { Grows (known_of self.old.view) (known_of self.new.view) }
-        ensures ends { EndsPin (known_of self.old.view) self.old.number result self.new.shown.held
-            (known_of self.new.view) }
+        ensures { PinsSeat self.old result self.new }
     {
         if self.held.is_some() {
             let fault = PinFault::AlreadyPinned;
@@ -120,11 +113,7 @@ impl ShelfSeat {
     // Drops what is held.
     pub(crate) fn release_at(&mut self, shelves: &ShelfTable) -> Result<(), PinFault>
         requires { self.old.table ≡ shelves.now }
-        ensures table { (self.new.table ≡ self.old.table) × (self.new.number ≡ self.old.number) }
-        ensures release { ReleaseStep self.old.shown result self.new.shown }
-        ensures steps { ReleasesBySteps self.old result self.new }
-        ensures grows { Grows (known_of self.old.view) (known_of self.new.view) }
-        ensures ends { EndsRelease (known_of self.old.view) self.old.number result (known_of self.new.view) }
+        ensures { ReleasesSeat self.old result self.new }
     {
         match self.held.take() {
             Some((shelf, edition)) => {
@@ -143,10 +132,7 @@ impl ShelfSeat {
     // Takes in a notice: the seat has seen its version.
     pub(crate) fn join_at(&mut self, shelves: &ShelfTable, notice: Notice)
         requires { (self.old.table ≡ shelves.now) × (notice.table ≡ shelves.now) }
-        ensures table { (self.new.table ≡ self.old.table) × (self.new.number ≡ self.old.number) }
-        ensures join { JoinStep self.old.shown notice.version self.new.shown }
-        ensures step { JoinsByStep self.old notice.version self.new }
-        ensures same { known_of self.new.view ≡ known_of self.old.view }
+        ensures { JoinsSeat self.old notice.version self.new }
     {
         let _ = &self.number;
         join(shelves, &mut self.table_seat, notice.into_seat());

@@ -1,17 +1,12 @@
 //! Shelves without a lock.
 
-ghost use Rattle.std.specs.Prelude.{◌≡◌, ◌+◌, ◌<◌, [], Some, IfOk, IfErr, MatchResult};
+ghost use Rattle.std.specs.Prelude.{◌≡◌, ◌<◌, [], Some, IfOk, IfErr};
 ghost use Rattle.std.specs.List.{All};
 ghost use Rattle.std.specs.Arc.{arc_value};
 ghost use Rattle.shelf_steps.specs.Handed.{handed};
 ghost use Rattle.shelf_steps.specs.declared.views.View.{View};
-ghost use Rattle.epochs.specs.SeatHistory.{Grows, HoldsAsKnown, EndsPin, EndsRelease, IsPublished, EndsPublish};
-ghost use Rattle.epochs.specs.SeatHistory.{FindsByTries, EachClosingIsTried};
-ghost use Rattle.shelf_steps.specs.Events.{known_of};
-ghost use Rattle.epochs.specs.Seats.{PinStep, ReleaseStep, JoinStep, PublishStep, RefuseStep, CollectStep};
-ghost use Rattle.epochs.specs.ShelfSeats.{PinsBySteps, ReleasesBySteps, JoinsByStep, SeatsHanded};
-ghost use Rattle.epochs.specs.ShelfLoads.{CollectsBySteps, MakesRoomBySteps, PublishesWithNotice, RefusesBySteps};
-ghost use Rattle.epochs.specs.ShelfLoads.{IsSpentAt};
+ghost use Rattle.epochs.specs.ShelfSeats.{PinsSeat, ReleasesSeat, JoinsSeat, SeatsHanded};
+ghost use Rattle.epochs.specs.ShelfLoads.{CollectsShelves, PublishesImage, RefusesImage};
 ghost use Rattle.epochs.specs.declared.faults.PublishFault.{PublishFault};
 
 use crate::collected::Collected;
@@ -80,13 +75,7 @@ impl Shelves {
     /// before it could be held.
     pub fn pin(&self, seat: &mut ShelfSeat) -> Result<(), PinFault>
         requires { seat.old.table ≡ self.now }
-        ensures table { (seat.new.table ≡ seat.old.table) × (seat.new.number ≡ seat.old.number) }
-        ensures pin { PinStep seat.old.shown result seat.new.shown }
-        ensures steps { PinsBySteps seat.old result seat.new }
-        ensures known { HoldsAsKnown (known_of seat.new.view) seat.new.number seat.new.shown.held }
-        ensures grows { Grows (known_of seat.old.view) (known_of seat.new.view) }
-        ensures ends { EndsPin (known_of seat.old.view) seat.old.number result seat.new.shown.held
-            (known_of seat.new.view) }
+        ensures { PinsSeat seat.old result seat.new }
     {
         seat.pin_at(&self.table)
     }
@@ -94,11 +83,7 @@ impl Shelves {
     /// Releases the version that the seat holds; refused with `NotPinned` exactly if it holds none.
     pub fn release(&self, seat: &mut ShelfSeat) -> Result<(), PinFault>
         requires { seat.old.table ≡ self.now }
-        ensures table { (seat.new.table ≡ seat.old.table) × (seat.new.number ≡ seat.old.number) }
-        ensures release { ReleaseStep seat.old.shown result seat.new.shown }
-        ensures steps { ReleasesBySteps seat.old result seat.new }
-        ensures grows { Grows (known_of seat.old.view) (known_of seat.new.view) }
-        ensures ends { EndsRelease (known_of seat.old.view) seat.old.number result (known_of seat.new.view) }
+        ensures { ReleasesSeat seat.old result seat.new }
     {
         seat.release_at(&self.table)
     }
@@ -113,28 +98,13 @@ impl Shelves {
         image: Arc<Verified, Global>,
     ) -> Result<(u64, Option<Notice>), (Arc<Verified, Global>, PublishFault)>
         requires { loader.old.table ≡ self.now }
-        ensures table { loader.new.table ≡ loader.old.table }
         ensures back { IfErr result (λ e. e.0 ≡ image) }
-        ensures current { MatchResult result (λ r. loader.new.current ≡ r.0) (λ _. loader.new.current
-            ≡ loader.old.current) }
-        ensures next { IfOk result (λ r. r.0 ≡ loader.old.current + 1) }
-        ensures loader { MatchResult result (λ r.
-            PublishStep loader.old.answers (arc_value image) r.0 loader.new.answers)
-            (λ e. RefuseStep loader.old.answers e.1 loader.new.answers) }
-        ensures spent { IfErr result (λ e. IsSpentAt loader.old.current e.1) }
-        ensures steps { MatchResult result (λ r. (room : View) × MakesRoomBySteps loader.old.view room
-            × PublishesWithNotice room (arc_value image) r.0 loader.new.view)
-            (λ e. RefusesBySteps loader.old.view e.1 loader.new.view) }
+        ensures published { IfOk result (λ r. PublishesImage loader.old (arc_value image) r.0 loader.new) }
         ensures notice { IfOk result (λ r. r.1 ≡ Some (record { table = self.now; version = r.0 })) }
-        ensures published { IfOk result (λ r. IsPublished (known_of loader.new.view) r.0 (arc_value image)) }
-        ensures grows { Grows (known_of loader.old.view) (known_of loader.new.view) }
-        ensures ends { IfOk result (λ r. EndsPublish (known_of loader.old.view) r.0 (known_of loader.new.view)) }
+        ensures refused { IfErr result (λ e. RefusesImage loader.old e.1 loader.new) }
     {
         match loader.publish_at(&self.table, self.alloc, image) {
-            Ok(version) => {
-                let notice = loader.note_at(&self.table);
-                Ok((version, Some(notice)))
-            }
+            Ok((version, notice)) => Ok((version, Some(notice))),
             Err(refused) => Err(refused),
         }
     }
@@ -142,10 +112,7 @@ impl Shelves {
     /// Takes in the notice: from now on the seat has seen its version. This takes no memory and waits for nobody.
     pub fn join(&self, seat: &mut ShelfSeat, notice: Notice)
         requires { (seat.old.table ≡ self.now) × (notice.table ≡ self.now) }
-        ensures table { (seat.new.table ≡ seat.old.table) × (seat.new.number ≡ seat.old.number) }
-        ensures join { JoinStep seat.old.shown notice.version seat.new.shown }
-        ensures step { JoinsByStep seat.old notice.version seat.new }
-        ensures same { known_of seat.new.view ≡ known_of seat.old.view }
+        ensures { JoinsSeat seat.old notice.version seat.new }
     {
         seat.join_at(&self.table, notice);
     }
@@ -153,12 +120,7 @@ impl Shelves {
     /// Tries each closing shelf, and frees it if its count is 0; otherwise `busy` has the count that was found.
     pub fn collect(&self, loader: &mut ShelfLoader) -> Collected
         requires { loader.old.table ≡ self.now }
-        ensures table { (loader.new.table ≡ loader.old.table) × (loader.new.current ≡ loader.old.current) }
-        ensures loader { CollectStep loader.old.answers result loader.new.answers }
-        ensures steps { CollectsBySteps loader.old.view result loader.new.view }
-        ensures grows { Grows (known_of loader.old.view) (known_of loader.new.view) }
-        ensures tries { FindsByTries (known_of loader.old.view) result (known_of loader.new.view) }
-        ensures all { EachClosingIsTried (known_of loader.old.view) result }
+        ensures { CollectsShelves loader.old result loader.new }
     {
         loader.collect_at(&self.table)
     }

@@ -1,7 +1,7 @@
 use Rattle.std.proofs.Common.{ap, ◌∙◌}
 use Rattle.shelf_steps.specs.Plays.{SeatAndSlots, keeps_loading}
 use Rattle.epochs.specs.ShelfSeats.{new_seat}
-use Rattle.epochs.proofs.ShelfPins.{one_more_seat}
+use Rattle.epochs.proofs.HandedSeats.{one_more_seat}
 use Rattle.epochs.proofs.shelves.open.Goals as goal
 
 pub loop-number-preserved : goal.loop-number-preserved

@@ -1,8 +1,5 @@
-use Rattle.std.proofs.Common.{◌≡◌, arith, ◌∙◌, length-set, subst}
-use Rattle.shelf_steps.specs.Plays.{OfLoader}
-use Rattle.epochs.specs.ShelfLoads.{ShelfLoaderValue, KnowsShelves, Rests, TriesBelow}
-use Rattle.epochs.proofs.ClosingLemmas.{each_closing}
-use Rattle.epochs.proofs.ShelfResting.{one_more_try}
+use Rattle.std.proofs.Common.{◌≡◌, arith, ◌∙◌, length-set}
+use Rattle.epochs.proofs.Resting.{each_closing, one_more_try}
 use Rattle.epochs.proofs.shelf_loader.ShelfLoader.try_all.Goals as goal
 
 pub loop-shelf-preserved : goal.loop-shelf-preserved
@@ -24,11 +21,11 @@ loop-shelf-preserved c =
 -- all eight were tried, so each that was closing
 pub returns-clause-steps : goal.returns-clause-steps
 returns-clause-steps c =
-    let inside = c.self.inside in let view = c.args.self.now.view in let found = c.loop-shelf.found in
+    let inside = c.self.inside in let found = c.loop-shelf.found in
     let eight : c.loop-shelf.shelf ≡ 8 = omega (arith, c.loop-shelf-test.false, c.loop-shelf.auto.shelf-end) in
-    let tried : TriesBelow 8 view found.freed found.busy c.loop-shelf.self.view =
-    subst (λ n. TriesBelow n view found.freed found.busy c.loop-shelf.self.view) eight c.loop-shelf.invariant.tried in
-    let rest = subst (λ (a : ShelfLoaderValue). OfLoader a.view (λ l. Rests inside.current inside.current_shelf inside.shelves l))
-    c.self.view_is c.self.invariant.0 in
-    let led = subst (λ (a : ShelfLoaderValue). KnowsShelves a.view) c.self.view_is c.self.invariant.2 in
-    (tried, each_closing inside.current inside.current_shelf inside.shelves view c.loop-shelf.self.view found rest led tried)
+    let tried = rw (← c.self.view_is) at (rw eight at c.loop-shelf.invariant.tried) in
+    rw (← c.self.view_is) (
+      tried,
+      each_closing inside.current inside.current_shelf inside.shelves inside.table_seat.me.0 c.loop-shelf.self.view found
+          (c.self.invariant.0, c.self.invariant.2) tried,
+    )

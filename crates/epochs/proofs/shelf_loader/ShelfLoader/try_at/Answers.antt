@@ -1,8 +1,7 @@
 use Rattle.std.proofs.Common.{rules, ◌≡◌, []}
 use Rattle.shelf_steps.specs.Plays.{OfLoader}
 use Rattle.epochs.specs.ShelfLoads.{Rests}
-use Rattle.epochs.proofs.ClosingLemmas.{busy_known, frees_known}
-use Rattle.epochs.proofs.ShelfResting.{closing_at, rests_free}
+use Rattle.epochs.proofs.Resting.{busy_known, remembers_freed}
 use Rattle.epochs.proofs.shelf_loader.ShelfLoader.try_at.Goals as goal
 
 pub invariant_of-self : goal.invariant_of-self
@@ -13,10 +12,7 @@ invariant_of-self c =
 
 pub invariant_of-self-in-None : goal.invariant_of-self-in-None
 invariant_of-self-in-None c =
-    let inside = c.self.inside in let after = c.try_shelf.new.loader.me in
-    let closing = closing_at inside.shelves c.args.shelf c.in-Closing.version c.in-Closing.is in (
-      rests_free inside.current inside.current_shelf inside.shelves c.args.shelf c.in-Closing.version inside.table_seat.me.0 after.0
-          c.self.invariant.0 closing c.in-None.ensures.freed,
-      c.try_shelf.ensures.empty,
-      frees_known c.args.shelf inside.table_seat.me.0 after.0 c.self.invariant.2 c.in-None.ensures.freed,
-    )
+    let inside = c.self.inside in
+    let known = remembers_freed inside.current inside.current_shelf inside.shelves c.args.shelf c.in-Closing.version inside.table_seat.me.0
+    c.try_shelf.new.loader.me.0 (c.self.invariant.0, c.self.invariant.2) c.in-Closing.is c.in-None.ensures.freed in
+    (known.0, c.try_shelf.ensures.empty, known.1)

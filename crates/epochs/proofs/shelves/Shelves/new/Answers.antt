@@ -1,4 +1,4 @@
-use Rattle.epochs.proofs.ShelfPins.{handed_fit}
+use Rattle.epochs.proofs.HandedSeats.{handed_fit}
 use Rattle.epochs.proofs.shelves.Shelves.new.Goals as goal
 
 pub returns-in-Ok-clause-fits : goal.returns-in-Ok-clause-fits
