@@ -15,7 +15,7 @@ use criteria::Criterion;
 use std::alloc::AllocError;
 
 // Before the list that begins at `index`, puts those points of entry `from`'s front that the list's first front doesn't
-// better; if there are none, the list stays. It has to cover what follows `from` on its own list. Returns the head of
+// better; if there are none, the list stays. That list must cover the entries after `from`'s. Returns the head of
 // the list that has both.
 #[inline(always)]
 fn join_one<C: Criterion>(

@@ -1,8 +1,8 @@
 //! Labels of many trips in one vector: those of a trip are side by side, in its run.
 //!
-//! A run is written over while it has room. When it has none, its labels go to the vector's end, with room for nearly
-//! as many again. So the elements that a trip has left behind are no more than the room of its run, and both together
-//! are fewer than four times the most labels that the trip had at once.
+//! A run is written over while labels fit its `room`. Else they go to the vector's end, into a `room` of nearly twice
+//! their number. So what a trip has left behind is no more than its run's `room`, and both together are fewer than four
+//! times the most labels that the trip had at once.
 
 ghost use Rattle.std.specs.Prelude.{◌≡◌, ◌+◌, ◌++◌, ◌∷◌, [], ℕ, ◌<◌, ◌≤◌, take, drop, length, replicate};
 ghost use Rattle.std.specs.Prelude.{Contains, IfOk, OnOk, OnErr};

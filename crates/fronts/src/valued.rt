@@ -45,8 +45,8 @@ impl<V> HasValue<V> for Label<V> {
     }
 }
 
-/// Whether one of some values, items or labels is no worse than a value (an equal one counts). Specs then say that
-/// points *better* the value, and that labels *beat* it. The loop goes over all of them, without a branch.
+/// Whether one of some values, items or labels is no worse than a value (an equal one counts). In this crate points
+/// then *better* the value, and labels *beat* it. The loop goes over all of them, without a branch.
 pub fn some_no_worse<C: Criterion, T: HasValue<C::V>>(
     criterion: &C,
     points: &[T],

@@ -28,7 +28,7 @@ use Rattle.image_commands.specs.declared.profile.Profile.{Profile}
 use Rattle.image_commands.specs.declared.refusal.CommandRefusal.TheVariants.{Query as OfQuery}
 
 -- the question is answered: the departures' points are exactly the undominated points of all journeys that count for any of its pairs, in order, each once,
--- and each departure has a journey that attains its point for one of the pairs, and that ends as soon as it is at a target. The text shows the departures and
+-- and each departure has a journey that attains its point for one of the pairs, and whose last walk isn't from a target. The text shows the departures and
 -- the direct walk, and in lines also how many connections the window has. A picture, if one is asked for, shows the same departures. Between a single stop and
 -- a single other this is the answer of the plain query (the law `one_is_plain` of profile_scan)
 pub record IsShown {V : Type 0} (figures : V → Figures) (rules : Rules V) (request : ProfileRequest) (image : ImageValue) (b : SetQueryValue)

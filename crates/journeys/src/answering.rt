@@ -38,7 +38,7 @@ pub struct Answer<C: Criterion> {
 /// dominates, in order, each with a journey that counts, departs when the point does, and is worth the point's value.
 ///
 /// Each connection of the window is asked for once, from the last to the first. The only error is that memory runs
-/// out; then only a first part of them was asked for.
+/// out; then a first part of them, or all, was asked for.
 pub fn answer_query<S: ConnSource, C: Criterion>(
     alloc: Global,
     source: &mut S,

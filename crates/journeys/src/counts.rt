@@ -1,4 +1,4 @@
-//! Whether a journey holds in an image and counts for a query.
+//! Whether a journey of an image counts for a query.
 
 ghost use Rattle.std.specs.Prelude.{◌≡◌, ◌↔◌, ℕ, None, Some, Ok, IfOk, IfErr};
 ghost use Rattle.timetable.specs.TimetableValue.{TimetableValue};

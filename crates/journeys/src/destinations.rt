@@ -9,7 +9,7 @@ use image_verifier::Verified;
 use profile_scan::Destination;
 use timetable::QueryFault;
 
-/// Returns the destination of journeys of an image from every stop to the stop of a name. If stops share the name,
+/// Returns the destination of journeys from every stop of an image to the stop so named. If stops share the name,
 /// the least of them is meant. Names are compared byte by byte.
 ///
 /// The error is `UnknownStop` if no stop has the name, or else `BadWindow`.

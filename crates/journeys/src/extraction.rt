@@ -22,7 +22,7 @@ use timetable::{Footpath, Journey, Leg, Ride};
 trait Spells {
     ghost nodes: { Self → List Node };
 
-    // The node of a number, if there is one.
+    // The node at a number, if there is one.
     fn node_at(&self, number: usize) -> Option<Node>
         ensures { result ≡ slice_get (nodes self.now) number };
 }
@@ -102,7 +102,7 @@ fn gets_off_at<F: Spells>(found: &F, number: usize) -> Option<Alighting>
     }
 }
 
-// The number of rides that follow the leg which ends as a node says, if the node spells any.
+// The number of rides after the leg whose end a node says, if it says one.
 fn rides_after<F: Spells>(found: &F, from: usize) -> usize
     ensures { (x : Aboard) → (spelled (F.nodes found.now) from).aboard ≡ Some x → result ≡ length x.rides }
 {
@@ -210,7 +210,7 @@ pub fn extract<C: Criterion>(
     ensures kept { IfOk result (λ journey. (p : _) → slice_get (listed found.now) i ≡ Some p
         → ∥ Attains (C.rules (criterion_of_found found.now)) (timetable_of found.now) (query_of found.now) p journey
         ∥₁) }
-    // So it does for the query and the timetable of which the caller knows that this is their answer.
+    // It also does for any query and timetable whose answer the caller knows this to be.
     ensures attains { IfOk result (λ journey. (criterion : _) (t : TimetableValue) (q : Query) (p : _)
         → Answers criterion (C.rules criterion) t q found.now → slice_get (listed found.now) i ≡ Some p
         → Attains (C.rules criterion) t q p journey) }
@@ -244,7 +244,7 @@ pub fn extract_between<C: Criterion>(
     ensures kept { IfOk result (λ journey. (p : _) → slice_get (listed_between found.now) i ≡ Some p
         → ∥ AttainsBetween (C.rules (criterion_between found.now)) (timetable_between found.now)
         (query_between found.now) p journey ∥₁) }
-    // So it does for the query and the timetable of which the caller knows that this is their answer.
+    // It also does for any query and timetable whose answer the caller knows this to be.
     ensures attains { IfOk result (λ journey. (criterion : _) (t : TimetableValue) (b : SetQueryValue) (p : _)
         → AnswersBetween criterion (C.rules criterion) t b found.now → slice_get (listed_between found.now) i ≡ Some p
         → AttainsBetween (C.rules criterion) t b p journey) }

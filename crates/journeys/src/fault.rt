@@ -8,7 +8,7 @@ use thiserror::Error;
 
 /// Why a journey doesn't count for a query, with the number of the leg or walk.
 ///
-/// Legs count from 0. Walk i is before leg i, and walk 0 is the start; the last walk, after all legs, has the number
+/// Leg 0 is first. Walk i is before leg i, and walk 0 is the start; the last walk, after all legs, has the number
 /// of legs.
 #[derive(Clone, Copy, Debug, PartialEq, Eq, Error)]
 pub enum JourneyFault {

@@ -8,8 +8,8 @@ ghost use Rattle.journeys.specs.Faults.{has_footpath};
 use image_verifier::Verified;
 use timetable::Footpath;
 
-// Of the footpaths into a stop, which are at indices from `start` on, before `end`, the index of the first that
-// leaves stop `from` or a greater one; `end` if there is none.
+// Of the footpaths into a stop, at indices `start` to `end - 1`, the index of the first that leaves stop `from` or a
+// greater one; `end` if none does.
 fn first_leaving(image: &Verified, stop: u32, start: usize, end: usize, from: u32) -> usize
     requires stop { stop < image.now.timetable.stops }
     requires order { start ≤ end }

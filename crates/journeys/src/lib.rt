@@ -1,5 +1,5 @@
 //! Queries by the names of stops and their answers, each point with its journey; journeys as texts;
-//! and whether a journey holds in an image and counts for a query.
+//! and whether a journey of an image counts for a query.
 #![tactic(auto)]
 
 mod answering;

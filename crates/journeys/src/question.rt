@@ -18,7 +18,7 @@ pub struct Window {
     pub by: u32,
 }
 
-/// Returns the query for journeys of an image from the stop of one name to the stop of another. If stops share a
+/// Returns the query for journeys of an image from the stop named `from` to that named `to`. If stops share a
 /// name, the least of them is meant. Names are compared byte by byte.
 ///
 /// The error is `UnknownStop` if no stop has one of the names, or else the first fault of the query.

@@ -124,7 +124,7 @@ fn ride(alloc: Global, bytes: &[u8]) -> Result<(Ride, &[u8]), TextFault>
     Ok((Ride { leg, walk }, rest))
 }
 
-// The rides up to the end; the first is without its word. Each takes at least one byte.
+// The rides up to the end, after the word of the first. Each takes at least one byte.
 fn rides(alloc: Global, bytes: &[u8]) -> Result<Vec<Ride>, TextFault>
     ensures { Gives (λ v. v.items) result (rides_at (length bytes.now) bytes.now) }
 {

@@ -69,7 +69,7 @@ fn start_fault(image: &Verified, start: Option<Footpath>, stop: u32) -> Option<J
     }
 }
 
-// Whether footpaths lead to another stop than `goal`, or don't join.
+// Whether footpaths don't join, or don't lead to `goal`.
 fn is_elsewhere(led: Option<u32>, goal: u32) -> bool
     ensures { result ≡ is_elsewhere led goal }
 {

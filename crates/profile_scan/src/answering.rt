@@ -35,7 +35,7 @@ pub fn timetable_of<S: ConnSource>(source: &S) -> GhostValue<Timetable>
 /// Each point has a tag that spells a journey which attains it, and the direct footpath is beside them. Each
 /// connection that departs at `from` or later and before `by` is asked for once, from the last to the first (before
 /// `by`, not up to `until`, since a later leg may depart after `until`). The only error is that memory runs out, or
-/// that a number would need more than 32 bits; then only a first part of these connections was asked for.
+/// that a number would need more than 32 bits; then a first part of these, or all, was asked for.
 pub fn profile<S: ConnSource, C: Criterion>(
     alloc: Global,
     source: &mut S,
@@ -62,8 +62,8 @@ pub fn profile<S: ConnSource, C: Criterion>(
 /// Each point has a tag that spells a journey which attains it, and the direct walk is beside them: of the footpaths
 /// from a source to a target the shortest, and of equal ones the first in the order of the lists. However many stops
 /// there are, each connection that departs at `from` or later and before `by` is asked for once, from the last to the
-/// first. The only error is that memory runs out, or that a number would need more than 32 bits; then only a first part
-/// of these connections was asked for.
+/// first. The only error is that memory runs out, or that a number would need more than 32 bits; then a first part of
+/// these, or all, was asked for.
 pub fn profile_between<S: ConnSource, C: Criterion>(
     alloc: Global,
     source: &mut S,
@@ -100,7 +100,7 @@ pub fn profile_between<S: ConnSource, C: Criterion>(
     })
 }
 
-// Makes what a scan asks: how one sets out from the sources, and the ways to the targets.
+// Makes a scan's query: how one sets out from the sources, and the ways to the targets.
 fn ask<S: ConnSource, C: Criterion>(
     alloc: Global,
     source: &S,

@@ -14,7 +14,7 @@ use std::alloc::{AllocError, Global};
 use timetable::{GhostValue, Query, Timetable};
 
 /// The answer of a profile query: the points of all best departures, by departure, then by the criterion's order.
-/// Each point's tag is the number of a node, from which on the nodes spell a journey that attains the point.
+/// Each point's tag is the number of a node that, by earlier ones, spells a journey that attains the point.
 ///
 /// It keeps the criterion. The timetable, the query and the proof that this is their answer are in fields that only
 /// contracts see.
@@ -54,7 +54,7 @@ impl<C: Criterion> Found<C> {
         &self.points
     }
 
-    /// The node of a number, if there is one. A point's tag is the number of its node.
+    /// The node at a number, if there is one. A point's tag is the number of its node.
     pub fn node(&self, number: usize) -> Option<Node>
         ensures { result ≡ slice_get (nodes_of self.now) number }
     {

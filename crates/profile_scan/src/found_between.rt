@@ -12,7 +12,7 @@ use criteria::Criterion;
 use timetable::{Footpath, GhostValue, Query, Timetable};
 
 /// The answer of a query between sets: the points of all best departures, by departure, then by the criterion's order.
-/// Each point's tag is the number of a node, from which on the nodes spell a journey that attains the point.
+/// Each point's tag is the number of a node that, by earlier ones, spells a journey that attains the point.
 ///
 /// It keeps the criterion. The timetable, the query and the proof that this is their answer are in fields that only
 /// contracts see.
@@ -57,7 +57,7 @@ impl<C: Criterion> FoundBetween<C> {
         &self.points
     }
 
-    /// The node of a number, if there is one. A point's tag is the number of its node.
+    /// The node at a number, if there is one. A point's tag is the number of its node.
     pub fn node(&self, number: usize) -> Option<Node>
         ensures { result ≡ slice_get (nodes_between self.now) number }
     {

@@ -59,7 +59,7 @@ pub fn until_matters_at_source()
     ensures { CutIsTheSources CountsBetween }
 {}
 
-/// Points found that match at the window's start, none of which dominates another, in order, are the answer.
+/// Points found that match at the window's start, in order, none dominating another, are the answer.
 pub fn match_is_the_answer<C: Criterion>(_criterion: &C)
     ensures { MatchIsTheAnswer (C.rules _criterion.now) }
 {}
@@ -75,7 +75,7 @@ pub fn one_is_plain<C: Criterion>(_criterion: &C)
     ensures { (t : TimetableValue) (q : Query) → OneIsPlain (C.rules _criterion.now) t q }
 {}
 
-/// Read backward, a window's indices fall by one each time, all are those of connections, and departures never rise.
+/// Read backward, a window's indices, all of connections, fall by one each time, and departures never rise.
 pub fn window_is_read_backward()
     ensures { WindowIsReadBackward }
 {}
@@ -88,9 +88,8 @@ pub fn found_answers<C: Criterion>(found: &Found<C>)
     let _kept = found.points();
 }
 
-/// Two sources of one timetable give a query the same points, tags aside, and each is asked once for each connection
-/// of the window. The only error is that memory runs out; then each was asked only for a first part of them, perhaps
-/// for none.
+/// Two sources of one timetable give a query the same points, tags aside, and each is asked once for each connection of
+/// the window. If memory or numbers of 32 bits run out, each was asked for a first part of them: none, some or all.
 pub fn two_sources<A: ConnSource, B: ConnSource, C: Criterion>(
     alloc: Global,
     one: &mut A,
@@ -119,7 +118,7 @@ pub fn two_sources<A: ConnSource, B: ConnSource, C: Criterion>(
     Ok((found, again))
 }
 
-/// What an image read in place and its decoded lists answered to one query, and both sources: their logs say which
+/// The answers to one query from an image in place and its decoded lists, and both sources: their logs say which
 /// connections each was asked for.
 #[derive(Drop)]
 pub struct FromBoth<'a, C: Criterion> {
@@ -130,7 +129,7 @@ pub struct FromBoth<'a, C: Criterion> {
 }
 
 /// An image read in place and its lists decoded give a query the same points, tags aside, and each is asked once for
-/// each connection of the window, from the last to the first. The only error is that memory runs out.
+/// each connection of the window, from the last to the first. It fails only as `profile` does.
 pub fn both_sources<'a, C: Criterion>(
     alloc: Global,
     image: &'a Verified,

@@ -3,12 +3,12 @@
 //! A profile query asks for all best departures of a window: of the points (departure, value) of all journeys, those
 //! that no other dominates. `IsAnswerBetween` (specs/SetQuery.antt) defines it. The scan goes once over the
 //! connections, from the last to the first, as the profile variant of the Connection Scan Algorithm does (Dibbelt,
-//! Pajor, Strasser, Wagner, ACM Journal of Experimental Algorithmics, 2018). `profile` is that scan, reading from any
-//! `ConnSource`, under any criterion. It reads the connections of the query's window: those that depart at `from` or
-//! later and before `by`. (`until` limits where a journey begins, not where the window ends: later legs may depart
-//! after it.) The loop is `scan::scan_window`. It reads each index of the window once, in falling order, as its clause
-//! `log` says, and calls `Scan::step`. A step returns at once if it sees that the connection can add nothing; else it
-//! renews the bound for the connection's departure, makes a `Hop` and calls `State::take`:
+//! Pajor, Strasser, Wagner, ACM Journal of Experimental Algorithmics, 2018). `profile_between` is that scan, reading
+//! from any `ConnSource`, under any criterion. It reads the connections of the query's window: those that depart at
+//! `from` or later and before `by`. (`until` limits where a journey begins, not where the window ends: later legs may
+//! depart after it.) The loop is `scan::scan_window`. It reads each index of the window once, in falling order, as its
+//! clause `log` says, and calls `Scan::step`. A step returns at once if it sees that the connection can add nothing;
+//! else it renews the bound for the connection's departure, makes a `Hop` and calls `State::take`:
 //!
 //! 1. Leave the trip, if passengers may get off. The journey may end there, or one footpath on (`hop.final_walk`):
 //!    `Trips::end` offers that to the labels of the connection's trip, with the value that `value_at_end` makes. Or
@@ -31,10 +31,10 @@
 //!
 //! A leg is counted where its trip is boarded, in 2 and 3: a label's value doesn't include it.
 //!
-//! What a scan keeps where journeys set out has the trait `AtSource`. `profile` answers one question, and keeps an
-//! `Origin`: one list of the points found, from all sources together. `profiles_to_any`, which answers from every stop
-//! to any of several targets, and `profiles_to`, to a single one, keep `Origins`: a list for each stop. All else is the
-//! same scan. Clauses speak of the question at an `index`: for `Origins` the index is a stop; `Origin` has one
+//! What a scan keeps where journeys set out has the trait `AtSource`. `profile_between` answers one question, and keeps
+//! an `Origin`: one list of the points found, from all sources together. `profiles_to_any`, which answers from every
+//! stop to any of several targets, and `profiles_to`, to a single one, keep `Origins`: a list for each stop. All else
+//! is the same scan. Clauses speak of the question at an `index`: for `Origins` the index is a stop; `Origin` has one
 //! question, whatever the index.
 //!
 //! `hop.bound` has values of points found that depart no earlier than the connection. 1 leaves out a point of the stop,
@@ -52,7 +52,7 @@
 //! the invariant (`matched` in proofs/scan/scan_window/Invariants.antt): the law `nothing_follows` begins it,
 //! `one_index_down` keeps it at each step, and `match_is_the_answer` ends it. `specs/` (Points, Continuations,
 //! Matching, Steps, then Parts) says what a step is; the functions of `laws` prove that it suffices. If the scan
-//! stopped at index i, the points found would be right for all journeys that board connection i or a later one; only
+//! stopped at index i, the points found would be right for all journeys whose first connection is i or later; only
 //! `match_is_the_answer` needs the window's start.
 //!
 //! A tag is an index: of a label, into `Trips::exits`; of a stop's point, into the steps of `Stops::lists`; of a point

@@ -84,8 +84,7 @@ impl<C: Criterion> Profiles<C> {
 /// these are the journeys that come back to it; a caller that wants only what can be asked leaves the target out.
 ///
 /// Each connection of the window is asked for once for all stops, from the last to the first. The only error is that
-/// memory runs out, or that a number would need more than 32 bits; then only a first part of the connections was
-/// asked for.
+/// memory runs out, or that a number would need more than 32 bits; then a first part of them, or all, was asked for.
 pub fn profiles_to<S: ConnSource, C: Criterion>(
     alloc: Global,
     source: &mut S,

@@ -191,8 +191,8 @@ ghost use Rattle.profile_scan.specs.Hops.{IsWindow};
 ghost use Rattle.profile_scan.specs.Window.{falling};
 ghost use Rattle.profile_scan.specs.ScanState.{HasFound, scan_records_of};
 
-/// Scans the connections of a window, the last first. For each question, the points found match every journey that
-/// boards a connection of the window or a later one.
+/// Scans the connections of a window, the last first. For each question, the points found match every journey whose
+/// first connection is in the window or later.
 pub fn scan_window<S: ConnSource, C: Criterion, O: AtSource<C>>(
     alloc: Global,
     source: &mut S,

@@ -3,9 +3,8 @@
 use std::alloc::{AllocError, Global};
 use timetable::Query;
 
-/// A query of a client who may begin at any of several stops and end at any of several others, as the platforms of two
-/// stations: journeys from any of the sources to any of the targets that depart between two times and arrive by a
-/// third. Times are in seconds after the base.
+/// A query between two sets of stops, such as the platforms of two stations: journeys from any of the sources to any of
+/// the targets that depart between two times and arrive by a third. Times are in seconds after the base.
 #[derive(Debug, Drop)]
 pub struct SetQuery {
     pub sources: Vec<u32>,

@@ -103,7 +103,7 @@ impl<C: Criterion> ProfilesToAny<C> {
     }
 }
 
-// Makes what a scan for all sources asks: a query without sources, to the targets.
+// Makes the query of a scan for all sources: it has targets, and no sources.
 fn ask_from_all<S: ConnSource, C: Criterion>(
     alloc: Global,
     source: &S,
@@ -149,13 +149,13 @@ fn lists_in_order<C: Criterion>(
 /// Answers a query from every stop to any of several targets by one scan: for each stop, of the points of all journeys
 /// from there to one of the targets that count, exactly those that no other dominates, in order.
 ///
-/// A journey that reaches a target ends there, and the walk from a stop is the shortest footpath to a target. From a
+/// No journey ends with a walk from a target, and the walk from a stop is the shortest footpath to a target. From a
 /// target, where no query can be asked, the journeys are those that come back to it or go on to another; a caller that
 /// wants only what can be asked leaves the targets out.
 ///
 /// Each connection of the window is asked for once for all stops and targets, from the last to the first. The only
-/// error is that memory runs out, or that a number would need more than 32 bits; then only a first part of the
-/// connections was asked for.
+/// error is that memory runs out, or that a number would need more than 32 bits; then a first part of them, or all, was
+/// asked for.
 pub fn profiles_to_any<S: ConnSource, C: Criterion>(
     alloc: Global,
     source: &mut S,

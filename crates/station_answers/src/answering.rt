@@ -16,11 +16,11 @@ use timetable::{Footpath, Query};
 /// Answers a question between several stops that can be asked: of the points of all journeys that count from any of the
 /// sources to any of the targets, exactly those that no other dominates, in order, each with a journey between two of
 /// these stops that counts, departs when the point does, and is worth the point's value; and the seconds of the direct
-/// walk. A journey that is at a target ends there.
+/// walk. No journey ends with a walk from a target.
 ///
 /// However many stops there are, each connection of the window is asked for once, from the last to the first; `read` is
-/// their number. The only error is that memory runs out, or that a number would need more than 32 bits; then only a
-/// first part of them was asked for.
+/// their number. The only error is that memory runs out, or that a number would need more than 32 bits; then a first
+/// part of them, or all, was asked for.
 pub fn answer_between<S: ConnSource, C: Criterion>(
     alloc: Global,
     source: &mut S,

@@ -120,8 +120,8 @@ answers refused 1 MissingFile agency.txt 0
 
 /// Faults in the times of several trips.
 const TIMES: &str = "
-# Of each trip whose times are wrong the first fault is reported, also of one that isn't in trips.txt. A trip with a blank \
-stop_id isn't judged.
+# The first wrong time of each trip is reported, also of one that isn't in trips.txt. A trip with a blank stop_id \
+isn't judged.
 base
 run tables base_feed --all-faults
 file base_feed/stop_times.txt

@@ -224,7 +224,7 @@ run build no_such_feed none.csa --first 20240115 --days 1 --zone file:no_such_zo
 tells csa: no_such_zone can't be read: no such file or folder
 ends 3
 
-# A feed's file that can't be read is reported with status 3; what is refused is reported before the file that can't be written.
+# A feed's file that can't be read ends with 3; a refusal is reported before a file that can't be written.
 folder unread
 folder unread/agency.txt
 run build unread no_such_folder/unread.csa --first 20240115 --days 1 --zone fixed:0
