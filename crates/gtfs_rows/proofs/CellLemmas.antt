@@ -1,18 +1,18 @@
 -- Facts on cells and columns; and the records of a file that is UTF-8 are text.
-use Rattle.std.proofs.Common.{◌≡◌, ◌<◌, ◌+◌, ◌==◌, ◌∷◌, ◌++◌, ◌⊎◌, inl, inr, ℕ, zero, suc, List, [], length, drop, get_or, reverse, Option, Some, None, Bool}
-use Rattle.std.proofs.Common.{true, false, refl, ap, arith, append_assoc, if◌then◌else◌, length-append, append-nil, slice_index_or, unwrap_or, map, Bor}
-use Rattle.std.specs.List.{position_from}
-use Rattle.std.specs.Str.{IsUtf8, bytes_eq, is_utf8}
+use Rattle.std.proofs.Common.{◌≡◌, ◌<◌, ◌≤◌, ◌+◌, ◌==◌, ◌∷◌, ◌++◌, ℕ, zero, suc, List, [], length, drop, get_or, reverse, map, take, Option, Some, None, Bool}
+use Rattle.std.proofs.Common.{true, false, refl, ap, arith, append_assoc, if◌then◌else◌, length-append, append-nil, slice_index_or, unwrap_or, take_all, Bor}
+use Rattle.std.specs.Str.{IsUtf8, is_utf8}
 use Rattle.std.specs.Prelude.{⊤}
 use Rattle.std.proofs.Math.Seq.{drop-append_seam, take-append_seam}
 use Rattle.std.proofs.Math.Utf8.{encode}
 use Rattle.std.proofs.lemmas.List.{reverse-reverse}
 use Rattle.std.proofs.lemmas.Str.{IsCharBoundary-after_ascii, IsCharBoundary-before_ascii, IsUtf8-append, IsUtf8-drop, IsUtf8-from_is_utf8, IsUtf8-nil}
 use Rattle.std.proofs.lemmas.Str.{IsUtf8-past_char, IsUtf8-take, is_utf8-from_IsUtf8}
+use Rattle.std.proofs.lemmas.Bool.{false_from_ne_true}
 use Rattle.std.proofs.lemmas.Bool.Decides.{nat_tests}
 use Rattle.std.proofs.lemmas.Grind.{common_steps}
 use mathlib.Core.List.{reverse-cons}
-use Rattle.csv.specs.Machine.{Read, ends_at_end, in_field, next_record, start_record, step}
+use Rattle.csv.specs.Machine.{Read, ends_at_end, next_record, step}
 use Rattle.csv.specs.Reading.{default_config, is_bom, records_from, records_next, strip_bom}
 use Rattle.csv.specs.Records.{AllText, field_at}
 use Rattle.csv.specs.declared.parser.Action.{Action}
@@ -29,39 +29,28 @@ cut : (front rest : List ℕ) (c : ℕ) → c < 128 → IsUtf8 (front ++ c ∷ r
 cut front rest c low text =
     let tail : drop (length front) (front ++ c ∷ rest) ≡ c ∷ rest = drop-append_seam front (c ∷ rest) in
     let within : length front < length (front ++ c ∷ rest) = omega (arith, length-append front (c ∷ rest)) in
-    let here : get_or (front ++ c ∷ rest) (length front) 0 ≡ c = grind (arith, common_steps) in
-    let less : get_or (front ++ c ∷ rest) (length front) 0 < 128 = rw here low in
-    let from = IsUtf8-drop (front ++ c ∷ rest) (length front) text (IsCharBoundary-before_ascii (front ++ c ∷ rest) (length front) within less) in (
-      rw take-append_seam at (IsUtf8-take (front ++ c ∷ rest) (length front) text (IsCharBoundary-before_ascii (front ++ c ∷ rest) (length front) within less)),
-      IsUtf8-drop (c ∷ rest) (0 + 1) (rw tail at from) (IsCharBoundary-after_ascii (c ∷ rest) 0 (rw tail at from) (omega arith) low),
+    let less : get_or (front ++ c ∷ rest) (length front) 0 < 128 = grind (arith, common_steps) in
+    let seam = IsCharBoundary-before_ascii (front ++ c ∷ rest) (length front) within less in
+    let from = rw tail at (IsUtf8-drop (front ++ c ∷ rest) (length front) text seam) in (
+      rw take-append_seam at (IsUtf8-take (front ++ c ∷ rest) (length front) text seam),
+      IsUtf8-drop (c ∷ rest) (0 + 1) from (IsCharBoundary-after_ascii (c ∷ rest) 0 from (omega arith) low),
     )
 
--- a field that is there
-pub field_there : (r : Record) (i : ℕ) → i < length r → (f : List ℕ) × (field_at r i ≡ Some f) × (drop i r ≡ f ∷ drop (i + 1) r)
-unfolding field_at
-field_there [] i h = absurd (omega arith)
-field_there (f ∷ rest) zero h = (f, refl, refl)
-field_there (f ∷ rest) (suc i) h = let (g, is, more) = field_there rest i (omega arith) in let e : suc i + 1 ≡ suc (i + 1) = omega arith in (g, is, rw e more)
+-- a text of either of two is text
+text_if : (e : Bool) (f : List ℕ → List ℕ) (x y : List ℕ) → (e ≡ true → IsUtf8 (f x)) → (e ≡ false → IsUtf8 (f y)) → IsUtf8 (f (if e then x else y))
+text_if true f x y one other = one refl
+text_if false f x y one other = other refl
 
 -- a text with no space at its start, or at its end, is text
 front_text : (bs : List ℕ) → IsUtf8 bs → IsUtf8 (trim_front bs)
 front_text [] h = h
-front_text (b ∷ rest) h = by (b == 32) refl (front_text rest)
-  where
-    by : (e : Bool) → (b == 32) ≡ e → (IsUtf8 rest → IsUtf8 (trim_front rest)) → IsUtf8 (trim_front (b ∷ rest))
-    by true e go = let low : b < 128 = grind (arith, nat_tests) in rw e (go (cut [] rest b low h).1)
-    by false e go = rw e h
+front_text (b ∷ rest) h = text_if (b == 32) (λ bs. bs) (trim_front rest) (b ∷ rest)
+    (λ is. let low : b < 128 = grind (arith, nat_tests) in front_text rest (cut [] rest b low h).1) (λ other. h)
 
 back_text : (bs : List ℕ) → IsUtf8 (reverse bs) → IsUtf8 (reverse (trim_front bs))
 back_text [] h = h
-back_text (b ∷ rest) h = by (b == 32) refl (back_text rest)
-  where
-    by : (e : Bool) → (b == 32) ≡ e → (IsUtf8 (reverse rest) → IsUtf8 (reverse (trim_front rest))) → IsUtf8 (reverse (trim_front (b ∷ rest)))
-    by true e go =
-        let low : b < 128 = grind (arith, nat_tests) in
-        let split : IsUtf8 (reverse rest ++ b ∷ []) = rw reverse-cons at h in
-        rw e (go (cut (reverse rest) [] b low split).0)
-    by false e go = rw e h
+back_text (b ∷ rest) h = text_if (b == 32) reverse (trim_front rest) (b ∷ rest)
+    (λ is. let low : b < 128 = grind (arith, nat_tests) in back_text rest (cut (reverse rest) [] b low (rw reverse-cons at h)).0) (λ other. h)
 
 trim_text : (bs : List ℕ) → IsUtf8 bs → IsUtf8 (trim_spaces bs)
 trim_text bs h = back_text (reverse (trim_front bs)) (rw reverse-reverse (front_text bs h))
@@ -81,53 +70,37 @@ cell_text (Some i) r h = trim_text (unwrap_or (field_at r i) []) (field_text r i
 pub value_text : (indices : ColumnIndices) (k : ℕ) (r : Record) → AllText r → IsUtf8 (value indices k r)
 value_text indices k r h = cell_text (slice_index_or indices k None) r h
 
--- of records that are text, those after the first are
-pub text_rest : (all rest : List Record) (r : Record) → all ≡ r ∷ rest → AllRecordsText all → AllRecordsText rest
-text_rest all rest r e h = let t : AllRecordsText (r ∷ rest) = rw e at h in t.1
-
--- a column from an index on
-pub column_step : (name : List ℕ) (header : Record) (i : ℕ) → i < length header
-    → position_from (λ field. bytes_eq name (trim_spaces field)) i (drop i header)
-    ≡ (if bytes_eq name (cell (Some i) header) then Some i else position_from (λ field. bytes_eq name (trim_spaces field)) (i + 1) (drop (i + 1) header))
-column_step name header i h = let (f, is, rest) = field_there header i h in rw (rest, is) refl
-
--- the columns of lent names
-pub indices_names : (names : List (Bor (List ℕ))) (header : Record)
-    → map (λ name. column name.now header) names ≡ indices_of (map (λ name. name.now) names) header
-indices_names [] header = refl
-indices_names (n ∷ names) header = ap (λ indices. column n.now header ∷ indices) (indices_names names header)
+-- the columns of lent names, once all were looked for
+pub indices_taken : (names : List (Bor (List ℕ))) (n : ℕ) (header : Record) → length names ≤ n
+    → map (λ name. column name.now header) (take n names) ≡ indices_of (map (λ name. name.now) names) header
+indices_taken names n header all = rw take_all (indices_names names)
+  where
+    indices_names : (names : List (Bor (List ℕ))) → map (λ name. column name.now header) names ≡ indices_of (map (λ name. name.now) names) header
+    indices_names [] = refl
+    indices_names (n ∷ names) = ap (λ indices. column n.now header ∷ indices) (indices_names names)
 
 -- the test of a text
 pub is_text : (bytes : List ℕ) → (IsUtf8 bytes → is_utf8 bytes ≡ true) × (¬ (IsUtf8 bytes) → is_utf8 bytes ≡ false)
-is_text bytes = (is_utf8-from_IsUtf8 bytes, by (is_utf8 bytes) refl)
-  where
-    by : (b : Bool) → is_utf8 bytes ≡ b → ¬ (IsUtf8 bytes) → is_utf8 bytes ≡ false
-    by true e none = absurd (none (IsUtf8-from_is_utf8 bytes e))
-    by false e none = e
+is_text bytes = (is_utf8-from_IsUtf8 bytes, λ none. false_from_ne_true (is_utf8 bytes) (λ e. none (IsUtf8-from_is_utf8 bytes e)))
 
 -- the state isn't in a comment: the files of a feed have none
 abbrev pub IsOutside : State → Type 0
 IsOutside st.InComment = ⊥
 IsOutside _ = ⊤
 
--- the byte joins the field at hand or is one of ASCII, and begins no comment
+-- the state after a byte isn't in a comment, and a byte that isn't copied is one of ASCII
 abbrev pub Moves : State × Action → ℕ → Type 0
-Moves p c = IsOutside p.0 × ((p.1 ≡ act.Copy) ⊎ (c < 128))
-
-field_moves : (c : ℕ) → Moves (in_field default_config c) c
-field_moves c = grind (arith, nat_tests)
-
-start_moves : (c : ℕ) → Moves (start_record default_config c) c
-start_moves c = grind (arith, nat_tests, field_moves)
+Moves (t, act.Copy) c = IsOutside t
+Moves (t, _) c = IsOutside t × (c < 128)
 
 moves : (s : State) (c : ℕ) → IsOutside s → Moves (step default_config s c) c
-moves st.StartRecord c out = start_moves c
-moves st.StartField c out = grind (arith, nat_tests, field_moves)
-moves st.InField c out = field_moves c
+moves st.StartRecord c out = grind (arith, nat_tests)
+moves st.StartField c out = grind (arith, nat_tests)
+moves st.InField c out = grind (arith, nat_tests)
 moves st.InQuoted c out = grind (arith, nat_tests)
-moves st.AfterQuote c out = grind (arith, nat_tests, field_moves)
-moves st.AfterCr c out = grind (arith, nat_tests, start_moves)
-moves st.InEscape c out = (tt, inl refl)
+moves st.AfterQuote c out = grind (arith, nat_tests)
+moves st.AfterCr c out = grind (arith, nat_tests)
+moves st.InEscape c out = tt
 moves st.InComment c out = absurd out
 
 -- the next record of a text, and what is left of it, are text
@@ -149,21 +122,18 @@ next_text (c ∷ xs) s fields field p out ft u e =
         → ((t : State) (f : List (List ℕ)) (g : List ℕ) (p : Read) → IsOutside t → AllText f → IsUtf8 (g ++ xs)
         → next_record default_config t f g xs ≡ Some p → AllText p.0 × IsUtf8 p.2 × IsOutside p.1)
         → AllText p.0 × IsUtf8 p.2 × IsOutside p.1
-    by (t, act.Copy) is m go = go t fields (field ++ c ∷ []) p m.0 ft (rw append_assoc u) (rw is at e)
-    by (t, act.Skip) is (clear, inl bad) go = cc bad
-    by (t, act.Skip) is (clear, inr low) go =
-        let parts = cut field xs c low u in
-        go t fields field p clear ft (IsUtf8-append field xs parts.0 parts.1) (rw is at e)
-    by (t, act.EndField) is (clear, inl bad) go = cc bad
-    by (t, act.EndField) is (clear, inr low) go =
-        let parts = cut field xs c low u in
-        go t (fields ++ field ∷ []) [] p clear (text-more fields field ft parts.0) parts.1 (rw is at e)
-    by (t, act.EndRecord) is (clear, inl bad) go = cc bad
-    by (t, act.EndRecord) is (clear, inr low) go =
-        let parts = cut field xs c low u in
+    by (t, act.Copy) is m go = go t fields (field ++ c ∷ []) p m ft (rw append_assoc u) (rw is at e)
+    by (t, act.Skip) is m go =
+        let parts = cut field xs c m.1 u in
+        go t fields field p m.0 ft (IsUtf8-append field xs parts.0 parts.1) (rw is at e)
+    by (t, act.EndField) is m go =
+        let parts = cut field xs c m.1 u in
+        go t (fields ++ field ∷ []) [] p m.0 (text-more fields field ft parts.0) parts.1 (rw is at e)
+    by (t, act.EndRecord) is m go =
+        let parts = cut field xs c m.1 u in
         let q : Some (fields ++ (field ∷ []), t, xs) ≡ Some p = rw is at e in
         let r : (fields ++ (field ∷ []), t, xs) ≡ p = cc in
-        rw (← r) (text-more fields field ft parts.0, parts.1, clear)
+        rw (← r) (text-more fields field ft parts.0, parts.1, m.0)
 
 rows_text : (n : ℕ) (s : State) (xs : List ℕ) → IsOutside s → IsUtf8 xs → AllRecordsText (records_from default_config n s xs)
 unfolding records_from AllText
@@ -185,11 +155,8 @@ unfolding strip_bom
 bom_text [] u = u
 bom_text (a ∷ []) u = u
 bom_text (a ∷ b ∷ []) u = u
-bom_text (a ∷ b ∷ c ∷ rest) u = by (is_bom a b c) refl
-  where
-    by : (x : Bool) → is_bom a b c ≡ x → IsUtf8 (if is_bom a b c then rest else a ∷ b ∷ c ∷ rest)
-    by true e = rw e (IsUtf8-past_char (a ∷ b ∷ c ∷ rest) rest 65279 u (mark a b c rest e))
-    by false e = rw e u
+bom_text (a ∷ b ∷ c ∷ rest) u = text_if (is_bom a b c) (λ bs. bs) rest (a ∷ b ∷ c ∷ rest)
+    (λ is. IsUtf8-past_char (a ∷ b ∷ c ∷ rest) rest 65279 u (mark a b c rest is)) (λ other. u)
 
 pub records_text : (bytes : List ℕ) → IsUtf8 bytes → AllRecordsText (table_records bytes)
 records_text bytes u = rows_text (length (strip_bom bytes) + 1) st.StartRecord (strip_bom bytes) tt (bom_text bytes u)

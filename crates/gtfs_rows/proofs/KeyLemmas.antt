@@ -4,7 +4,7 @@ use Rattle.std.proofs.Common.{arith, String, Global, string_bytes, option_map}
 use Rattle.std.specs.List.{AllZip, find, list_any, slice_get}
 use Rattle.std.specs.Str.{bytes_eq}
 use Rattle.std.specs.String.{string_eq}
-use Rattle.std.proofs.lemmas.List.{map-append}
+use Rattle.std.proofs.lemmas.List.{length-map, map-append}
 use Rattle.std.proofs.lemmas.List.Sums.{fold-append}
 use Rattle.std.proofs.lemmas.Option.{slice_get-map}
 use Rattle.std.proofs.lemmas.Slice.Eq.{bytes_eq-Decides}
@@ -29,12 +29,12 @@ pub texts_more : (text : Record → List ℕ) (before : List Record) (r : Record
 texts_more text before r = map-append text before (r ∷ [])
 
 -- a text that all records must have, and one more record
-pub shared_more : (k : ℕ) (indices : ColumnIndices) (before : List Record) (r : Record) (old new : List (List ℕ))
-    → old ≡ texts_kept (keys.Shared k) indices before → new ≡ seen_also old (value indices k r)
-    → (length new ≤ 1 → (key_fault (keys.Shared k) indices before r ≡ None) × (new ≡ texts_kept (keys.Shared k) indices (before ++ r ∷ [])))
+pub shared_more : (k : ℕ) (indices : ColumnIndices) (before : List Record) (r : Record) (old : List (List ℕ)) (new : List (String Global))
+    → old ≡ texts_kept (keys.Shared k) indices before → map string_bytes new ≡ seen_also old (value indices k r)
+    → (length new ≤ 1 → (key_fault (keys.Shared k) indices before r ≡ None) × (map string_bytes new ≡ texts_kept (keys.Shared k) indices (before ++ r ∷ [])))
     × (1 < length new → key_fault (keys.Shared k) indices before r ≡ Some kinds.ZonesDiffer)
-shared_more k indices [] r old new held more = grind (arith, common_steps)
-shared_more k indices (first ∷ rest) r old new held more = grind (arith, common_steps)
+shared_more k indices [] r old new held more = let long = length-map new string_bytes in grind (arith, common_steps, long)
+shared_more k indices (first ∷ rest) r old new held more = let long = length-map new string_bytes in grind (arith, common_steps, long)
 
 -- an id of a set at its index
 pub stands : (keys : List (String Global)) (i : ℕ) (k : String Global) (id : List ℕ) → slice_get keys i ≡ Some k
@@ -77,15 +77,12 @@ pub ruleset insertion = (stands, seen_insert, any_map)
 pub stands_also : (texts : List (List ℕ)) (new : List ℕ) (k : ℕ) (text : List ℕ) → StandsAt texts k text → StandsAt (seen_also texts new) k text
 stands_also texts new k text h = let more = slice_get-append texts (new ∷ []) k text h in grind (arith, common_steps, more)
 
-pub stands_given : (texts : List (List ℕ)) (new : List ℕ) (k : ℕ) (text : List ℕ) → StandsAt texts k text → StandsAt (given_also texts new) k text
-stands_given texts [] k text h = h
-stands_given texts (b ∷ new) k text h = stands_also texts (b ∷ new) k text h
-
 -- rows of stop times as more ids are seen
 stop_id_also : (stops : List (List ℕ)) (new : List ℕ) (index : Option ℕ) (text : List ℕ) → IsStopId stops index text
     → IsStopId (given_also stops new) index text
-stop_id_also stops new None text h = h
-stop_id_also stops new (Some k) text h = (h.0, stands_given stops new k text h.1)
+stop_id_also stops [] index text h = h
+stop_id_also stops (b ∷ new) None text h = h
+stop_id_also stops (b ∷ new) (Some k) text h = (h.0, stands_also stops (b ∷ new) k text h.1)
 
 spells_also : (trips stops : List (List ℕ)) (trip stop : List ℕ) (indices : ColumnIndices) (records : List Record) (rows : List StopTimeRow)
     → AllZip (SpellsStopTime trips stops indices) records rows → AllZip (SpellsStopTime (seen_also trips trip) (given_also stops stop) indices) records rows
@@ -105,25 +102,17 @@ spells_also trips stops trip stop indices (r ∷ records) (row ∷ rows) h = (
   spells_also trips stops trip stop indices records rows h.1,
 )
 
--- the rows of one record more
-pub rows_more : (trips stops new_trips new_stops : List (List ℕ)) (trip stop : List ℕ) (indices : ColumnIndices)
-    (before : List Record) (r : Record) (rows new : List StopTimeRow) (row : StopTimeRow)
-    → new_trips ≡ seen_also trips trip → new_stops ≡ given_also stops stop → new ≡ rows ++ row ∷ []
-    → AllZip (SpellsStopTime trips stops indices) before rows → SpellsStopTime new_trips new_stops indices r row
-    → AllZip (SpellsStopTime new_trips new_stops indices) (before ++ r ∷ []) new
-rows_more trips stops new_trips new_stops trip stop indices before r rows new row t s n held spelled =
-    let earlier : AllZip (SpellsStopTime new_trips new_stops indices) before rows = rw (t, s) (spells_also trips stops trip stop indices before rows held) in
-    rw n (all_zip-push (SpellsStopTime new_trips new_stops indices) before rows r row earlier spelled)
-
 -- the stop times of one record more
 pub stop_times_more : (old new : StopTimes) (indices : ColumnIndices) (before : List Record) (r : Record) (row : StopTimeRow)
     → map string_bytes new.trips.keys ≡ seen_also (map string_bytes old.trips.keys) (value indices 0 r)
     → map string_bytes new.stops.keys ≡ given_also (map string_bytes old.stops.keys) (value indices 3 r) → new.rows.items ≡ old.rows.items ++ row ∷ []
     → SpellsStopTime (map string_bytes new.trips.keys) (map string_bytes new.stops.keys) indices r row → AreStopTimes indices before old
     → AreStopTimes indices (before ++ r ∷ []) new
-stop_times_more old new indices before r row t s n spelled held = record {
-  trips = ids_more seen_also 0 indices before r (map string_bytes old.trips.keys) (map string_bytes new.trips.keys) held.trips t;
-  stops = ids_more given_also 3 indices before r (map string_bytes old.stops.keys) (map string_bytes new.stops.keys) held.stops s;
-  rows = rows_more (map string_bytes old.trips.keys) (map string_bytes old.stops.keys) (map string_bytes new.trips.keys) (map string_bytes new.stops.keys)
-      (value indices 0 r) (value indices 3 r) indices before r old.rows.items new.rows.items row t s n held.rows spelled;
-}
+stop_times_more old new indices before r row t s n spelled held =
+    let spells = SpellsStopTime (map string_bytes new.trips.keys) (map string_bytes new.stops.keys) indices in
+    let earlier : AllZip spells before old.rows.items = rw (t, s) (spells_also _ _ _ _ indices before old.rows.items held.rows) in
+    record {
+      trips = ids_more seen_also 0 indices before r _ _ held.trips t;
+      stops = ids_more given_also 3 indices before r _ _ held.stops s;
+      rows = rw n (all_zip-push spells before old.rows.items r row earlier spelled);
+    }

@@ -50,14 +50,11 @@ rows_next s (c ∷ rest) p h =
     rw add-one (turns (length rest) (length p.2) p.1 p.2 (omega arith) (omega arith)) in
     rw (add-one, h) (ap (λ (rows : List Record). p.0 ∷ rows) same)
 
-rows_none : (s : State) (xs : List ℕ) → next_record default_config s [] [] xs ≡ None → records_at s xs ≡ []
-unfolding records_from
-rows_none s xs h = rw (add-one, h) refl
-
 -- a read of known bytes takes the first of their records, if they have one
 taken : (s s2 : State) (xs ys : List ℕ) (found : Bool) (fields : Record) (o : Option Read) → next_record default_config s [] [] xs ≡ o
     → NextIs o found fields s2 ys → MatchBool found (records_at s xs ≡ fields ∷ records_at s2 ys) (records_at s xs ≡ [])
-taken s s2 xs ys found fields None e found_none = rw found_none (rows_none s xs e)
+unfolding records_from
+taken s s2 xs ys found fields None e found_none = rw (found_none, add-one, e) refl
 taken s s2 xs ys found fields (Some p) e (is, same, state, rest) = rw (is, same, state, rest) (rows_next s xs p e)
 
 pub taken_of : (s s2 : State) (before after : Option (List ℕ)) (found : Bool) (fields : Record) → IsSome before

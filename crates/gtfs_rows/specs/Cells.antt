@@ -1,8 +1,9 @@
 -- The columns of a table, and the values that a record has in them.
-use Rattle.std.specs.Prelude.{◌==◌, if◌then◌else◌, ℕ, List, [], ◌∷◌, take, map, reverse, Option, Some, None, Bool, unwrap_or, is_some}
-use Rattle.std.specs.List.{list_all, position_from}
+use Rattle.std.specs.Prelude.{◌==◌, if◌then◌else◌, ℕ, List, [], ◌∷◌, length, take, map, reverse, Option, Some, None, Bool, unwrap_or, is_some}
+use Rattle.std.specs.List.{list_all}
 use Rattle.std.specs.Str.{bytes_eq}
 use Rattle.csv.specs.Records.{field_at}
+use Rattle.reasoning.specs.First.{first_below}
 use Rattle.gtfs_rows.specs.Source.{Record}
 
 -- the text without the spaces (32) at its start
@@ -18,9 +19,18 @@ trim_back bs = reverse (trim_front (reverse bs))
 abbrev pub trim_spaces : List ℕ → List ℕ
 trim_spaces bs = trim_back (trim_front bs)
 
+-- a record's value in a column, without spaces around it; blank if the column is absent
+abbrev pub cell : Option ℕ → Record → List ℕ
+cell None fields = []
+cell (Some i) fields = trim_spaces (unwrap_or (field_at fields i) [])
+
+-- the index of a column if it has this name
+abbrev pub named_at : List ℕ → Record → ℕ → Option ℕ
+named_at name header i = if bytes_eq name (cell (Some i) header) then Some i else None
+
 -- the index of the first column with this name, if there is one
 abbrev pub column : List ℕ → Record → Option ℕ
-column name header = position_from (λ field. bytes_eq name (trim_spaces field)) 0 header
+column name header = first_below (named_at name header) (length header)
 
 -- the index in the header of each of a table's columns
 abbrev pub ColumnIndices : Type 0
@@ -32,8 +42,3 @@ indices_of names header = map (λ name. column name header) names
 -- all required columns, which come first, are there
 abbrev pub has_required : ℕ → ColumnIndices → Bool
 has_required required indices = list_all is_some (take required indices)
-
--- a record's value in a column, without spaces around it; blank if the column is absent
-abbrev pub cell : Option ℕ → Record → List ℕ
-cell None fields = []
-cell (Some i) fields = trim_spaces (unwrap_or (field_at fields i) [])

@@ -1,5 +1,6 @@
 -- The first fault of records.
-use Rattle.std.specs.Prelude.{◌+◌, ◌==◌, if◌then◌else◌, ℕ, List, [], ◌∷◌, ◌++◌, length, Option, Some, None, Bool, true, false}
+use Rattle.std.specs.Prelude.{◌+◌, ◌==◌, if◌then◌else◌, ℕ, List, [], ◌∷◌, ◌++◌, length, option_map, Option, Some, None, Bool, true, false}
+use Rattle.std.specs.Option.{option_or}
 use Rattle.gtfs_rows.specs.Source.{Record}
 use Rattle.gtfs_rows.specs.declared.fault.FaultKind.{FaultKind}
 use Rattle.gtfs_rows.specs.declared.fault.FaultKind.TheVariants as kinds
@@ -12,15 +13,11 @@ Judge = List Record → Record → Option FaultKind
 abbrev pub length_first : ℕ → Judge → Judge
 length_first width judge before r = if length r == width then judge before r else Some kinds.RowLength
 
--- the fault of the record of this number, or else the first one behind it
-abbrev pub first_of : Option FaultKind → ℕ → Option (ℕ × FaultKind) → Option (ℕ × FaultKind)
-first_of (Some kind) n later = Some (n, kind)
-first_of None n later = later
-
 -- the first fault of the records that follow others, and the number of its record; the first of all records has number 1
 abbrev pub first_fault : Judge → List Record → List Record → Option (ℕ × FaultKind)
 first_fault judge before [] = None
-first_fault judge before (r ∷ rest) = first_of (judge before r) (length before + 1) (first_fault judge (before ++ r ∷ []) rest)
+first_fault judge before (r ∷ rest) =
+    option_or (option_map (λ kind. (length before + 1, kind)) (judge before r)) (first_fault judge (before ++ r ∷ []) rest)
 
 -- the first of two faults, if either is there
 abbrev pub or_fault : Option FaultKind → Option FaultKind → Option FaultKind

@@ -209,15 +209,12 @@ transfer_by (Some n) = if n == 0 then transfers.Recommended else
     (if n == 1 then transfers.Timed else (if n == 2 then transfers.Minimum else
     (if n == 3 then transfers.Impossible else transfers.Skipped)))
 
--- the kind of transfer of a transfer_type; blank counts as 0
-abbrev pub typed_transfer : List ℕ → TransferKind
-typed_transfer text = if is_blank text then transfers.Recommended else transfer_by (number_of text)
-
--- the kind of transfer of a record: skipped if it names a route or a trip
+-- the kind of transfer of a record: skipped if it names a route or a trip; a blank transfer_type counts as 0
 abbrev pub transfer_of : ColumnIndices → Record → TransferKind
 transfer_of indices r =
     if is_blank (value indices 4 r) && is_blank (value indices 5 r) && is_blank (value indices 6 r) && is_blank (value indices 7 r)
-    then typed_transfer (value indices 2 r) else transfers.Skipped
+    then (if is_blank (value indices 2 r) then transfers.Recommended else transfer_by (number_of (value indices 2 r)))
+    else transfers.Skipped
 
 -- the row has the ids of both ends, the kind of transfer, and the min_transfer_time, if it is a number
 pub record SpellsTransfer (indices : ColumnIndices) (r : Record) (row : TransferRow) : Type 0 where
@@ -295,15 +292,12 @@ key_of _ = keys.Nothing
 abbrev pub judge_of : Table → ColumnIndices → Judge
 judge_of table indices before r = or_fault (values_of table indices r) (key_fault (key_of table) indices before r)
 
--- what is wrong with a record of a table with this header
-abbrev pub judge_under : Table → Record → Judge
-judge_under table header = length_first (length header) (judge_of table (indices_of (columns_of table) header))
-
 -- the first fault of a table with these records, the header first, and the number of the record; 0 stands for the file
 abbrev pub fault_in : Table → List Record → Option (ℕ × FaultKind)
 fault_in table [] = Some (0, kinds.MissingColumn)
 fault_in table (header ∷ records) =
-    if has_required (required_of table) (indices_of (columns_of table) header) then first_fault (judge_under table header) [] records
+    if has_required (required_of table) (indices_of (columns_of table) header)
+    then first_fault (length_first (length header) (judge_of table (indices_of (columns_of table) header))) [] records
     else Some (0, kinds.MissingColumn)
 
 -- the first fault of a file's bytes: the whole file must be UTF-8, then the required columns must be there, then the

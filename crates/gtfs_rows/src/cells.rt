@@ -1,8 +1,7 @@
 //! The columns of a table, and the values that a record has in them.
 
-ghost use Rattle.std.specs.Prelude.{◌≡◌, ◌≤◌, length, map, IfOk, IsUtf8};
+ghost use Rattle.std.specs.Prelude.{◌≡◌, ◌≤◌, length, map, IfOk};
 ghost use Rattle.std.specs.Str.{is_utf8};
-ghost use Rattle.std.specs.String.{string_bytes};
 ghost use Rattle.csv.specs.Records.{fields_of};
 ghost use Rattle.gtfs_rows.specs.Cells.{cell as cell_of, column as column_of, has_required as are_there, indices_of};
 ghost use Rattle.gtfs_rows.specs.Cells.{trim_back, trim_front};
@@ -47,6 +46,7 @@ pub fn cell<'a>(fields: &'a ByteRecord, index: ColumnIndex) -> &'a [u8]
 }
 
 /// Returns the index of the first column with this name, if the header has one.
+#[tactic(auto, using(reasoning::proofs::FirstLemmas::searches))]
 pub fn column(header: &ByteRecord, name: &[u8]) -> ColumnIndex
     ensures { result ≡ column_of name.now (fields_of header.now) }
 {
@@ -59,6 +59,7 @@ pub fn column(header: &ByteRecord, name: &[u8]) -> ColumnIndex
 }
 
 // Returns the index of each named column in the header.
+#[tactic(auto, using(crate::proofs::CellLemmas::indices_taken))]
 pub(crate) fn indices(
     alloc: Global,
     header: &ByteRecord,
@@ -87,14 +88,4 @@ pub(crate) fn is_text(bytes: &[u8]) -> bool
     ensures { result ≡ is_utf8 bytes.now }
 {
     str::from_utf8(bytes).is_ok()
-}
-
-// Copies bytes that are known to be UTF-8 into a string.
-pub(crate) fn text_of(alloc: Global, bytes: &[u8]) -> Result<String, AllocError>
-    requires { IsUtf8 bytes.now }
-    ensures { IfOk result (λ s. string_bytes s ≡ bytes.now) }
-{
-    // the whole file was found to be UTF-8, so a cell isn't checked again
-    let text = unsafe { str::from_utf8_unchecked(bytes) };
-    String::from_str(alloc, text)
 }

@@ -21,7 +21,7 @@ pub enum Table {
     Frequencies,
 }
 
-/// What is wrong with a table. Columns are named as in the GTFS Schedule Reference.
+/// What is wrong with a table, each kind with its message. Columns are named as in the GTFS Schedule Reference.
 #[derive(Clone, Copy, Debug, PartialEq, Eq, Error)]
 pub enum FaultKind {
     /// A required file is missing, or both `calendar.txt` and `calendar_dates.txt` are.
@@ -30,10 +30,8 @@ pub enum FaultKind {
     /// The file lacks a required column, or has no header at all.
     #[error("a required column is missing")]
     MissingColumn = 2,
-    /// The file isn't UTF-8.
     #[error("the file isn't UTF-8")]
     BadUtf8 = 3,
-    /// The record has more or fewer fields than the header.
     #[error("the record has more or fewer fields than the header")]
     RowLength = 4,
     /// A field isn't a time: `H:MM:SS` or `HH:MM:SS`, minutes and seconds below 60. In `stop_times.txt` it may
@@ -53,13 +51,10 @@ pub enum FaultKind {
     /// No trip or place has the id that the record names, or a `parent_station` names a place that isn't a station.
     #[error("no record has the id")]
     UnknownId = 9,
-    /// The `agency_timezone` differs from that of the first agency.
     #[error("the time zone differs from that of the first agency")]
     ZonesDiffer = 10,
-    /// Two rows of a trip have the same `stop_sequence`.
     #[error("the trip has the stop_sequence twice")]
     SequenceTwice = 11,
-    /// The first or the last row of a trip has no time.
     #[error("the trip begins or ends without a time")]
     EndWithoutTime = 12,
     /// A trip arrives at a stop before the last departure given earlier in the trip, or after it departs from there.
@@ -75,10 +70,8 @@ pub enum FaultKind {
     /// There are more of something than are allowed, such as stops in `stops.txt` or trips in `trips.txt`.
     #[error("there are too many")]
     TooMany = 16,
-    /// Memory ran out.
     #[error("out of memory")]
     OutOfMemory = 17,
-    /// The `headway_secs` is 0.
     #[error("the headway is 0")]
     BadHeadway = 18,
 }

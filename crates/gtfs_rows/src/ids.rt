@@ -1,6 +1,6 @@
 //! Sets of ids, in the order in which they were first seen.
 
-ghost use Rattle.std.specs.Prelude.{◌≡◌, map, not, IfErr, IfOk, IfSome, IsUtf8, OnOk};
+ghost use Rattle.std.specs.Prelude.{◌≡◌, map, not, IfErr, IfOk, IfSome, OnOk};
 ghost use Rattle.std.specs.String.{string_bytes};
 ghost use Rattle.std.specs.List.{list_any};
 ghost use Rattle.std.specs.Str.{bytes_eq};
@@ -26,10 +26,7 @@ pub(crate) fn add_key(keys: &mut Ids, key: String) -> Result<(usize, bool), Faul
     ensures err { IfErr result (λ kind. kind ≡ FaultKind.OutOfMemory) }
     ensures hash { OnOk result (hasher_of keys.new ≡ hasher_of keys.old) }
 {
-    let Ok((index, is_new)) = keys.insert_full(key) else {
-        return Err(FaultKind::OutOfMemory);
-    };
-    Ok((index, is_new))
+    keys.insert_full(key).map_err(|_| FaultKind::OutOfMemory)
 }
 
 // Returns the index of an id, which is added at the end if it isn't there yet. The likely index is tried first.
@@ -39,9 +36,8 @@ pub(crate) fn index_of(
     alloc: Global,
     ids: &mut Ids,
     likely: Option<u32>,
-    id: &[u8],
+    id: &str,
 ) -> Result<u32, FaultKind>
-    requires { IsUtf8 id.now }
     ensures more { OnOk result (map string_bytes ids.new.keys ≡ seen_also (map string_bytes ids.old.keys) id.now) }
     ensures ok { IfOk result (λ index. StandsAt (map string_bytes ids.new.keys) index id.now) }
     ensures err { IfErr result (λ kind. kind ≡ FaultKind.OutOfMemory) }
@@ -50,26 +46,21 @@ pub(crate) fn index_of(
     if let Some(index) = id_at(ids, likely, id) {
         return Ok(index);
     }
-    // the whole file was found to be UTF-8, so a cell isn't checked again
-    let text = unsafe { str::from_utf8_unchecked(id) };
-    if let Some(index) = find_id(ids, text) {
+    if let Some(index) = find_id(ids, id) {
         return as_index(index);
     }
-    let Ok(owned) = String::from_str(alloc, text) else {
-        return Err(FaultKind::OutOfMemory);
-    };
-    let (index, _) = add_key(ids, owned)?;
-    as_index(index)
+    let owned = String::from_str(alloc, id).map_err(|_| FaultKind::OutOfMemory)?;
+    as_index(add_key(ids, owned)?.0)
 }
 
 // Returns the given index if the id is there.
 #[tactic(auto, using(crate::proofs::KeyLemmas::stands))]
-fn id_at(ids: &Ids, index: Option<u32>, id: &[u8]) -> Option<u32>
+fn id_at(ids: &Ids, index: Option<u32>, id: &str) -> Option<u32>
     ensures { IfSome result (λ index. StandsAt (map string_bytes ids.now.keys) index id.now) }
 {
     let index = index?;
     let there = ids.get_index(index as usize)?;
-    if id == there.as_bytes() {
+    if id == there.as_str() {
         Some(index)
     } else {
         None

@@ -1,13 +1,11 @@
 //! Tables with one row for each record; some of them have keys.
 
-ghost use Rattle.std.specs.Prelude.{◌≡◌, ◌≢◌, ◌++◌, ◌∷◌, List, [], None, Some, IfOk, IfErr, OnOk, ⊤, ◌<◌, ◌≤◌, length};
-ghost use Rattle.std.specs.Prelude.{map, true, false};
+ghost use Rattle.std.specs.Prelude.{◌≡◌, ◌≢◌, ◌++◌, ◌∷◌, List, [], map, None, Some, IfOk, IfErr, OnOk, ⊤, true, false};
 ghost use Rattle.std.specs.List.{AllZip, list_any};
 ghost use Rattle.std.specs.String.{string_bytes};
 ghost use Rattle.csv.specs.Records.{AllText};
 ghost use Rattle.indexmap.specs.IndexSet.{hasher_of};
 ghost use Rattle.std.specs.Str.{bytes_eq};
-ghost use Rattle.gtfs_rows.specs.Ids.{seen_also};
 ghost use Rattle.gtfs_rows.specs.Source.{Record, last_of};
 ghost use Rattle.gtfs_rows.specs.Cells.{ColumnIndices};
 ghost use Rattle.gtfs_rows.specs.Tables.{HoldsRows, IsFaultOf, AreKept, key_fault, values_of, key_of};
@@ -17,15 +15,14 @@ use crate::columns::Key;
 use crate::fault::{FaultKind, Table, TableFault};
 use crate::id_hash::IdHash;
 use crate::ids::{Ids, add_key};
+use crate::read::TableFile;
 use crate::reader::{TableRows, add_row, read_table};
 use crate::records::Records;
-use crate::table_file::TableFile;
 use indexmap::IndexSet;
 use std::alloc::Global;
 
 /// A row of a table.
 pub trait Row: Sized + Drop {
-    // The table to which the row belongs.
     ghost TABLE: { File };
     // The row has the values that the record spells.
     ghost spells: { ColumnIndices → Record → Self → Type 0 };
@@ -58,23 +55,8 @@ fn keep_new(kept: &mut Ids, text: String) -> Result<(), FaultKind>
     }
 }
 
-// Keeps the first record's text, which all records share: `ZonesDiffer` if a record has another.
-fn keep_shared(kept: &mut Ids, text: String) -> Result<(), FaultKind>
-    ensures ok { OnOk result ((map string_bytes kept.new.keys ≡ seen_also (map string_bytes kept.old.keys)
-        (string_bytes text)) × (length (map string_bytes kept.new.keys) ≤ 1)) }
-    ensures err { IfErr result (λ kind. kind ≢ FaultKind.OutOfMemory → (kind ≡ FaultKind.ZonesDiffer)
-        × (1 < length (seen_also (map string_bytes kept.old.keys) (string_bytes text)))) }
-    ensures hash { OnOk result (hasher_of kept.new ≡ hasher_of kept.old) }
-{
-    add_key(kept, text)?;
-    if kept.len() > 1 {
-        Err(FaultKind::ZonesDiffer)
-    } else {
-        Ok(())
-    }
-}
-
-// Keeps a record's key, or the text that all records share, or returns what is wrong with it.
+// Keeps a record's key, or the text that all records share, or returns what is wrong with it: `ZonesDiffer` if its
+// text isn't that of the first record.
 #[tactic(auto, using(crate::proofs::KeyLemmas::shared_more, crate::proofs::KeyLemmas::texts_more))]
 fn keep(alloc: Global, kept: &mut Ids, key: Key, records: &Records<'_>) -> Result<(), FaultKind>
     requires { AllText (last_of records.now) }
@@ -88,16 +70,22 @@ fn keep(alloc: Global, kept: &mut Ids, key: Key, records: &Records<'_>) -> Resul
 {
     match key {
         Key::Nothing => Ok(()),
-        Key::Column(column) => keep_new(kept, records.text(alloc, column)?),
+        Key::Column(column) => keep_new(kept, records.owned_text(alloc, column)?),
         Key::Columns(first, second) => {
-            let mut text = records.text(alloc, first)?;
-            let more = records.text(alloc, second)?;
-            if text.push_str(more.as_str()).is_err() {
+            let mut text = records.owned_text(alloc, first)?;
+            if text.push_str(records.text(second)).is_err() {
                 return Err(FaultKind::OutOfMemory);
             }
             keep_new(kept, text)
         }
-        Key::Shared(column) => keep_shared(kept, records.text(alloc, column)?),
+        Key::Shared(column) => {
+            add_key(kept, records.owned_text(alloc, column)?)?;
+            if kept.len() > 1 {
+                Err(FaultKind::ZonesDiffer)
+            } else {
+                Ok(())
+            }
+        }
     }
 }
 

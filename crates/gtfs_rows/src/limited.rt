@@ -1,19 +1,22 @@
 //! Tables with a limit on the number of their rows.
 
-ghost use Rattle.std.specs.Prelude.{◌≡◌, ◌≢◌, ℕ, List, IfOk, IfErr, ⊤};
-ghost use Rattle.gtfs_rows.specs.Tables.{HoldsRows, HoldsWithin, IsFaultWithin};
+ghost use Rattle.std.specs.Prelude.{◌≡◌, ◌≢◌, ℕ, List, IfOk, IfErr, count_by, length, ⊤};
+ghost use Rattle.gtfs_rows.specs.Tables.{HoldsRows, HoldsWithin, IsFaultWithin, is_stop, location_of};
+ghost use Rattle.gtfs_rows.specs.Values.{number_of};
+ghost use Rattle.gtfs_rows.specs.declared.read.TheConstants.{MAX_STOPS, MAX_TRIPS};
 
 use crate::fault::{FaultKind, Table, TableFault};
 use crate::id_hash::IdHash;
 use crate::keyed::Row;
-use crate::table_file::TableFile;
+use crate::read::{MAX_STOPS, MAX_TRIPS, TableFile};
+use crate::rows::{Location, StopRow, TripRow};
+use crate::values::number;
 use std::alloc::Global;
 
 /// A row of a table with a limit on the number of its rows.
 pub trait LimitedRow: Row {
-    // How many rows may count at most.
     ghost LIMIT: { ℕ };
-    // How many of the rows count towards the limit.
+
     ghost count: { List Self → ℕ };
 
     /// How many rows may count at most.
@@ -22,6 +25,45 @@ pub trait LimitedRow: Row {
     /// Returns how many of the rows count towards the limit.
     fn count(rows: &[Self]) -> usize
         ensures { result ≡ count rows.now };
+}
+
+/// Returns the kind of place that a location_type of `stops.txt` stands for.
+pub fn location(text: &[u8]) -> Location
+    ensures { result ≡ location_of (number_of text.now) }
+{
+    match number(text) {
+        Some(1) => Location::Station,
+        Some(2) => Location::Entrance,
+        Some(3) => Location::Node,
+        Some(4) => Location::BoardingArea,
+        _ => Location::Stop,
+    }
+}
+
+impl LimitedRow for StopRow {
+    ghost LIMIT = { MAX_STOPS };
+
+    ghost count = { count_by is_stop };
+
+    const LIMIT: usize = MAX_STOPS;
+
+    fn count(rows: &[StopRow]) -> usize {
+        rows.iter()
+            .filter(|row| row.location == Location::Stop)
+            .count()
+    }
+}
+
+impl LimitedRow for TripRow {
+    ghost LIMIT = { MAX_TRIPS };
+
+    ghost count = { length };
+
+    const LIMIT: usize = MAX_TRIPS;
+
+    fn count(rows: &[TripRow]) -> usize {
+        rows.len()
+    }
 }
 
 /// The rows of a file, within the limit of its table.
@@ -49,12 +91,11 @@ pub fn rows_up_to<R: LimitedRow>(
         → IsFaultWithin R.TABLE (HoldsRows R.TABLE R.spells) R.count limit bytes.now fault.row
         fault.kind) }
 {
-    let read: Result<Vec<R>, TableFault> = TableFile::read(alloc, hash, bytes);
-    match read {
-        Ok(rows) if R::count(&rows) > limit => Err(R::TABLE.fault(0, FaultKind::TooMany)),
-        Ok(rows) => Ok(rows),
-        Err(fault) => Err(fault),
+    let rows: Vec<R> = TableFile::read(alloc, hash, bytes)?;
+    if R::count(&rows) > limit {
+        return Err(R::TABLE.fault(0, FaultKind::TooMany));
     }
+    Ok(rows)
 }
 
 impl<R: LimitedRow> TableFile for RowsWithinLimit<R> {

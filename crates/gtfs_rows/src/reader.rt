@@ -15,7 +15,6 @@ use std::alloc::Global;
 
 // The rows of a table that were read so far.
 pub(crate) trait TableRows: Sized + Drop {
-    // Which table it is.
     ghost TABLE: { File };
     // The rows are those of the records.
     ghost holds: { ColumnIndices → List Record → Self → Type 0 };

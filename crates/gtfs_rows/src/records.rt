@@ -11,11 +11,10 @@ ghost use Rattle.gtfs_rows.specs.Positions.{line_at};
 ghost use Rattle.gtfs_rows.specs.Source.{IsFound, IsReading, IsSame, last_of, left_of, table_records};
 ghost use Rattle.gtfs_rows.specs.Values.{time_of};
 
-use crate::cells::{ColumnIndex, cell, has_required, indices, is_text, text_of};
-use crate::changes::repeated;
+use crate::cells::{ColumnIndex, cell, has_required, indices, is_text};
 use crate::fault::{FaultKind, Table};
 use crate::position::{LineCount, Position};
-use crate::services::{dated, weekly};
+use crate::rows::{dated, repeated, weekly};
 use crate::stop_times::stop_time;
 use crate::values::Time;
 use csv::{ByteRecord, Reader, ReaderBuilder};
@@ -133,13 +132,21 @@ impl<'a> Records<'a> {
         cell(&self.record, index)
     }
 
-    // Returns the same value as a string.
-    pub(crate) fn text(&self, alloc: Global, column: usize) -> Result<String, FaultKind>
+    // Returns the same value as text. The whole file was found to be UTF-8, so a cell isn't checked again.
+    pub(crate) fn text(&self, column: usize) -> &str
+        requires { AllText (last_of self.now) }
+        ensures { result.now ≡ shown self.now column }
+    {
+        unsafe { str::from_utf8_unchecked(self.get(column)) }
+    }
+
+    // Returns a copy of the same text.
+    pub(crate) fn owned_text(&self, alloc: Global, column: usize) -> Result<String, FaultKind>
         requires { AllText (last_of self.now) }
         ensures ok { IfOk result (λ s. string_bytes s ≡ shown self.now column) }
         ensures err { IfErr result (λ kind. kind ≡ FaultKind.OutOfMemory) }
     {
-        text_of(alloc, self.get(column)).map_err(|_| FaultKind::OutOfMemory)
+        String::from_str(alloc, self.text(column)).map_err(|_| FaultKind::OutOfMemory)
     }
 
     // Returns the time in a column, in seconds after the start of the service day. Blank is `BadTime` too.

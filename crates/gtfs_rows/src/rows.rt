@@ -1,12 +1,39 @@
-//! The rows of the tables, as structs.
+//! The rows of all tables but `stop_times.txt`, and how a record is read as one.
 
-use crate::values::Day;
+ghost use Rattle.std.specs.Prelude.{◌≡◌, None, Some, IfOk};
+ghost use Rattle.std.specs.Result.{result_err};
+ghost use Rattle.gtfs_rows.specs.Faults.{fault_unless};
+ghost use Rattle.gtfs_rows.specs.Source.{last_of};
+ghost use Rattle.gtfs_rows.specs.Tables.{SpellsAgency, SpellsCalendar, SpellsCalendarDate, SpellsFrequency, SpellsStop};
+ghost use Rattle.gtfs_rows.specs.Tables.{SpellsTransfer, SpellsTrip, calendar_date_fault, calendar_fault, exception_of};
+ghost use Rattle.gtfs_rows.specs.Tables.{frequency_row_fault, of_last, shown, transfer_of, weekday, weekdays_of};
+ghost use Rattle.gtfs_rows.specs.Values.{day_of, number_of, time_of};
+ghost use Rattle.gtfs_rows.specs.declared.fault.Table.TheVariants as files;
+
+use crate::fault::{FaultKind, Table};
+use crate::keyed::Row;
+use crate::limited::location;
+use crate::records::Records;
+use crate::values::{Day, number};
+use std::alloc::Global;
 
 /// An agency of `agency.txt`.
 #[derive(Debug, Drop)]
 pub struct AgencyRow {
     /// The agency_timezone.
     pub zone: String,
+}
+
+impl Row for AgencyRow {
+    ghost TABLE = { files.Agency };
+
+    ghost spells = { SpellsAgency };
+
+    const TABLE: Table = Table::Agency;
+
+    fn read(alloc: Global, records: &Records<'_>) -> Result<Self, FaultKind> {
+        records.owned_text(alloc, 0).map(|zone| AgencyRow { zone })
+    }
 }
 
 /// What a row of `stops.txt` stands for.
@@ -33,11 +60,41 @@ pub struct StopRow {
     pub parent: String,
 }
 
+impl Row for StopRow {
+    ghost TABLE = { files.Stops };
+
+    ghost spells = { SpellsStop };
+
+    const TABLE: Table = Table::Stops;
+
+    fn read(alloc: Global, records: &Records<'_>) -> Result<Self, FaultKind> {
+        Ok(StopRow {
+            id: records.owned_text(alloc, 0)?,
+            location: location(records.get(1)),
+            parent: records.owned_text(alloc, 2)?,
+        })
+    }
+}
+
 /// A trip of `trips.txt`.
 #[derive(Debug, Drop)]
 pub struct TripRow {
     pub service: String,
     pub id: String,
+}
+
+impl Row for TripRow {
+    ghost TABLE = { files.Trips };
+
+    ghost spells = { SpellsTrip };
+
+    const TABLE: Table = Table::Trips;
+
+    fn read(alloc: Global, records: &Records<'_>) -> Result<Self, FaultKind> {
+        let service = records.owned_text(alloc, 0)?;
+        let id = records.owned_text(alloc, 1)?;
+        Ok(TripRow { service, id })
+    }
 }
 
 /// A row of `stop_times.txt`. Its trip and its stop are indices of the table's trip_ids and stop_ids.
@@ -66,6 +123,73 @@ pub struct CalendarRow {
     pub end: Day,
 }
 
+// Returns the date in a column: `BadDate` if it isn't one.
+fn day_in(records: &Records<'_>, column: usize) -> Result<Day, FaultKind>
+    ensures ok { IfOk result (λ d. day_of (shown records.now column) ≡ Some d) }
+    ensures fault { result_err result ≡ fault_unless (day_of (shown records.now column)) FaultKind.BadDate }
+{
+    Day::parse(records.get(column)).map_err(|_| FaultKind::BadDate)
+}
+
+// Returns whether a service runs on the weekday of a column; none if the value is neither 0 nor 1.
+fn weekday_in(records: &Records<'_>, column: usize) -> Option<bool>
+    ensures { result ≡ weekday records.now.indices.items (last_of records.now) column }
+{
+    match number(records.get(column))? {
+        0 => Some(false),
+        1 => Some(true),
+        _ => None,
+    }
+}
+
+// Returns on which weekdays a service runs, Monday first; none if a value is neither 0 nor 1.
+fn weekdays(records: &Records<'_>) -> Option<[bool; 7]>
+    ensures { result ≡ of_last weekdays_of records.now }
+{
+    Some([
+        weekday_in(records, 1)?,
+        weekday_in(records, 2)?,
+        weekday_in(records, 3)?,
+        weekday_in(records, 4)?,
+        weekday_in(records, 5)?,
+        weekday_in(records, 6)?,
+        weekday_in(records, 7)?,
+    ])
+}
+
+// Returns the weekdays, the first and the last day of a record, or what is wrong with them.
+pub(crate) fn weekly(records: &Records<'_>) -> Result<([bool; 7], Day, Day), FaultKind>
+    ensures weekdays { IfOk result (λ v. of_last weekdays_of records.now ≡ Some v.0) }
+    ensures start { IfOk result (λ v. day_of (shown records.now 8) ≡ Some v.1) }
+    ensures end { IfOk result (λ v. day_of (shown records.now 9) ≡ Some v.2) }
+    ensures fault { result_err result ≡ of_last calendar_fault records.now }
+{
+    let Some(weekdays) = weekdays(records) else {
+        return Err(FaultKind::BadNumber);
+    };
+    let start = day_in(records, 8)?;
+    let end = day_in(records, 9)?;
+    Ok((weekdays, start, end))
+}
+
+impl Row for CalendarRow {
+    ghost TABLE = { files.Calendar };
+
+    ghost spells = { SpellsCalendar };
+
+    const TABLE: Table = Table::Calendar;
+
+    fn read(alloc: Global, records: &Records<'_>) -> Result<Self, FaultKind> {
+        let (weekdays, start, end) = weekly(records)?;
+        Ok(CalendarRow {
+            service: records.owned_text(alloc, 0)?,
+            weekdays,
+            start,
+            end,
+        })
+    }
+}
+
 /// Whether a day is added to a service or removed from it.
 #[derive(Clone, Copy, Debug, PartialEq, Eq)]
 pub enum Exception {
@@ -79,6 +203,37 @@ pub struct CalendarDateRow {
     pub service: String,
     pub day: Day,
     pub exception: Exception,
+}
+
+// Returns the day of a record and what happens on it, or what is wrong with them.
+pub(crate) fn dated(records: &Records<'_>) -> Result<(Day, Exception), FaultKind>
+    ensures day { IfOk result (λ v. day_of (shown records.now 1) ≡ Some v.0) }
+    ensures exception { IfOk result (λ v. exception_of (number_of (shown records.now 2)) ≡ Some v.1) }
+    ensures fault { result_err result ≡ of_last calendar_date_fault records.now }
+{
+    let day = day_in(records, 1)?;
+    match number(records.get(2)) {
+        Some(1) => Ok((day, Exception::Added)),
+        Some(2) => Ok((day, Exception::Removed)),
+        _ => Err(FaultKind::BadNumber),
+    }
+}
+
+impl Row for CalendarDateRow {
+    ghost TABLE = { files.CalendarDates };
+
+    ghost spells = { SpellsCalendarDate };
+
+    const TABLE: Table = Table::CalendarDates;
+
+    fn read(alloc: Global, records: &Records<'_>) -> Result<Self, FaultKind> {
+        let (day, exception) = dated(records)?;
+        Ok(CalendarDateRow {
+            service: records.owned_text(alloc, 0)?,
+            day,
+            exception,
+        })
+    }
 }
 
 /// What kind of transfer a row of `transfers.txt` describes.
@@ -96,6 +251,29 @@ pub enum TransferKind {
     Skipped,
 }
 
+/// Returns the kind of transfer of a record of `transfers.txt`: `Skipped` if it names a route or a trip.
+pub fn transfer_kind(records: &Records<'_>) -> TransferKind
+    ensures { result ≡ of_last transfer_of records.now }
+{
+    let of_stops = records.get(4).is_empty()
+        && records.get(5).is_empty()
+        && records.get(6).is_empty()
+        && records.get(7).is_empty();
+    if !of_stops {
+        return TransferKind::Skipped;
+    }
+    if records.get(2).is_empty() {
+        return TransferKind::Recommended;
+    }
+    match number(records.get(2)) {
+        Some(0) => TransferKind::Recommended,
+        Some(1) => TransferKind::Timed,
+        Some(2) => TransferKind::Minimum,
+        Some(3) => TransferKind::Impossible,
+        _ => TransferKind::Skipped,
+    }
+}
+
 /// A row of `transfers.txt`.
 #[derive(Debug, Drop)]
 pub struct TransferRow {
@@ -104,6 +282,23 @@ pub struct TransferRow {
     pub kind: TransferKind,
     /// The min_transfer_time in seconds, if it is a number.
     pub seconds: Option<u32>,
+}
+
+impl Row for TransferRow {
+    ghost TABLE = { files.Transfers };
+
+    ghost spells = { SpellsTransfer };
+
+    const TABLE: Table = Table::Transfers;
+
+    fn read(alloc: Global, records: &Records<'_>) -> Result<Self, FaultKind> {
+        Ok(TransferRow {
+            from: records.owned_text(alloc, 0)?,
+            to: records.owned_text(alloc, 1)?,
+            kind: transfer_kind(records),
+            seconds: number(records.get(3)),
+        })
+    }
 }
 
 /// A row of `frequencies.txt`: the trip starts at the start time, and again after each headway, before the end
@@ -117,4 +312,38 @@ pub struct FrequencyRow {
     pub end: u32,
     /// Seconds from one start to the next.
     pub headway: u32,
+}
+
+// Returns the start, the end and the headway of a record, or what is wrong with them.
+pub(crate) fn repeated(records: &Records<'_>) -> Result<(u32, u32, u32), FaultKind>
+    ensures start { IfOk result (λ v. time_of (shown records.now 1) ≡ Some v.0) }
+    ensures end { IfOk result (λ v. time_of (shown records.now 2) ≡ Some v.1) }
+    ensures headway { IfOk result (λ v. number_of (shown records.now 3) ≡ Some v.2) }
+    ensures fault { result_err result ≡ of_last frequency_row_fault records.now }
+{
+    let start = records.time(1)?;
+    let end = records.time(2)?;
+    match number(records.get(3)) {
+        None => Err(FaultKind::BadNumber),
+        Some(0) => Err(FaultKind::BadHeadway),
+        Some(headway) => Ok((start, end, headway)),
+    }
+}
+
+impl Row for FrequencyRow {
+    ghost TABLE = { files.Frequencies };
+
+    ghost spells = { SpellsFrequency };
+
+    const TABLE: Table = Table::Frequencies;
+
+    fn read(alloc: Global, records: &Records<'_>) -> Result<Self, FaultKind> {
+        let (start, end, headway) = repeated(records)?;
+        Ok(FrequencyRow {
+            trip: records.owned_text(alloc, 0)?,
+            start,
+            end,
+            headway,
+        })
+    }
 }

@@ -1,25 +1,22 @@
 //! stop_times.txt, the longest table: rows have numbers in place of ids, and each id is kept once.
 
-ghost use Rattle.std.specs.Prelude.{◌≡◌, ◌≢◌, ◌<◌, ◌∷◌, [], map, IfOk, IfErr, OnOk, IsUtf8, None, Some};
+ghost use Rattle.std.specs.Prelude.{◌≡◌, ◌∷◌, [], map, IfOk, IfErr, OnOk, None, Some};
 ghost use Rattle.std.specs.Result.{result_err};
 ghost use Rattle.std.specs.String.{string_bytes};
-ghost use Rattle.csv.specs.Records.{AllText};
-ghost use Rattle.gtfs_rows.specs.Faults.{fault_unless};
 ghost use Rattle.gtfs_rows.specs.Tables.{IsFaultOf, AreStopTimes, IsStopId, given_time, is_available, stop_time_fault};
-ghost use Rattle.gtfs_rows.specs.Tables.{SpellsStopTime, of_last, shown, time_fault, HoldsStopTimes};
-ghost use Rattle.gtfs_rows.specs.Ids.{given_also, seen_also};
+ghost use Rattle.gtfs_rows.specs.Tables.{of_last, shown, time_fault, HoldsStopTimes};
+ghost use Rattle.gtfs_rows.specs.Ids.{given_also};
 ghost use Rattle.indexmap.specs.IndexSet.{hasher_of};
-ghost use Rattle.gtfs_rows.specs.Source.{last_of};
 ghost use Rattle.gtfs_rows.specs.Values.{number_of};
 ghost use Rattle.gtfs_rows.specs.declared.fault.Table.TheVariants as files;
 
 use crate::fault::{FaultKind, Table, TableFault};
 use crate::id_hash::IdHash;
 use crate::ids::{Ids, index_of};
+use crate::read::TableFile;
 use crate::reader::{TableRows, add_row, read_table};
 use crate::records::Records;
 use crate::rows::StopTimeRow;
-use crate::table_file::TableFile;
 use crate::values::number;
 use indexmap::IndexSet;
 use std::alloc::Global;
@@ -44,22 +41,11 @@ fn time_in(records: &Records<'_>, column: usize) -> Result<Option<u32>, FaultKin
     records.time(column).map(Some)
 }
 
-// Returns the number in a column: `BadNumber` if it isn't one.
-fn number_in(records: &Records<'_>, column: usize) -> Result<u32, FaultKind>
-    ensures ok { IfOk result (λ n. number_of (shown records.now column) ≡ Some n) }
-    ensures fault { result_err result ≡ fault_unless (number_of (shown records.now column)) FaultKind.BadNumber }
-{
-    number(records.get(column)).ok_or(FaultKind::BadNumber)
-}
-
 // Returns whether a pickup_type or a drop_off_type lets passengers board or alight: any but 1 does.
 fn available(text: &[u8]) -> bool
     ensures { result ≡ is_available (number_of text.now) }
 {
-    match number(text) {
-        Some(kind) => kind != 1,
-        None => true,
-    }
+    number(text) != Some(1)
 }
 
 // Returns the index of a stop_id, which is added if it isn't there yet; none if it is blank. The likely index is
@@ -68,9 +54,8 @@ fn stop_index(
     alloc: Global,
     stops: &mut Ids,
     likely: Option<u32>,
-    id: &[u8],
+    id: &str,
 ) -> Result<Option<u32>, FaultKind>
-    requires { IsUtf8 id.now }
     ensures more { OnOk result (map string_bytes stops.new.keys ≡ given_also (map string_bytes stops.old.keys) id.now) }
     ensures ok { IfOk result (λ index. IsStopId (map string_bytes stops.new.keys) index id.now) }
     ensures err { IfErr result (λ kind. kind ≡ FaultKind.OutOfMemory) }
@@ -79,8 +64,7 @@ fn stop_index(
     if id.is_empty() {
         return Ok(None);
     }
-    let index = index_of(alloc, stops, likely, id)?;
-    Ok(Some(index))
+    index_of(alloc, stops, likely, id).map(Some)
 }
 
 // Returns the arrival, the departure and the stop_sequence of a record, or what is wrong with them.
@@ -92,45 +76,8 @@ pub(crate) fn stop_time(records: &Records<'_>) -> Result<(Option<u32>, Option<u3
 {
     let arrival = time_in(records, 1)?;
     let departure = time_in(records, 2)?;
-    let sequence = number_in(records, 4)?;
+    let sequence = number(records.get(4)).ok_or(FaultKind::BadNumber)?;
     Ok((arrival, departure, sequence))
-}
-
-// Returns the row of a record, whose ids are added if they aren't there yet, or what is wrong with the record. The
-// likely index of the stop_id is tried first.
-fn stop_time_row(
-    times: &mut StopTimes,
-    alloc: Global,
-    likely: Option<u32>,
-    records: &Records<'_>,
-) -> Result<StopTimeRow, FaultKind>
-    requires { AllText (last_of records.now) }
-    ensures row { IfOk result (SpellsStopTime (map string_bytes times.new.trips.keys)
-        (map string_bytes times.new.stops.keys) records.now.indices.items (last_of records.now)) }
-    ensures fine { OnOk result (of_last stop_time_fault records.now ≡ None) }
-    ensures trips { OnOk result (map string_bytes times.new.trips.keys
-        ≡ seen_also (map string_bytes times.old.trips.keys) (shown records.now 0)) }
-    ensures stops { OnOk result (map string_bytes times.new.stops.keys
-        ≡ given_also (map string_bytes times.old.stops.keys) (shown records.now 3)) }
-    ensures rows { times.new.rows ≡ times.old.rows }
-    ensures err { IfErr result (λ kind. kind ≢ FaultKind.OutOfMemory
-        → of_last stop_time_fault records.now ≡ Some kind) }
-    ensures trip_hash { OnOk result (hasher_of times.new.trips ≡ hasher_of times.old.trips) }
-    ensures stop_hash { OnOk result (hasher_of times.new.stops ≡ hasher_of times.old.stops) }
-{
-    let (arrival, departure, sequence) = stop_time(records)?;
-    let before = times.rows.last().map(|row| row.trip);
-    let trip = index_of(alloc, &mut times.trips, before, records.get(0))?;
-    let stop = stop_index(alloc, &mut times.stops, likely, records.get(3))?;
-    Ok(StopTimeRow {
-        trip,
-        arrival,
-        departure,
-        stop,
-        sequence,
-        board: available(records.get(5)),
-        alight: available(records.get(6)),
-    })
 }
 
 // The stop times read so far, and what is needed to guess the next row's stop: trips of a line are usually listed
@@ -144,16 +91,24 @@ struct StopTimesRead {
     followers: Vec<u32>,
 }
 
-// Notes which index followed this one. Each index but the newest has an entry, so a missing one is added at the end.
-fn note_follower(followers: &mut Vec<u32>, index: u32, next: u32) -> Result<(), FaultKind>
-    ensures { IfErr result (λ kind. kind ≡ FaultKind.OutOfMemory) }
-{
-    let at = index as usize;
-    if at < followers.len() {
-        followers[at] = next;
-        return Ok(());
+impl StopTimesRead {
+    // Notes a row's stop, if it has one, as that which followed the last stop. Each index but the newest has an entry,
+    // so a missing one is added at the end.
+    fn follow(&mut self, stop: Option<u32>) -> Result<(), FaultKind>
+        ensures same { OnOk result (self.new.times ≡ self.old.times) }
+        ensures err { IfErr result (λ kind. kind ≡ FaultKind.OutOfMemory) }
+    {
+        let Some(stop) = stop else {
+            return Ok(());
+        };
+        let at = self.last as usize;
+        self.last = stop;
+        if at < self.followers.len() {
+            self.followers[at] = stop;
+            return Ok(());
+        }
+        add_row(&mut self.followers, stop)
     }
-    add_row(followers, next)
 }
 
 impl TableRows for StopTimesRead {
@@ -166,14 +121,22 @@ impl TableRows for StopTimesRead {
     const TABLE: Table = Table::StopTimes;
 
     fn add(&mut self, alloc: Global, records: &Records<'_>) -> Result<(), FaultKind> {
-        let likely = self.followers.get(self.last as usize).copied();
-        let row = stop_time_row(&mut self.times, alloc, likely, records)?;
-        add_row(&mut self.times.rows, row)?;
-        if let Some(stop) = row.stop {
-            note_follower(&mut self.followers, self.last, stop)?;
-            self.last = stop;
-        }
-        Ok(())
+        let (arrival, departure, sequence) = stop_time(records)?;
+        let likely_trip = self.times.rows.last().map(|row| row.trip);
+        let likely_stop = self.followers.get(self.last as usize).copied();
+        let trip = index_of(alloc, &mut self.times.trips, likely_trip, records.text(0))?;
+        let stop = stop_index(alloc, &mut self.times.stops, likely_stop, records.text(3))?;
+        self.follow(stop)?;
+        let row = StopTimeRow {
+            trip,
+            arrival,
+            departure,
+            stop,
+            sequence,
+            board: available(records.get(5)),
+            alight: available(records.get(6)),
+        };
+        add_row(&mut self.times.rows, row)
     }
 }
 

@@ -18,9 +18,7 @@ mod trip_faults;
 pub use gtfs_rows::{
     AgencyRow, CalendarDateRow, CalendarRow, DateFault, Day, Exception, FaultKind, FrequencyRow,
     IdHash, Location, MAX_STOPS, MAX_TRIPS, RowsWithinLimit, StopRow, StopTimeRow, StopTimes,
-    Table, TableFault, TableFile, Time, TimeFault, TransferKind, TransferRow, TripRow, read_agency,
-    read_calendar, read_calendar_dates, read_frequencies, read_stop_times, read_stops,
-    read_transfers, read_trips,
+    Table, TableFault, TableFile, Time, TimeFault, TransferKind, TransferRow, TripRow,
 };
 pub use joining::join;
 pub use names::{StopIdTarget, end_fault, parent_fault, stop_fault};

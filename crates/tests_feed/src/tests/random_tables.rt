@@ -2,7 +2,7 @@
 
 use super::texts::fault_text;
 use csv::{ByteRecord, Reader, ReaderBuilder};
-use gtfs_rows::{TableFault, TransferRow, read_transfers};
+use gtfs_rows::{IdHash, TableFault, TableFile, TransferRow};
 use std::alloc::{AllocError, Global};
 use std::fmt::Write;
 use std::process::Abort;
@@ -139,7 +139,8 @@ fn reported(
 
 fn try_table(rt: &impl Abort, alloc: Global, table: &str) -> Result<(), Fail> {
     let wanted = report_by_csv(alloc, table.as_bytes())?;
-    let given = reported(alloc, read_transfers(alloc, table.as_bytes()))?;
+    let read = TableFile::read(alloc, IdHash::of_key(0), table.as_bytes());
+    let given = reported(alloc, read)?;
     assert_eq!(rt; given.as_str(), wanted.as_str(), "{table}");
     Ok(())
 }

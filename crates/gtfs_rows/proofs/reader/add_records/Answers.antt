@@ -1,7 +1,6 @@
 use Rattle.std.proofs.Common.{◌≡◌, ◌∷◌, ◌∙◌, [], take}
 use Rattle.gtfs_rows.specs.Source.{last_of, left_of}
 use Rattle.gtfs_rows.specs.Tables.{judge_by}
-use Rattle.gtfs_rows.proofs.CellLemmas.{text_rest}
 use Rattle.gtfs_rows.proofs.FaultLemmas.{closed, judged, opened}
 use Rattle.gtfs_rows.proofs.reader.add_records.Goals as goal
 
@@ -41,7 +40,7 @@ loop-taken-preserved g c =
     (last_of c.advance.new.self) here (rw next at c.loop-taken.invariant.fault) in
     record {
       reading = c.in-Ok-true.ensures.reading c.loop-taken.invariant.reading;
-      text = text_rest (left_of c.loop-taken.records) (left_of c.advance.new.self) (last_of c.advance.new.self) next c.loop-taken.invariant.text;
+      text = (rw next at c.loop-taken.invariant.text).1;
       left = after;
       same = record { indices = indices; width = width; lines = c.in-Ok-true.ensures.same.lines ∙ c.loop-taken.invariant.same.lines };
       fault = found.0 good.0;

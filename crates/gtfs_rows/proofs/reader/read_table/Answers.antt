@@ -2,18 +2,17 @@ use Rattle.std.proofs.Common.{◌≡◌, ◌∙◌, [], List, ℕ, refl}
 use Rattle.std.proofs.lemmas.Result.{IfErr-weaker, IfOk-weaker}
 use Rattle.std.proofs.lemmas.Str.{IsUtf8-from_is_utf8}
 use Rattle.gtfs_rows.specs.Faults.{first_fault}
-use Rattle.gtfs_rows.specs.Source.{last_of, left_of, table_records}
+use Rattle.gtfs_rows.specs.Source.{left_of}
 use Rattle.gtfs_rows.specs.Tables.{IsOpened, fault_of, judge_by}
 use Rattle.gtfs_rows.specs.declared.fault.Table.{Table}
 use Rattle.gtfs_rows.specs.declared.records.Records.{Records}
-use Rattle.gtfs_rows.proofs.CellLemmas.{records_text, text_rest}
+use Rattle.gtfs_rows.proofs.CellLemmas.{records_text}
 use Rattle.gtfs_rows.proofs.reader.read_table.Goals as goal
 
 pub add_records-requires-clause-text : goal.add_records-requires-clause-text
 add_records-requires-clause-text g c =
     let o = c.in-Ok.ensures.ok in
-    text_rest (table_records c.args.bytes.now) (left_of c.in-Ok.records) (last_of c.in-Ok.records) o.records (records_text c.args.bytes.now
-    (IsUtf8-from_is_utf8 c.args.bytes.now o.text))
+    (rw o.records at (records_text c.args.bytes.now (IsUtf8-from_is_utf8 c.args.bytes.now o.text))).1
 
 -- the first fault of an opened file's records is that of the file
 opened_fault : (table : Table) (bytes : List ℕ) (r : Records) → IsOpened table bytes r → fault_of table bytes ≡ first_fault (judge_by table r) [] (left_of r)
