@@ -1,7 +1,7 @@
 -- What `csa` prints and writes, and with which status it ends.
 use Rattle.std.specs.Prelude.{◌≡◌, ◌≢◌, ◌⊎◌, ℕ, List, Option, Result, Ok, Err, codes, string_bytes}
 use Rattle.std.specs.Io.KnownBytes.{Appends}
-use Rattle.feed_files.specs.Files.{MayGive}
+use Rattle.feed_files.specs.Files.{Gives}
 use Rattle.image_files.specs.Held.{HoldsOfBytes}
 use Rattle.image_files.specs.Out.{OutFiles}
 use Rattle.image_layout.specs.Image.{ImageValue}
@@ -41,8 +41,8 @@ pub record IsTableEnd (may_hold : List ℕ → Option (List ℕ) → Type 0) (di
       × IsTableCutShort may_hold image request before after)
   pub silent : request.out.now ≢ codes "-" → status ≡ OUT_OF_MEMORY → after ≡ before
 
--- `gives` says what a disk of some kind may give for a folder and the name of a file, and `disk` what is known of files that are written
-module _ {D : Type 0} (may_hold : List ℕ → Option (List ℕ) → Type 0) (gives : D → List ℕ → MayGive) (disk : OutFiles) (input : Option (List ℕ)) where
+-- `gives` says what a disk of some kind may give for a folder in some state and the name of a file, and `disk` what is known of files that are written
+module _ {D : Type 0} (may_hold : List ℕ → Option (List ℕ) → Type 0) (gives : Gives D) (disk : OutFiles) (input : Option (List ℕ)) where
   -- a command ended so, over the image at its path, or over the files of its folder. Nothing is said of a server
   abbrev pub IsEnd : CommandRequest → ℕ → Option (List ℕ) → Option (List ℕ) → Type 0
   IsEnd (requests.Verify image) = IsOutcome (PrintsOver may_hold image.now input (λ i. PrintsAsked may_hold disk i (images.Verify image)))

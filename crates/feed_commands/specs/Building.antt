@@ -6,7 +6,7 @@ use Rattle.feed_loader.specs.declared.fault.LoadFault.{LoadFault}
 use Rattle.feed_commands.specs.declared.build.Failure.{Failure}
 use Rattle.feed_commands.specs.declared.build.Failure.TheVariants.{Refused, Unreadable, Unwritten, OutOfMemory}
 use Rattle.command_requests.specs.declared.requests.BuildRequest.{BuildRequest}
-use Rattle.feed_files.specs.Files.{MayGive}
+use Rattle.feed_files.specs.Files.{Gives}
 use Rattle.image_files.specs.Out.{OutFiles}
 use Rattle.image_files.specs.Writing.{IsImagePut}
 use Rattle.timetable.specs.NamesValue.{NamesValue}
@@ -36,7 +36,7 @@ unfoldable pub report_line : Report → List ℕ
 report_line report = made_text report ++ changed_text report ++ codes "\n"
 
 -- the image of the folder's files was put at the path that was asked for, and the line has its counts
-abbrev pub IsReportLine : {D : Type 0} → (D → List ℕ → MayGive) → (List ℕ → Option (List ℕ) → Type 0) → OutFiles → BuildRequest → List ℕ → Type 0
+abbrev pub IsReportLine : {D : Type 0} → Gives D → (List ℕ → Option (List ℕ) → Type 0) → OutFiles → BuildRequest → List ℕ → Type 0
 IsReportLine gives may_hold disk request line =
     (t : TimetableValue) × (names : NamesValue) × (report : Report)
     × IsBuiltFrom gives request.folder.now may_hold request.plan t names report × IsImagePut disk request.out.now t names

@@ -2,16 +2,15 @@
 use Rattle.std.specs.Prelude.{◌⊎◌, ℕ, List, [], All, Bool, Err, Option, false, true}
 use Rattle.connections.specs.declared.report.Report.{Report}
 use Rattle.feed_days.specs.Days.{AreDayLines, IsDaysJson}
-use Rattle.feed_files.specs.Files.{FileRead, MayBeRead, MayFail, MayGive}
+use Rattle.feed_files.specs.Files.{FileRead, Gives, MayBeRead, MayFail}
 use Rattle.feed_files.specs.Reading.{Content, HoldsTables}
 use Rattle.feed_files.specs.Reads.{AreRead, MayHold, SomeWereRead, all_tables}
+use Rattle.feed_files.specs.declared.disk.NodeState.{NodeState}
 use Rattle.feed_loader.specs.Faults.{failed_by}
 use Rattle.feed_loader.specs.Refused.{AreFilesRefused, AreTablesRefused, IsLoadRefusal, IsLoaded}
 use Rattle.feed_loader.specs.declared.fault.LoadFault.{LoadFault}
-use Rattle.feed_loader.specs.declared.fault.LoadFault.TheVariants as faults
 use Rattle.feed_loader.specs.declared.plan.Plan.{Plan}
 use Rattle.feed_plans.specs.Zoning.{IsNoZoneOf, IsPlanAsked}
-use Rattle.gtfs_rows.specs.FaultNumber.{file_name}
 use Rattle.gtfs_rows.specs.declared.fault.Table.{Table}
 use Rattle.command_requests.specs.declared.plans.PlanText.{PlanText}
 use Rattle.gtfs_tables.specs.Feeds.{IsJoined}
@@ -20,12 +19,15 @@ use Rattle.gtfs_tables.specs.declared.tables.Tables.{Tables}
 use Rattle.timetable.specs.NamesValue.{NamesValue}
 use Rattle.timetable.specs.TimetableValue.{TimetableValue}
 
--- the first files of a folder were read, and some disk may give what was read; and this holds of every content that agrees with these reads
-pub record HoldsOfRead {D : Type 0} (gives : D → List ℕ → MayGive) (folder : List ℕ) (Is : Content → Type 0) : Type 0 where
+-- the first files of a folder were read; in one state of the folder some disk may give what was read, and may fail to read the files that failed; and
+-- this holds of every content that agrees with these reads
+pub record HoldsOfRead {D : Type 0} (gives : Gives D) (folder : List ℕ) (failed : List (List ℕ)) (Is : Content → Type 0) : Type 0 where
   pub disk : D
+  pub state : Option NodeState
   pub reads : List FileRead
   pub first : SomeWereRead [] reads
-  pub given : ∥ All (MayBeRead (gives disk folder)) reads ∥₁
+  pub given : ∥ All (MayBeRead (gives disk folder state)) reads ∥₁
+  pub unread : ∥ All (MayFail (gives disk folder state)) failed ∥₁
   pub holds : (content : Content) (ts : List Table) → AreRead content ts [] reads → Is content
 
 -- the names of the files whose reads failed, once a load has ended with this fault
@@ -41,11 +43,11 @@ abbrev pub IsDays : Bool → Feed → List ℕ → Type 0
 IsDays true feed text = IsDaysJson feed text
 IsDays false feed text = AreDayLines feed text
 
--- `gives` says what a disk of some kind may give for a folder and the name of a file
-module _ {D : Type 0} (gives : D → List ℕ → MayGive) (folder : List ℕ) where
-  -- the files of the folder may hold this content: for each file, some disk may give what the content has of it
+-- `gives` says what a disk of some kind may give for a folder in some state and the name of a file
+module _ {D : Type 0} (gives : Gives D) (folder : List ℕ) where
+  -- the files of the folder may hold this content: in one state of the folder some disk may give for each file what the content has of it
   abbrev pub MayBeOf : Content → Type 0
-  MayBeOf content = (disk : D) × MayHold (gives disk folder) content all_tables
+  MayBeOf content = (disk : D) × (state : Option NodeState) × MayHold (gives disk folder state) content all_tables
 
   -- the tables are those of the folder's files
   abbrev pub AreTablesOf : Tables → Type 0
@@ -59,21 +61,13 @@ module _ {D : Type 0} (gives : D → List ℕ → MayGive) (folder : List ℕ) w
   abbrev pub AreDaysOf : Bool → List ℕ → Type 0
   AreDaysOf json text = (feed : Feed) × IsFeedOf feed × IsDays json feed text
 
-  -- if the fault is that a file can't be read, some disk may fail to read that file of the folder
-  abbrev pub MayFailAs : LoadFault → Type 0
-  MayFailAs (faults.FileFailed table) = (disk : D) × ∥ MayFail (gives disk folder) (file_name table) ∥₁
-  MayFailAs (faults.Table fault) = Unit {0}
-  MayFailAs (faults.Day fault) = Unit {0}
-  MayFailAs (faults.Footpaths fault) = Unit {0}
-  MayFailAs (faults.Image fault) = Unit {0}
-
   -- the fault is the first of the folder's tables
   abbrev pub IsTablesRefusalOf : LoadFault → Type 0
-  IsTablesRefusalOf fault = MayFailAs fault × HoldsOfRead gives folder (IsTablesRefusal fault)
+  IsTablesRefusalOf fault = HoldsOfRead gives folder (failed_as [] fault) (IsTablesRefusal fault)
 
   -- the fault is the first of the folder's files by this plan
   abbrev pub IsRefusalBy : Plan → LoadFault → Type 0
-  IsRefusalBy plan fault = MayFailAs fault × HoldsOfRead gives folder (λ content. IsLoadRefusal content plan fault)
+  IsRefusalBy plan fault = HoldsOfRead gives folder (failed_as [] fault) (λ content. IsLoadRefusal content plan fault)
 
   module _ (may_hold : List ℕ → Option (List ℕ) → Type 0) where
     -- the timetable, its names and the counts are those of the folder's files, by the plan that was asked for; `may_hold` says what the zone's file may hold

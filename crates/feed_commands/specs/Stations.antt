@@ -1,7 +1,8 @@
 -- What `csa stations` prints of a folder's stops.txt.
-use Rattle.std.specs.Prelude.{◌≡◌, ◌⊎◌, ℕ, List, Bool, true, false, Some, None, Ok, Err, Vec}
+use Rattle.std.specs.Prelude.{◌≡◌, ◌⊎◌, ℕ, List, Bool, true, false, Option, Some, None, Ok, Err, Vec}
 use Rattle.std.specs.declared.alloc.Global.{Global}
-use Rattle.feed_files.specs.Files.{MayGive}
+use Rattle.feed_files.specs.Files.{FileAnswer, Gives}
+use Rattle.feed_files.specs.declared.disk.NodeState.{NodeState}
 use Rattle.feed_files.specs.declared.files.FileFault.TheVariants.{Failed}
 use Rattle.feed_loader.specs.declared.fault.LoadFault.{LoadFault}
 use Rattle.feed_loader.specs.declared.fault.LoadFault.TheVariants.{FileFailed, Table as OfTable}
@@ -36,11 +37,14 @@ abbrev pub IsTextAsked : Bool → StopTable → List ℕ → List ℕ → Type 0
 IsTextAsked true stop_table asked text = IsJson stop_table asked text
 IsTextAsked false stop_table asked text = AreLines stop_table asked text
 
--- `gives` says what a disk of some kind may give for a folder and the name of a file
-module _ {D : Type 0} (gives : D → List ℕ → MayGive) (folder : List ℕ) where
-  -- some disk may give these bytes for the folder's stops.txt
+-- `gives` says what a disk of some kind may give for a folder in some state and the name of a file
+module _ {D : Type 0} (gives : Gives D) (folder : List ℕ) where
+  -- in some state of the folder some disk may give this for its stops.txt
+  abbrev pub MayGiveStops : FileAnswer → Type 0
+  MayGiveStops answer = (disk : D) × (state : Option NodeState) × gives disk folder state (file_name Stops) answer
+
   abbrev pub MayHoldStops : List ℕ → Type 0
-  MayHoldStops bytes = (disk : D) × (file : Vec ℕ Global) × gives disk folder (file_name Stops) (Ok (Some file)) × (file.items ≡ bytes)
+  MayHoldStops bytes = (file : Vec ℕ Global) × MayGiveStops (Ok (Some file)) × (file.items ≡ bytes)
 
   -- the table is that of the folder's stops.txt
   abbrev pub IsStopTableIn : StopTable → Type 0
@@ -53,6 +57,6 @@ module _ {D : Type 0} (gives : D → List ℕ → MayGive) (folder : List ℕ) w
   -- the folder has no stops.txt, or one that can't be read, or one with this fault
   abbrev pub IsStopsRefusal : LoadFault → Type 0
   IsStopsRefusal fault =
-      ((disk : D) × gives disk folder (file_name Stops) (Ok None) × (fault ≡ OfTable (record { file = Stops; row = 0; kind = MissingFile })))
-      ⊎ ((disk : D) × gives disk folder (file_name Stops) (Err Failed) × (fault ≡ FileFailed Stops))
+      (MayGiveStops (Ok None) × (fault ≡ OfTable (record { file = Stops; row = 0; kind = MissingFile })))
+      ⊎ (MayGiveStops (Err Failed) × (fault ≡ FileFailed Stops))
       ⊎ ((refusal : TableFault) × (bytes : List ℕ) × MayHoldStops bytes × IsFaultIn bytes refusal × (fault ≡ OfTable refusal))

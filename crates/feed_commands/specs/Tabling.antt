@@ -3,7 +3,7 @@ use Rattle.std.specs.Prelude.{◌≡◌, Bool, ℕ, List, ◌++◌, codes, decim
 use Rattle.gtfs_tables.specs.Feeds.{IsJoined}
 use Rattle.gtfs_tables.specs.declared.tables.Feed.{Feed}
 use Rattle.gtfs_tables.specs.declared.tables.Tables.{Tables}
-use Rattle.feed_files.specs.Files.{MayGive}
+use Rattle.feed_files.specs.Files.{Gives}
 use Rattle.command_requests.specs.declared.requests.TablesRequest.{TablesRequest}
 use Rattle.feed_commands.specs.Folders.{AreTablesOf}
 use Rattle.feed_commands.specs.declared.tables.TableCounts.{TableCounts}
@@ -60,10 +60,10 @@ abbrev pub AreCountsOfJoined : Tables → TableCounts → Type 0
 AreCountsOfJoined t counts = (feed : Feed) × IsJoined false t feed × (counts ≡ counts_of t)
 
 -- these are the counts of the tables of the folder's files, which can be joined
-abbrev pub AreCountsOf : {D : Type 0} → (D → List ℕ → MayGive) → List ℕ → TableCounts → Type 0
+abbrev pub AreCountsOf : {D : Type 0} → Gives D → List ℕ → TableCounts → Type 0
 AreCountsOf gives folder counts = (t : Tables) × AreTablesOf gives folder t × AreCountsOfJoined t counts
 
 -- the text is that of these counts
-abbrev pub IsCounts : {D : Type 0} → (D → List ℕ → MayGive) → TablesRequest → List ℕ → Type 0
+abbrev pub IsCounts : {D : Type 0} → Gives D → TablesRequest → List ℕ → Type 0
 IsCounts gives request text =
     (counts : TableCounts) × AreCountsOf gives request.folder.now counts × (text ≡ counts_asked request.json counts)

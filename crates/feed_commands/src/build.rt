@@ -1,11 +1,10 @@
 //! `csa build FOLDER OUT --first DAY --days N --zone ZONE [--strict] [--progress] [--all-faults] [--no-warnings]`.
 
-ghost use Rattle.std.specs.Prelude.{◌≡◌, ◌≤◌, ◌<◌, ◌-◌, ◌^◌, ◌++◌, List, IfErr, IfOk, OnOk, string_bytes};
+ghost use Rattle.std.specs.Prelude.{◌≡◌, ◌≤◌, ◌++◌, IfErr, IfOk, OnOk, string_bytes};
 ghost use Rattle.connections.specs.declared.days.TheConstants.{MAX_DAYS};
 ghost use Rattle.feed_files.specs.Reading.{Content};
-ghost use Rattle.feed_files.specs.Reads.{AreRead, SomeWereRead, all_tables};
+ghost use Rattle.feed_files.specs.Reads.{AreRead, Shows, SomeWereRead, all_tables};
 ghost use Rattle.feed_loader.specs.Refused.{IsLoadRefusal, IsLoaded};
-ghost use Rattle.gtfs_rows.specs.declared.fault.Table.{Table};
 ghost use Rattle.image_files.specs.Writing.{IsImagePut};
 ghost use Rattle.feed_commands.specs.Building.{IfRefused, IsReportLine, changed_text, made_text, report_line};
 ghost use Rattle.command_endings.specs.Ending.{IsOutcome, PrintsOnly};
@@ -119,18 +118,17 @@ fn build_reported<'a, H: OutDisk + AllocGlobal, F: FeedFiles, R: BuildReports>(
     files: &mut ReportedFiles<F, R>,
     plan: Plan,
 ) -> Result<BuiltImage, Failure<'a>>
-    requires failures { F.failures files.old.files < 2 ^ 64 - 1 }
     requires some { 1 ≤ plan.days }
     requires few { plan.days ≤ MAX_DAYS }
     ensures built { IfOk result (λ built. (content : Content)
-        × AreRead content all_tables (F.reads files.old.files) (F.reads files.new.files)
+        × AreRead content all_tables (F.words.reads files.old.files) (F.words.reads files.new.files)
         × IsLoaded content plan built.image.timetable built.image.names built.report) }
     ensures put { IfOk result (λ built. IsImagePut (H.files rt.now) out.now built.image.timetable built.image.names) }
     ensures refused { IfErr result (λ failure. IfRefused failure (λ fault.
-        SomeWereRead (F.reads files.old.files) (F.reads files.new.files)
-        × (F.failed files.new.files ≡ failed_as (F.failed files.old.files) fault)
-        × ((content : Content) (ts : List Table)
-        → AreRead content ts (F.reads files.old.files) (F.reads files.new.files) → IsLoadRefusal content plan fault))) }
+        SomeWereRead (F.words.reads files.old.files) (F.words.reads files.new.files)
+        × (F.words.failed files.new.files ≡ failed_as (F.words.failed files.old.files) fault)
+        × ((content : Content) → Shows F.words files.old.files files.new.files content
+        → IsLoadRefusal content plan fault))) }
 {
     let (image, report) = match load_reported(rt.alloc(), files, &plan) {
         Ok(loaded) => loaded,

@@ -6,11 +6,11 @@ ghost use Rattle.std.specs.Prelude.{◌≡◌, IfSome};
 ghost use Rattle.service_days.specs.Zones.{HasNoStart};
 ghost use Rattle.command_requests.specs.declared.statuses.TheConstants.{INPUT_OUTPUT};
 
-use crate::warnings::{ZONES, ZoneFile, number_of, zone_file};
+use crate::warnings::{ZONES, ZoneFile, zone_file};
 use command_endings::status;
 use command_requests::PlanText;
 use feed_files::{Disk, FolderFiles, ReadFault};
-use feed_loader::{LoadFault, Plan};
+use feed_loader::{LoadFault, Plan, day_number};
 use feed_messages::{
     explain, explain_failed, explain_folder, explain_further, explain_table, is_folder,
 };
@@ -116,7 +116,7 @@ pub fn explain_day<H: ImageDisk + AllocGlobal + Clock, E: Write>(
             &["csa: each of these days has a noon, so it is the time of a trip"],
         );
     };
-    if let Ok(day) = format!(in rt.alloc(); "{:08}", number_of(day)) {
+    if let Ok(day) = format!(in rt.alloc(); "{:08}", day_number(day)) {
         explain(errors, &["csa: the first such day is ", day.as_str()]);
     }
 }

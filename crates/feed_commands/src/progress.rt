@@ -1,12 +1,12 @@
 //! Reports of progress while an image is made.
 
-ghost use Rattle.std.specs.Prelude.{◌≡◌, ◌≤◌, ◌<◌, ◌+◌, ◌-◌, ◌^◌, List, IfOk, IfErr, OnOk};
+ghost use Rattle.std.specs.Prelude.{◌≡◌, ◌≤◌, IfOk, IfErr, OnOk};
 ghost use Rattle.image_layout.specs.declared.layout.TheConstants.{LAYOUT};
 ghost use Rattle.connections.specs.declared.days.TheConstants.{MAX_DAYS};
-ghost use Rattle.feed_files.specs.Reading.{Content, Tells};
-ghost use Rattle.feed_files.specs.Reads.{AllWereRead, AreRead, SomeWereRead};
-ghost use Rattle.gtfs_rows.specs.declared.fault.Table.{Table};
-ghost use Rattle.feed_loader.specs.Faults.{failed_by, failed_in};
+ghost use Rattle.feed_files.specs.Files.{words_within};
+ghost use Rattle.feed_files.specs.Reading.{Content};
+ghost use Rattle.feed_files.specs.Reads.{AllWereRead, Shows, SomeWereRead};
+ghost use Rattle.feed_loader.specs.Faults.{failed_by};
 ghost use Rattle.feed_loader.specs.Refused.{IsLoadRefusal, IsLoaded, IsWantOfMemory};
 
 use command_endings::{StartInstant, line_ends, put_seconds};
@@ -48,25 +48,17 @@ pub fn load_reported<F: FeedFiles, R: BuildReports>(
     files: &mut ReportedFiles<F, R>,
     plan: &Plan,
 ) -> Result<(Verified, Report), LoadFault>
-    requires failures { F.failures files.old.files < 2 ^ 64 - 1 }
     requires some { 1 ≤ plan.now.days }
     requires few { plan.now.days ≤ MAX_DAYS }
-    ensures same { F.holds files.new.files ≡ F.holds files.old.files }
-    ensures failures { F.failures files.new.files ≡ F.failures files.old.files + failed_in result }
-    ensures failed { F.failed files.new.files ≡ failed_by (F.failed files.old.files) result }
+    ensures same { F.words.holds files.new.files ≡ F.words.holds files.old.files }
+    ensures failed { F.words.failed files.new.files ≡ failed_by (F.words.failed files.old.files) result }
     ensures layout { IfOk result (λ loaded. loaded.0.layout ≡ LAYOUT) }
-    ensures all_read { OnOk result (AllWereRead (F.reads files.old.files) (F.reads files.new.files)) }
-    ensures first_read { SomeWereRead (F.reads files.old.files) (F.reads files.new.files) }
-    ensures read_ok { (content : Content) (ts : List Table)
-        → AreRead content ts (F.reads files.old.files) (F.reads files.new.files)
+    ensures all_read { OnOk result (AllWereRead (F.words.reads files.old.files) (F.words.reads files.new.files)) }
+    ensures first_read { SomeWereRead (F.words.reads files.old.files) (F.words.reads files.new.files) }
+    ensures ok { (content : Content) → Shows F.words files.old.files files.new.files content
         → IfOk result (λ loaded. IsLoaded content plan.now loaded.0.timetable loaded.0.names loaded.1) }
-    ensures read_err { (content : Content) (ts : List Table)
-        → AreRead content ts (F.reads files.old.files) (F.reads files.new.files)
+    ensures err { (content : Content) → Shows F.words files.old.files files.new.files content
         → IfErr result (λ fault. ¬ (IsWantOfMemory fault) → IsLoadRefusal content plan.now fault) }
-    ensures ok { (content : Content) → Tells (F.holds files.old.files) content →
-        IfOk result (λ loaded. IsLoaded content plan.now loaded.0.timetable loaded.0.names loaded.1) }
-    ensures err { (content : Content) → Tells (F.holds files.old.files) content →
-        IfErr result (λ fault. ¬ (IsWantOfMemory fault) → IsLoadRefusal content plan.now fault) }
 {
     let loaded = load(alloc, files, plan);
     if let Ok((_, report)) = &loaded {
@@ -293,17 +285,7 @@ impl<F: FeedFiles, R: BuildReports> ReportedFiles<F, R> {
 }
 
 impl<F: FeedFiles, R: BuildReports> FeedFiles for ReportedFiles<F, R> {
-    ghost failures = { λ reported. F.failures reported.files };
-
-    ghost failed = { λ reported. F.failed reported.files };
-
-    ghost reads = { λ reported. F.reads reported.files };
-
-    ghost holds = { λ reported. F.holds reported.files };
-
-    ghost may_give = { λ reported. F.may_give reported.files };
-
-    ghost hash = { λ reported. F.hash reported.files };
+    ghost words = { words_within (λ reported. reported.files) F.words };
 
     fn read(&mut self, alloc: Global, name: &str) -> Result<Option<Vec<u8>>, FileFault> {
         self.report_reading(name);

@@ -5,7 +5,7 @@ ghost use Rattle.gtfs_rows.specs.Values.{is_civil};
 
 use command_requests::ZoneText;
 use csv::ByteRecord;
-use feed_loader::{Plan, Report};
+use feed_loader::{Plan, Report, day_number};
 use feed_messages::{advance, explain, file_bytes, is_folder, quoted};
 use gtfs_rows::values::number;
 use gtfs_rows::{Day, Records, cell, column, find_record};
@@ -78,22 +78,17 @@ fn is_idle(built: &BuiltImage, day: Day) -> Option<bool>
     ensures { IfSome result (λ _. is_civil day ≡ true) }
 {
     day_start(&built.plan.zone, day).ok()?;
-    Some(!has_trip_on(&built.image, number_of(day)))
+    Some(!has_trip_on(&built.image, day_number(day)))
 }
 
 /// Appends a day, behind a comma if it isn't the first.
 fn append_day(text: &mut String, is_first: bool, day: Day) -> Option<()> {
-    let number = number_of(day);
+    let number = day_number(day);
     if is_first {
         write!(text, " {number:08}").ok()
     } else {
         write!(text, ", {number:08}").ok()
     }
-}
-
-/// A day as the number YYYYMMDD.
-pub fn number_of(day: Day) -> u32 {
-    10_000 * day.year as u32 + 100 * day.month as u32 + day.day as u32
 }
 
 /// Whether a trip of the image runs on a day, given as the number YYYYMMDD.

@@ -1,20 +1,12 @@
 -- What is known about a feed's files after a read of one of them.
-use Rattle.std.specs.Prelude.{◌≡◌, ℕ, ◌+◌, ◌-◌, ◌^◌, ◌++◌, ◌∷◌, List, [], min, Result, Ok, Err, Option, None, option_map, Vec}
+use Rattle.std.specs.Prelude.{◌≡◌, ℕ, ◌++◌, ◌∷◌, List, [], Result, Ok, Err, Option, None, option_map, Vec}
 use Rattle.std.specs.declared.alloc.Global.{Global}
+use Rattle.feed_files.specs.declared.disk.NodeState.{NodeState}
 use Rattle.feed_files.specs.declared.files.FileFault.{FileFault}
 use Rattle.feed_files.specs.declared.files.FileFault.TheVariants as faults
+use Rattle.gtfs_rows.specs.declared.id_hash.IdHash.{IdHash}
 
--- one more, except that the count stays at its greatest value
-abbrev pub one_more : ℕ → ℕ
-one_more count = min (count + 1) (2 ^ 64 - 1)
-
--- the count of failures after a read; memory that runs out doesn't count
-abbrev pub counted : {T : Type 0} → ℕ → Result T FileFault → ℕ
-counted count (Ok file) = count
-counted count (Err faults.Failed) = one_more count
-counted count (Err faults.OutOfMemory) = count
-
--- the names of the files whose reads failed, after a read of the file with this name
+-- the names of the files whose reads failed, after a read of the file with this name; memory that runs out is no failure
 abbrev pub failed_also : {T : Type 0} → List (List ℕ) → List ℕ → Result T FileFault → List (List ℕ)
 failed_also before name (Ok file) = before
 failed_also before name (Err faults.Failed) = before ++ name ∷ []
@@ -39,6 +31,33 @@ opened folder = (folder, None)
 -- the possible results of asking for the file with a name
 abbrev pub MayGive : Type 1
 MayGive = List ℕ → FileAnswer → Type 0
+
+-- the possible results of asking a disk for a file: the path of the folder, its state, and the name of the file
+abbrev pub Gives : Type 0 → Type 1
+Gives D = D → List ℕ → Option NodeState → MayGive
+
+-- what the file with a name is known to hold; the inner value is none if there is no such file
+abbrev pub Holds : Type 0
+Holds = List ℕ → Option (Option (List ℕ))
+
+-- what contracts say of a feed's files
+pub record FileWords (D : Type 0) : Type 1 where
+  -- the reads so far, in order, but for those that ended with a fault; an entry before the first read may say where the files are
+  pub reads : D → List FileRead
+  pub failed : D → List (List ℕ)  -- the names of the files whose reads failed, in order
+  pub holds : D → Holds
+  pub may_give : D → MayGive
+  pub hash : D → Option IdHash  -- the hash by which ids in the files are looked up, if that is known
+
+-- the same of files that stand within others
+abbrev pub words_within : {D E : Type 0} → (E → D) → FileWords D → FileWords E
+words_within inner words = record {
+  reads = λ files. words.reads (inner files);
+  failed = λ files. words.failed (inner files);
+  holds = λ files. words.holds (inner files);
+  may_give = λ files. words.may_give (inner files);
+  hash = λ files. words.hash (inner files);
+}
 
 -- the read is a possible one; a read of the file with this name may fail
 abbrev pub MayBeRead : MayGive → FileRead → Type 0

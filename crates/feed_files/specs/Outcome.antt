@@ -1,5 +1,5 @@
 -- How the reading of files ends.
-use Rattle.std.specs.Prelude.{ℕ, ◌++◌, ◌∷◌, List, [], length, Result, Ok, Err}
+use Rattle.std.specs.Prelude.{ℕ, ◌++◌, ◌∷◌, List, [], Result, Ok, Err}
 use Rattle.gtfs_rows.specs.FaultNumber.{file_name}
 use Rattle.gtfs_rows.specs.declared.fault.Table.{Table}
 use Rattle.gtfs_rows.specs.declared.fault.TableFault.{TableFault}
@@ -16,7 +16,3 @@ abbrev pub failed_by : {T : Type 0} → List (List ℕ) → Result T ReadFault �
 failed_by before (Ok t) = before
 failed_by before (Err (faults.Table fault)) = before
 failed_by before (Err (faults.FileFailed table)) = before ++ file_name table ∷ []
-
--- how many reads failed
-abbrev pub failed_in : {T : Type 0} → Result T ReadFault → ℕ
-failed_in result = length (failed_by [] result)

@@ -2,6 +2,7 @@
 use Rattle.std.specs.Prelude.{◌≡◌, ◌≢◌, ◌∷◌, ℕ, List, [], Option, Some, None, ⊤}
 use Rattle.gtfs_rows.specs.Tables.{HoldsAgencies, HoldsCalendar, HoldsCalendarDates, HoldsFrequencies, HoldsStopTimes, HoldsStopsWithin, HoldsTransfers}
 use Rattle.gtfs_rows.specs.Tables.{HoldsTripsWithin, IsFaultOf, IsStopsFault, IsTripsFault}
+use Rattle.feed_files.specs.Files.{Holds}
 use Rattle.feed_files.specs.Outcome.{RefusedOrFailed}
 use Rattle.feed_files.specs.declared.reading.ReadFault.{ReadFault}
 use Rattle.gtfs_rows.specs.FaultNumber.{file_name}
@@ -24,7 +25,7 @@ abbrev pub Content : Type 0
 Content = Table → Option (List ℕ)
 
 -- a feed's files are known to hold this
-abbrev pub Tells : (List ℕ → Option (Option (List ℕ))) → Content → Type 0
+abbrev pub Tells : Holds → Content → Type 0
 Tells holds content = (table : Table) → holds (file_name table) ≡ Some (content table)
 
 -- the tables whose files are read before a table's
@@ -126,10 +127,10 @@ pub record IsFirstFault (content : Content) (fault : TableFault) : Type 0 where
 
 -- the rows that were read are those of the file; there are none if there is no file
 abbrev pub IsHeld : {R : Type 0} → (List ℕ → R → Type 0) → Option (List ℕ) → Option R → Type 0
-IsHeld Holds None None = ⊤
-IsHeld Holds None (Some rows) = ⊥
-IsHeld Holds (Some bytes) None = ⊥
-IsHeld Holds (Some bytes) (Some rows) = Holds bytes rows
+IsHeld Is None None = ⊤
+IsHeld Is None (Some rows) = ⊥
+IsHeld Is (Some bytes) None = ⊥
+IsHeld Is (Some bytes) (Some rows) = Is bytes rows
 
 -- why one file's rows can't be read: memory ran out, the file has this fault, or its read failed
 abbrev pub NoRows : Table → (ℕ → FaultKind → Type 0) → ReadFault → Type 0

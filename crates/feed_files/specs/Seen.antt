@@ -1,5 +1,5 @@
 -- What is seen of the files of a folder on a disk.
-use Rattle.std.specs.Prelude.{◌≡◌, ◌<◌, ◌≤◌, ◌⊎◌, ◌↔◌, ℕ, List, length, Option, Some, None, Ok, Err, IfSome, Bool, true, false, Vec, option_map}
+use Rattle.std.specs.Prelude.{◌≡◌, ◌≢◌, ◌<◌, ◌≤◌, ◌⊎◌, ◌↔◌, ℕ, List, length, Option, Some, None, Ok, Err, IfSome, Bool, true, false, Vec, option_map}
 use Rattle.std.specs.declared.alloc.Global.{Global}
 use Rattle.std.specs.Path.{path_join}
 use Rattle.std_io.specs.declared.io.kind.ErrorKind.{ErrorKind}
@@ -10,7 +10,7 @@ use Rattle.feed_files.specs.declared.files.FileFault.{FileFault}
 use Rattle.feed_files.specs.declared.files.FileFault.TheVariants as faults
 
 pub data DiskEvent : Type 0 where
-  -- a plain file was found in this state, or the search for one ended with an error of this kind
+  -- something was found in this state, or the search ended with an error of this kind
   found : NodeState → DiskEvent
   unfound : ErrorKind → DiskEvent
   -- whether there was a link
@@ -19,12 +19,17 @@ pub data DiskEvent : Type 0 where
   opened : NodeState → Option (List ℕ) → DiskEvent
   -- opening or reading it ended with an error of this kind
   unread : NodeState → ErrorKind → DiskEvent
-  -- once these bytes had been read, or no file had been found, whether there still was the same, in this state
-  stayed : Option NodeState → Option (List ℕ) → Bool → DiskEvent
+  -- once these bytes had been read, or no file had been found, something was found in this state, or nothing was
+  found_after : Option (List ℕ) → Option NodeState → DiskEvent
 
 -- what was seen of the file or the folder at a path
 abbrev pub Seen : Type 1
 Seen = List ℕ → DiskEvent → Type 0
+
+-- what is at the path was in this state, or nothing was found there
+abbrev pub IsInState : Seen → List ℕ → Option NodeState → Type 0
+IsInState seen path (Some state) = seen path (found state)
+IsInState seen path None = (kind : ErrorKind) × seen path (unfound kind)
 
 -- an error of this kind means that there is no such file
 abbrev pub MeansNone : ErrorKind → Type 0
@@ -38,7 +43,7 @@ IsFaultOfKind kind fault = fault ≡ faults.OutOfMemory ↔ (kind ≡ OutOfMemor
 -- once they had been read
 abbrev pub IsHeldAt : Seen → List ℕ → List ℕ → Type 0
 IsHeldAt seen path bytes = (state : NodeState) × (held : Option (List ℕ))
-    × (seen path (opened state held) × IfSome held (λ whole. bytes ≡ whole) × seen path (stayed (Some state) (Some bytes) true))
+    × (seen path (opened state held) × IfSome held (λ whole. bytes ≡ whole) × seen path (found_after (Some bytes) (Some state)))
 
 -- the search for a file at the path ended as it does where there is none, and there was no link
 abbrev pub IsMissingAt : Seen → List ℕ → Type 0
@@ -63,14 +68,15 @@ IsTooLong seen limit path state =
 abbrev pub IsReadFault : Seen → List ℕ → NodeState → FileFault → Type 0
 IsReadFault seen path state fault = (kind : ErrorKind) × (seen path (unread state kind) × IsFaultOfKind kind fault)
 
--- what is at the path no longer was as it had been found
+-- what is at the path no longer was in this state
 abbrev pub HasChanged : Seen → List ℕ → Option NodeState → Type 0
-HasChanged seen path state = (bytes : Option (List ℕ)) × seen path (stayed state bytes false)
+HasChanged seen path state = (file : Option (List ℕ)) × (other : Option NodeState) × (seen path (found_after file other) × (other ≢ state))
 
--- why the file that was found can't be read
+-- why what was found isn't read: it is no plain file, it can't be opened or read, it is too long, or it changed
 abbrev pub IsFaultOfFound : Seen → ℕ → List ℕ → NodeState → FileFault → Type 0
 IsFaultOfFound seen limit path state fault =
-    IsReadFault seen path state fault ⊎ ((fault ≡ faults.Failed) × (IsTooLong seen limit path state ⊎ HasChanged seen path (Some state)))
+    IsReadFault seen path state fault
+    ⊎ ((fault ≡ faults.Failed) × ((state.is_file ≡ false) ⊎ (IsTooLong seen limit path state ⊎ HasChanged seen path (Some state))))
 
 -- why the file at a path can't be read
 abbrev pub IsFaultAt : Seen → ℕ → List ℕ → FileFault → Type 0
@@ -82,6 +88,6 @@ IsFaultAt seen limit path fault =
 abbrev pub IsAnswerIn : Seen → ℕ → List ℕ → Option NodeState → List ℕ → FileAnswer → Type 0
 IsAnswerIn seen limit folder state name (Ok file) =
     IsFileAt seen (path_join folder name) file × IfSome file (λ bytes. length bytes.items ≤ limit)
-    × seen folder (stayed state (option_map (λ bytes. bytes.items) file) true)
+    × seen folder (found_after (option_map (λ bytes. bytes.items) file) state)
 IsAnswerIn seen limit folder state name (Err fault) =
     IsFaultAt seen limit (path_join folder name) fault ⊎ ((fault ≡ faults.Failed) × HasChanged seen folder state)

@@ -1,14 +1,16 @@
 //! Finds and reads the files of feeds, and sees whether a folder or a file has changed.
 
-ghost use Rattle.std.specs.Prelude.{◌≡◌, ℕ, List, Some, IfErr, IfOk, IfSome, option_map, take};
+ghost use Rattle.std.specs.Prelude.{◌≡◌, ◌↔◌, ℕ, List, true, IsTrue, IfErr, IfOk, IfSome, option_map, take};
+ghost use Rattle.std.specs.Fs.{IsFile, file_type, metadata_len};
 ghost use Rattle.std.specs.Path.{path_buf_bytes, path_join};
 ghost use Rattle.std_io.specs.IoError.{error_kind};
 ghost use Rattle.std_io.specs.declared.io.kind.ErrorKind.TheVariants.{OutOfMemory};
-ghost use Rattle.feed_files.specs.Seen.{DiskEvent, found as was_found, linked, opened, stayed, unfound, unread};
+ghost use Rattle.feed_files.specs.Seen.{DiskEvent, IsInState, found as was_found, found_after, linked, opened, unfound};
+ghost use Rattle.feed_files.specs.Seen.{unread};
 
 use std::alloc::{AllocError, Global};
 use std::fs::{File, Metadata};
-use std::io::{ErrorKind, Read};
+use std::io::Read;
 use std::os::unix::fs::MetadataExt;
 use std::path::{Path, PathBuf};
 use std::rt::Files;
@@ -19,16 +21,21 @@ use std::{fs, io};
 pub struct NodeState {
     device: u64,
     inode: u64,
+    pub(crate) is_file: bool,
     pub(crate) length: u64,
     changed: i64,
     changed_nanos: i64,
 }
 
 impl NodeState {
-    fn of(metadata: &Metadata) -> NodeState {
+    fn of(metadata: &Metadata) -> NodeState
+        ensures plain { IsTrue result.is_file ↔ IsFile (file_type metadata.now) }
+        ensures length { result.length ≡ metadata_len metadata.now }
+    {
         NodeState {
             device: metadata.dev(),
             inode: metadata.ino(),
+            is_file: metadata.is_file(),
             length: metadata.len(),
             changed: metadata.ctime(),
             changed_nanos: metadata.ctime_nsec(),
@@ -36,15 +43,23 @@ impl NodeState {
     }
 }
 
-/// Returns the state of what is at a path, or at the end of the link there; none if nothing is found.
-pub fn state_at<H: Files>(rt: &H, path: &str) -> Option<NodeState> {
-    match fs::metadata(rt, path) {
-        Ok(metadata) => Some(NodeState::of(&metadata)),
+/// Returns the state of what is at a path; none if nothing is found.
+pub fn state_at<D: OpenDisk>(disk: &D, path: &str) -> Option<NodeState>
+    ensures { IsInState (D.seen disk.now) path.now result }
+{
+    match disk.find(path) {
+        Ok(state) => Some(state),
         Err(_) => None,
     }
 }
 
-/// A disk that finds and reads files, and sees whether what is at a path has changed.
+// Returns the state of what is at a path of the machine.
+fn node_at<H: Files>(rt: &H, path: &str) -> io::Result<NodeState> {
+    let metadata = fs::metadata(rt, path)?;
+    Ok(NodeState::of(&metadata))
+}
+
+/// A disk that finds and reads files, and sees in which state is what is at a path.
 pub trait OpenDisk {
     type Opened: Read + Drop;
 
@@ -56,9 +71,8 @@ pub trait OpenDisk {
         ensures path { IfOk result (λ path. path_buf_bytes path ≡ path_join folder.now name.now) }
         ensures err { IfErr result (λ error. seen self.now (path_join folder.now name.now) (unfound OutOfMemory)) };
 
-    /// Returns the state of the plain file at a path, or at the end of the link there. A folder, a pipe, a socket or a
-    /// device is an error; it isn't opened, so nobody waits for it.
-    fn find_file(&self, path: &str) -> io::Result<NodeState>
+    /// Returns the state of what is at a path, or at the end of the link there.
+    fn find(&self, path: &str) -> io::Result<NodeState>
         ensures ok { IfOk result (λ state. seen self.now path.now (was_found state)) }
         ensures err { IfErr result (λ error. seen self.now path.now (unfound (error_kind error))) };
 
@@ -66,9 +80,10 @@ pub trait OpenDisk {
     fn is_link(&self, path: &str) -> bool
         ensures { seen self.now path.now (linked result) };
 
-    /// Opens a file that was found, at its first byte.
+    /// Opens a plain file that was found, at its first byte. Nothing else is opened, so nobody waits for a pipe.
     fn open_found(&self, path: &str, found: &NodeState) -> io::Result<Self::Opened>
-        requires { seen self.now path.now (was_found found.now) }
+        requires found { seen self.now path.now (was_found found.now) }
+        requires plain { found.now.is_file ≡ true }
         ensures ok { IfOk result (λ file. seen self.now path.now (opened found.now (Self.Opened.remaining file))) }
         ensures err { IfErr result (λ error. seen self.now path.now (unread found.now (error_kind error))) };
 
@@ -84,14 +99,9 @@ pub trait OpenDisk {
         ensures ok { IfOk result (λ bytes. IfSome (Self.Opened.remaining file) (λ held. bytes.items ≡ take most held)) }
         ensures err { IfErr result (λ error. seen self.now path.now (unread found.now (error_kind error))) };
 
-    /// Returns whether a file is still as it was found, now that these bytes of it have been read.
-    fn file_stayed(&self, path: &str, found: &NodeState, bytes: &[u8]) -> bool
-        ensures { seen self.now path.now (stayed (Some found.now) (Some bytes.now) result) };
-
-    /// Returns whether a folder is still in the given state, now that a file of it has been read, or wasn't there.
-    fn folder_stayed(&self, folder: &str, state: &Option<NodeState>, file: &Option<Vec<u8>>) -> bool
-        ensures { seen self.now folder.now
-            (stayed state.now (option_map (λ bytes. bytes.items) file.now) result) };
+    /// Returns the state of what is at a path, once a file has been read, or wasn't found; none if nothing is there.
+    fn state_after(&self, path: &str, file: &Option<Vec<u8>>) -> Option<NodeState>
+        ensures { seen self.now path.now (found_after (option_map (λ bytes. bytes.items) file.now) result) };
 }
 
 // Returns the bytes of a file, no more than `most` of them. Room is made at once for the length that the file reports;
@@ -119,12 +129,8 @@ impl<H: Files> OpenDisk for H {
         Path::new(folder).join(alloc, name)
     }
 
-    fn find_file(&self, path: &str) -> io::Result<NodeState> {
-        let metadata = fs::metadata(self, path)?;
-        if !metadata.is_file() {
-            return Err(io::Error::from(ErrorKind::InvalidInput));
-        }
-        Ok(NodeState::of(&metadata))
+    fn find(&self, path: &str) -> io::Result<NodeState> {
+        node_at(self, path)
     }
 
     fn is_link(&self, path: &str) -> bool {
@@ -146,16 +152,7 @@ impl<H: Files> OpenDisk for H {
         first_bytes(alloc, file, found.length, most)
     }
 
-    fn file_stayed(&self, path: &str, found: &NodeState, _bytes: &[u8]) -> bool {
-        state_at(self, path) == Some(*found)
-    }
-
-    fn folder_stayed(
-        &self,
-        folder: &str,
-        state: &Option<NodeState>,
-        _file: &Option<Vec<u8>>,
-    ) -> bool {
-        state_at(self, folder) == *state
+    fn state_after(&self, path: &str, _file: &Option<Vec<u8>>) -> Option<NodeState> {
+        node_at(self, path).ok()
     }
 }

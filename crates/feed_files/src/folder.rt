@@ -1,10 +1,11 @@
 //! The files of a folder.
 
 ghost use Rattle.std.specs.Prelude.{◌≡◌, ◌≤◌, ◌∷◌, [], length, None, Some, All, IfErr, IfOk, IfSome, IsNone};
-ghost use Rattle.std.specs.Prelude.{List, Option, ℕ};
-ghost use Rattle.feed_files.specs.Files.{FileAnswer, MayBeRead, MayFail, one_more, opened};
-ghost use Rattle.feed_files.specs.Seen.{IsAnswerIn, IsFaultAt, IsFaultOfFound, IsFaultOfKind, IsFileAt, IsHeldAt};
-ghost use Rattle.feed_files.specs.Seen.{IsMissingAt, IsSearchFault, found as was_found, opened as was_opened, unfound};
+ghost use Rattle.std.specs.Prelude.{List, MatchBool, Option, option_map, ℕ};
+ghost use Rattle.feed_files.specs.Files.{Gives, MayBeRead, MayFail, opened};
+ghost use Rattle.feed_files.specs.Seen.{HasChanged, IsAnswerIn, IsFaultAt, IsFaultOfFound, IsFaultOfKind, IsFileAt};
+ghost use Rattle.feed_files.specs.Seen.{IsInState, IsMissingAt, IsSearchFault, found as was_found, found_after};
+ghost use Rattle.feed_files.specs.Seen.{opened as was_opened, unfound};
 ghost use Rattle.feed_files.specs.declared.disk.NodeState.{NodeState as Node};
 ghost use Rattle.feed_files.specs.declared.files.TheConstants.{LONGEST_FILE};
 
@@ -20,15 +21,15 @@ use std::rt::Files;
 
 /// A disk with the folders of feeds. It needs nothing else of a machine, so that files can be read from any thread.
 pub trait Disk {
-    // The possible results of asking for a file: first the path of the folder, then the name of the file.
-    ghost gives: { Self → List ℕ → List ℕ → FileAnswer → Type 0 } = { λ _ _ _ _. Unit {0} };
+    // That the folder at a path was seen in a state.
+    ghost shows: { Self → List ℕ → Option Node → Type 0 } = { λ _ _ _. Unit {0} };
 
-    // The possible results of asking for a file while its folder is in a state: the folder's path, its state, and the
-    // name of the file.
-    ghost gives_in: { Self → List ℕ → Option Node → List ℕ → FileAnswer → Type 0 } = { λ _ _ _ _ _. Unit {0} };
+    // The possible results of asking for a file in a folder that was seen in a state.
+    ghost gives: { Gives Self } = { λ _ _ _ _ _. Unit {0} };
 
-    /// Returns the state of the folder at a path, or at the end of the link there; none if nothing is found.
-    fn folder_state(&self, folder: &str) -> Option<NodeState>;
+    /// Returns the state of a folder, or of the one at the end of a link; none if nothing is found.
+    fn folder_state(&self, folder: &str) -> Option<NodeState>
+        ensures { shows self.now folder.now result };
 
     /// Returns the bytes of a file in a folder, or none if there is no such file, as long as the folder is in the given
     /// state.
@@ -45,8 +46,8 @@ pub trait Disk {
         state: &Option<NodeState>,
         name: &str,
     ) -> Result<Option<Vec<u8>>, FileFault>
-        ensures gives { gives self.now folder.now name.now result }
-        ensures gives_in { gives_in self.now folder.now state.now name.now result }
+        requires { ∥ shows self.now folder.now state.now ∥₁ }
+        ensures gives { gives self.now folder.now state.now name.now result }
         ensures short { IfOk result (λ file. IfSome file (λ bytes. length bytes.items ≤ LONGEST_FILE)) };
 
     /// Returns a hash with a new random key, by which ids in a feed's files are looked up.
@@ -54,10 +55,10 @@ pub trait Disk {
 }
 
 impl<H: Files + RandomSource + OpenDisk<Opened = H::File>> Disk for H {
-    ghost gives = { λ disk folder name answer.
-        (state : _) × IsAnswerIn (H.seen disk) LONGEST_FILE folder state name answer };
+    ghost shows = { λ disk. IsInState (H.seen disk) };
 
-    ghost gives_in = { λ disk. IsAnswerIn (H.seen disk) LONGEST_FILE };
+    ghost gives = { λ disk folder state name answer. ∥ IsInState (H.seen disk) folder state ∥₁
+        × IsAnswerIn (H.seen disk) LONGEST_FILE folder state name answer };
 
     fn folder_state(&self, folder: &str) -> Option<NodeState> {
         state_at(self, folder)
@@ -88,14 +89,14 @@ pub struct FolderFiles<'a, H: Disk> {
     folder: &'a str,
     state: Option<NodeState>,
     hash: IdHash,
-    failures: u64,
     failed: FailedNames,
     reads: FileReads,
-    // Each read, and each failure, that was noted is a possible result of the disk for that file of this folder.
-    ghost given: { ∥ All (MayBeRead (H.gives disk.now folder.now)) reads ∥₁ },
-    // All reads are of one state of the folder.
-    ghost of_one_state: { ∥ All (MayBeRead (H.gives_in disk.now folder.now state)) reads ∥₁ },
-    ghost unread: { ∥ All (MayFail (H.gives disk.now folder.now)) failed ∥₁ },
+    // The folder was seen in this state.
+    ghost shown: { ∥ H.shows disk.now folder.now state ∥₁ },
+    // Each read, and each failure, that was noted is a possible result of the disk for that file of this folder, in
+    // this state.
+    ghost given: { ∥ All (MayBeRead (H.gives disk.now folder.now state)) reads ∥₁ },
+    ghost unread: { ∥ All (MayFail (H.gives disk.now folder.now state)) failed ∥₁ },
 }
 
 impl<'a, H: Disk> FolderFiles<'a, H> {
@@ -104,7 +105,6 @@ impl<'a, H: Disk> FolderFiles<'a, H> {
     pub fn new(disk: &'a H, folder: &'a str) -> FolderFiles<'a, H>
         ensures disk { result.disk.now ≡ disk.now }
         ensures folder { result.folder.now ≡ folder.now }
-        ensures failures { result.failures ≡ 0 }
         ensures failed { result.failed ≡ [] }
         ensures reads { result.reads ≡ [] }
     {
@@ -113,7 +113,6 @@ impl<'a, H: Disk> FolderFiles<'a, H> {
             folder,
             state: disk.folder_state(folder),
             hash: disk.id_hash(),
-            failures: 0,
             failed: FailedNames::none(),
             reads: FileReads::none(),
         }
@@ -158,13 +157,13 @@ fn bytes_up_to<D: OpenDisk>(
     path: &str,
     found: &NodeState,
 ) -> Result<Vec<u8>, FileFault>
-    requires { D.seen disk.now path.now (was_found found.now) }
+    requires found { D.seen disk.now path.now (was_found found.now) }
     ensures short { IfOk result (λ bytes. length bytes.items ≤ limit) }
     ensures whole { IfOk result (λ bytes. (held : _) × (D.seen disk.now path.now (was_opened found.now held)
         × IfSome held (λ whole. bytes.items ≡ whole))) }
     ensures err { IfErr result (IsFaultOfFound (D.seen disk.now) limit path.now found.now) }
 {
-    if found.length > limit as u64 {
+    if !found.is_file || found.length > limit as u64 {
         return Err(FileFault::Failed);
     }
     let file = match disk.open_found(path, found) {
@@ -178,25 +177,48 @@ fn bytes_up_to<D: OpenDisk>(
     }
 }
 
+// Returns whether what is at a path is still in a state, now that these bytes of a file have been read, or no file was
+// found.
+fn is_still<D: OpenDisk>(
+    disk: &D,
+    path: &str,
+    state: &Option<NodeState>,
+    file: &Option<Vec<u8>>,
+) -> bool
+    ensures { MatchBool result
+        (D.seen disk.now path.now (found_after (option_map (λ bytes. bytes.items) file.now) state.now))
+        (HasChanged (D.seen disk.now) path.now state.now) }
+{
+    match (disk.state_after(path, file), state) {
+        (Some(now), Some(state)) => now == *state,
+        (Some(_), None) => false,
+        (None, Some(_)) => false,
+        (None, None) => true,
+    }
+}
+
 // Returns all bytes of a file that was found, or `Failed` if there are more than `limit` or the file changed while it
 // was read.
-fn found_bytes<D: OpenDisk>(
+fn found_file<D: OpenDisk>(
     limit: u32,
     disk: &D,
     alloc: Global,
     path: &str,
     found: &NodeState,
-) -> Result<Vec<u8>, FileFault>
+) -> Result<Option<Vec<u8>>, FileFault>
     requires { D.seen disk.now path.now (was_found found.now) }
-    ensures short { IfOk result (λ bytes. length bytes.items ≤ limit) }
-    ensures held { IfOk result (λ bytes. IsHeldAt (D.seen disk.now) path.now bytes.items) }
+    ensures short { IfOk result (λ file. IfSome file (λ bytes. length bytes.items ≤ limit)) }
+    ensures file { IfOk result (IsFileAt (D.seen disk.now) path.now) }
     ensures err { IfErr result (IsFaultOfFound (D.seen disk.now) limit path.now found.now) }
 {
-    match bytes_up_to(limit, disk, alloc, path, found) {
-        Ok(bytes) if disk.file_stayed(path, found, &bytes) => Ok(bytes),
-        Ok(_) => Err(FileFault::Failed),
-        Err(fault) => Err(fault),
+    let file = match bytes_up_to(limit, disk, alloc, path, found) {
+        Ok(bytes) => Some(bytes),
+        Err(fault) => return Err(fault),
+    };
+    if is_still(disk, path, &Some(*found), &file) {
+        return Ok(file);
     }
+    Err(FileFault::Failed)
 }
 
 // Returns the bytes of the file at a path, or none if there is no such file.
@@ -210,11 +232,8 @@ fn file_at<D: OpenDisk>(
     ensures file { IfOk result (IsFileAt (D.seen disk.now) path.now) }
     ensures err { IfErr result (IsFaultAt (D.seen disk.now) limit path.now) }
 {
-    match disk.find_file(path) {
-        Ok(found) => match found_bytes(limit, disk, alloc, path, &found) {
-            Ok(bytes) => Ok(Some(bytes)),
-            Err(fault) => Err(fault),
-        },
+    match disk.find(path) {
+        Ok(found) => found_file(limit, disk, alloc, path, &found),
         Err(error) => none_or_fault(disk, path, error.kind()),
     }
 }
@@ -242,35 +261,27 @@ pub fn file_up_to<D: OpenDisk>(
         return Err(FileFault::OutOfMemory);
     };
     match file_at(limit, disk, alloc, path.as_str()) {
-        Ok(file) if disk.folder_stayed(folder, state, &file) => Ok(file),
+        Ok(file) if is_still(disk, folder, state, &file) => Ok(file),
         Ok(_) => Err(FileFault::Failed),
         Err(fault) => Err(fault),
     }
 }
 
 impl<'a, H: Disk> FeedFiles for FolderFiles<'a, H> {
-    ghost failures = { λ files. files.failures };
-
-    ghost failed = { λ files. files.failed };
-
     // the path of the folder comes first, so that the reads of two folders are never the same
-    ghost reads = { λ files. opened files.folder.now ∷ files.reads };
-
-    ghost holds = { λ files name. None };
-
-    // the possible results of the disk for that file of the folder
-    ghost may_give = { λ files. H.gives files.disk.now files.folder.now };
-
-    ghost hash = { λ files. Some files.hash };
+    ghost words = { record {
+      reads = λ files. opened files.folder.now ∷ files.reads;
+      failed = λ files. files.failed;
+      holds = λ files name. None;
+      may_give = λ files. H.gives files.disk.now files.folder.now files.state;
+      hash = λ files. Some files.hash;
+    } };
 
     fn read(&mut self, alloc: Global, name: &str) -> Result<Option<Vec<u8>>, FileFault> {
         let read = self.disk.feed_file(alloc, self.folder, &self.state, name);
         match &read {
             Ok(file) => self.reads.note(name, file),
-            Err(FileFault::Failed) => {
-                self.failures = self.failures.saturating_add(1);
-                self.failed.note(name);
-            }
+            Err(FileFault::Failed) => self.failed.note(name),
             Err(FileFault::OutOfMemory) => {}
         }
         read

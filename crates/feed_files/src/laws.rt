@@ -10,17 +10,18 @@ ghost use Rattle.feed_files.specs.declared.files.TheConstants.{LONGEST_FILE};
 use crate::files::FeedFiles;
 use crate::folder::{Disk, FolderFiles};
 
-/// All reads between two moments are of the same folder: the disk may give what was read for files of that folder,
-/// and may fail to read each file whose read failed.
+/// All reads between two moments are of one folder, as it was drawn: the disk may give what was read for its files, and
+/// may fail to read each file whose read failed.
 pub fn reads_are_of_one_folder<'a, H: Disk>(before: &FolderFiles<'a, H>, then: &FolderFiles<'a, H>)
     ensures folder { (content : Content) (ts : List Table)
-        → AreRead content ts (⟦<FolderFiles<'a, H> as FeedFiles>⟧.reads before.now)
-        (⟦<FolderFiles<'a, H> as FeedFiles>⟧.reads then.now) → then.now.folder.now ≡ before.now.folder.now }
+        → AreRead content ts (⟦<FolderFiles<'a, H> as FeedFiles>⟧.words.reads before.now)
+        (⟦<FolderFiles<'a, H> as FeedFiles>⟧.words.reads then.now) → then.now.folder.now ≡ before.now.folder.now }
     ensures read { (content : Content) (ts : List Table)
-        → AreRead content ts (⟦<FolderFiles<'a, H> as FeedFiles>⟧.reads before.now)
-        (⟦<FolderFiles<'a, H> as FeedFiles>⟧.reads then.now)
-        → MayHold (H.gives then.now.disk.now before.now.folder.now) content ts }
-    ensures failed { ∥ All (MayFail (H.gives then.now.disk.now then.now.folder.now)) then.now.failed ∥₁ }
+        → AreRead content ts (⟦<FolderFiles<'a, H> as FeedFiles>⟧.words.reads before.now)
+        (⟦<FolderFiles<'a, H> as FeedFiles>⟧.words.reads then.now)
+        → MayHold (H.gives then.now.disk.now before.now.folder.now then.now.state) content ts }
+    ensures failed { ∥ All (MayFail (H.gives then.now.disk.now then.now.folder.now then.now.state)) then.now.failed ∥₁ }
+    ensures shown { ∥ H.shows then.now.disk.now then.now.folder.now then.now.state ∥₁ }
 {}
 
 /// The longest file that is read: 2,000,000,000 bytes.

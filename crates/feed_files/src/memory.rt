@@ -52,16 +52,14 @@ fn copied(alloc: Global, bytes: Option<&[u8]>) -> Result<Option<Vec<u8>>, FileFa
 }
 
 impl<'a> FeedFiles for MemoryFiles<'a> {
-    ghost failures = { λ files. 0 };
-
-    ghost failed = { λ files. [] };
-
-    ghost reads = { λ files. files.reads };
-
-    ghost holds = { λ files name. Some (held files.files.now name) };
-
     // the hash isn't stated: no ids in these files were made to collide
-    ghost hash = { λ files. None };
+    ghost words = { record {
+      reads = λ files. files.reads;
+      failed = λ files. [];
+      holds = λ files name. Some (held files.files.now name);
+      may_give = λ files name answer. Unit {0};
+      hash = λ files. None;
+    } };
 
     fn read(&mut self, alloc: Global, name: &str) -> Result<Option<Vec<u8>>, FileFault> {
         let file = copied(alloc, find(self.files, name))?;

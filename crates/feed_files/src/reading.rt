@@ -1,17 +1,16 @@
 //! Reads the tables of a feed's files, one after another.
 
-ghost use Rattle.std.specs.Prelude.{◌≡◌, ◌≢◌, ◌+◌, ◌-◌, ◌^◌, ◌<◌, List, [], Option, None, Some, IfOk, IfErr};
+ghost use Rattle.std.specs.Prelude.{◌≡◌, ◌≢◌, ℕ, List, [], Option, None, Some, IfOk, IfErr};
 ghost use Rattle.std.specs.Prelude.{◌∷◌, option_map, IfSome, OnOk};
 ghost use Rattle.gtfs_rows.specs.declared.id_hash.IdHash.{IdHash as Hash};
-ghost use Rattle.gtfs_rows.specs.declared.fault.Table.{Table as TableName};
 ghost use Rattle.gtfs_rows.specs.declared.fault.Table.TheVariants as tables;
 ghost use Rattle.gtfs_rows.specs.FaultNumber.{file_name};
-ghost use Rattle.feed_files.specs.Outcome.{failed_by, failed_in};
+ghost use Rattle.feed_files.specs.Outcome.{failed_by};
 ghost use Rattle.feed_files.specs.Files.{read_also};
 ghost use Rattle.feed_files.specs.Reading.{Content, FineBefore, HoldsCalendars, HoldsRequired, HoldsTables, IsHeld};
 ghost use Rattle.feed_files.specs.Reading.{NoRows, NoTables, Optional, OptionalFault, Required, RequiredFault};
-ghost use Rattle.feed_files.specs.Reading.{Tells, earlier};
-ghost use Rattle.feed_files.specs.Reads.{AllGave, AllWereRead, AreRead, AskedFor, SomeWereRead, all_tables};
+ghost use Rattle.feed_files.specs.Reading.{earlier};
+ghost use Rattle.feed_files.specs.Reads.{AllGave, AllWereRead, AreReadBy, Shows, SomeWereRead, all_tables};
 ghost use Rattle.feed_files.specs.Hashed.{AreHashed};
 
 use crate::files::{FeedFiles, FileFault};
@@ -38,14 +37,9 @@ fn bytes_of<F: FeedFiles, T: TableFile>(
     alloc: Global,
     files: &mut F,
 ) -> Result<Option<Vec<u8>>, ReadFault>
-    ensures same { F.holds files.new ≡ F.holds files.old }
-    ensures hash { F.hash files.new ≡ F.hash files.old }
-    ensures failures { F.failures files.old < 2 ^ 64 - 1
-        → F.failures files.new ≡ F.failures files.old + failed_in result }
-    ensures failed { F.failed files.new ≡ failed_by (F.failed files.old) result }
-    ensures reads { F.reads files.new ≡ read_also (F.reads files.old) (file_name T.TABLE) result }
-    ensures held { IfOk result (λ file. IfSome (F.holds files.old (file_name T.TABLE))
-        (λ bytes. option_map (λ read. read.items) file ≡ bytes)) }
+    ensures read { AreReadBy F.words (T.TABLE ∷ []) files.old result files.new }
+    ensures gave { (content : Content) → AllGave F.words files.old files.new content
+        → IfOk result (λ file. option_map (λ bytes. bytes.items) file ≡ content T.TABLE) }
     ensures err { IfErr result (NoRows T.TABLE (λ row kind. ⊥)) }
 {
     match files.read(alloc, T::TABLE.file_name()) {
@@ -63,7 +57,7 @@ fn bytes_of<F: FeedFiles, T: TableFile>(
 fn rows_of<T: TableFile>(alloc: Global, hash: IdHash, bytes: &[u8]) -> Result<Option<T>, ReadFault>
     ensures ok { IfOk result (λ rows. IsHeld T.holds (Some bytes.now) rows) }
     ensures hashed { IfOk result (λ rows. IfSome rows (T.is_hashed hash)) }
-    ensures failures { failed_in result ≡ 0 }
+    ensures failed { (before : List (List ℕ)) → failed_by before result ≡ before }
     ensures err { IfErr result (NoRows T.TABLE (OptionalFault T.tells (Some bytes.now))) }
 {
     match T::read(alloc, hash, bytes) {
@@ -77,17 +71,12 @@ fn optional<F: FeedFiles, T: TableFile>(
     alloc: Global,
     files: &mut F,
 ) -> Result<Option<T>, ReadFault>
-    ensures same { F.holds files.new ≡ F.holds files.old }
-    ensures hash { F.hash files.new ≡ F.hash files.old }
-    ensures failures { F.failures files.old < 2 ^ 64 - 1
-        → F.failures files.new ≡ F.failures files.old + failed_in result }
-    ensures failed { F.failed files.new ≡ failed_by (F.failed files.old) result }
-    ensures asked { AskedFor (F.holds files.old) (T.TABLE ∷ []) (F.reads files.old) (F.reads files.new) result }
-    ensures ok { (content : Content) → AllGave content (F.reads files.old) (F.reads files.new)
+    ensures read { AreReadBy F.words (T.TABLE ∷ []) files.old result files.new }
+    ensures ok { (content : Content) → AllGave F.words files.old files.new content
         → IfOk result (λ rows. IsHeld T.holds (content T.TABLE) rows) }
-    ensures err { (content : Content) → AllGave content (F.reads files.old) (F.reads files.new)
+    ensures err { (content : Content) → AllGave F.words files.old files.new content
         → IfErr result (NoRows T.TABLE (OptionalFault T.tells (content T.TABLE))) }
-    ensures hashed { (hash : Hash) → F.hash files.old ≡ Some hash
+    ensures hashed { (hash : Hash) → F.words.hash files.old ≡ Some hash
         → IfOk result (λ rows. IfSome rows (T.is_hashed hash)) }
 {
     match bytes_of::<F, T>(alloc, files) {
@@ -99,17 +88,12 @@ fn optional<F: FeedFiles, T: TableFile>(
 
 // Returns the rows of a required file: `MissingFile` if it is missing.
 fn required<F: FeedFiles, T: TableFile>(alloc: Global, files: &mut F) -> Result<T, ReadFault>
-    ensures same { F.holds files.new ≡ F.holds files.old }
-    ensures hash { F.hash files.new ≡ F.hash files.old }
-    ensures failures { F.failures files.old < 2 ^ 64 - 1
-        → F.failures files.new ≡ F.failures files.old + failed_in result }
-    ensures failed { F.failed files.new ≡ failed_by (F.failed files.old) result }
-    ensures asked { AskedFor (F.holds files.old) (T.TABLE ∷ []) (F.reads files.old) (F.reads files.new) result }
-    ensures ok { (content : Content) → AllGave content (F.reads files.old) (F.reads files.new)
+    ensures read { AreReadBy F.words (T.TABLE ∷ []) files.old result files.new }
+    ensures ok { (content : Content) → AllGave F.words files.old files.new content
         → IfOk result (λ rows. Required (λ held. T.holds held rows) (content T.TABLE)) }
-    ensures err { (content : Content) → AllGave content (F.reads files.old) (F.reads files.new)
+    ensures err { (content : Content) → AllGave F.words files.old files.new content
         → IfErr result (NoRows T.TABLE (RequiredFault T.tells (content T.TABLE))) }
-    ensures hashed { (hash : Hash) → F.hash files.old ≡ Some hash → IfOk result (T.is_hashed hash) }
+    ensures hashed { (hash : Hash) → F.words.hash files.old ≡ Some hash → IfOk result (T.is_hashed hash) }
 {
     match optional::<F, T>(alloc, files) {
         Ok(Some(rows)) => Ok(rows),
@@ -122,17 +106,11 @@ fn required<F: FeedFiles, T: TableFile>(alloc: Global, files: &mut F) -> Result<
 fn rows_or_none<F: FeedFiles, R: Drop>(alloc: Global, files: &mut F) -> Result<Vec<R>, ReadFault>
 where
     Vec<R>: TableFile,
-    ensures same { F.holds files.new ≡ F.holds files.old }
-    ensures hash { F.hash files.new ≡ F.hash files.old }
-    ensures failures { F.failures files.old < 2 ^ 64 - 1
-        → F.failures files.new ≡ F.failures files.old + failed_in result }
-    ensures failed { F.failed files.new ≡ failed_by (F.failed files.old) result }
-    ensures asked { AskedFor (F.holds files.old) (⟦<Vec<R> as TableFile>⟧.TABLE ∷ []) (F.reads files.old)
-        (F.reads files.new) result }
-    ensures ok { (content : Content) → AllGave content (F.reads files.old) (F.reads files.new)
+    ensures read { AreReadBy F.words (⟦<Vec<R> as TableFile>⟧.TABLE ∷ []) files.old result files.new }
+    ensures ok { (content : Content) → AllGave F.words files.old files.new content
         → IfOk result (λ rows. Optional (rows.items ≡ []) (λ held. ⟦<Vec<R> as TableFile>⟧.holds held rows)
         (content ⟦<Vec<R> as TableFile>⟧.TABLE)) }
-    ensures err { (content : Content) → AllGave content (F.reads files.old) (F.reads files.new)
+    ensures err { (content : Content) → AllGave F.words files.old files.new content
         → IfErr result (NoRows ⟦<Vec<R> as TableFile>⟧.TABLE (OptionalFault ⟦<Vec<R> as TableFile>⟧.tells
         (content ⟦<Vec<R> as TableFile>⟧.TABLE))) }
 {
@@ -148,16 +126,10 @@ fn calendars<F: FeedFiles>(
     alloc: Global,
     files: &mut F,
 ) -> Result<(Vec<CalendarRow>, Vec<CalendarDateRow>), ReadFault>
-    ensures same { F.holds files.new ≡ F.holds files.old }
-    ensures hash { F.hash files.new ≡ F.hash files.old }
-    ensures failures { F.failures files.old < 2 ^ 64 - 1
-        → F.failures files.new ≡ F.failures files.old + failed_in result }
-    ensures failed { F.failed files.new ≡ failed_by (F.failed files.old) result }
-    ensures asked { AskedFor (F.holds files.old) (tables.Calendar ∷ tables.CalendarDates ∷ []) (F.reads files.old)
-        (F.reads files.new) result }
-    ensures ok { (content : Content) → AllGave content (F.reads files.old) (F.reads files.new)
+    ensures read { AreReadBy F.words (tables.Calendar ∷ tables.CalendarDates ∷ []) files.old result files.new }
+    ensures ok { (content : Content) → AllGave F.words files.old files.new content
         → IfOk result (λ rows. HoldsCalendars content rows.0.items rows.1.items) }
-    ensures err { (content : Content) → AllGave content (F.reads files.old) (F.reads files.new)
+    ensures err { (content : Content) → AllGave F.words files.old files.new content
         → FineBefore content tables.Calendar → IfErr result (NoTables content) }
 {
     let calendar = optional::<F, Vec<CalendarRow>>(alloc, files)?;
@@ -180,19 +152,14 @@ struct RequiredTables {
 }
 
 fn required_tables<F: FeedFiles>(alloc: Global, files: &mut F) -> Result<RequiredTables, ReadFault>
-    ensures same { F.holds files.new ≡ F.holds files.old }
-    ensures hash { F.hash files.new ≡ F.hash files.old }
-    ensures failures { F.failures files.old < 2 ^ 64 - 1
-        → F.failures files.new ≡ F.failures files.old + failed_in result }
-    ensures failed { F.failed files.new ≡ failed_by (F.failed files.old) result }
-    ensures asked { AskedFor (F.holds files.old) (earlier tables.Calendar) (F.reads files.old) (F.reads files.new)
-        result }
-    ensures ok { (content : Content) → AllGave content (F.reads files.old) (F.reads files.new)
+    ensures read { AreReadBy F.words (earlier tables.Calendar) files.old result files.new }
+    ensures ok { (content : Content) → AllGave F.words files.old files.new content
         → IfOk result (λ t. HoldsRequired content t.agencies.items t.stops.rows.items t.trips.rows.items
         t.stop_times) }
-    ensures err { (content : Content) → AllGave content (F.reads files.old) (F.reads files.new)
+    ensures err { (content : Content) → AllGave F.words files.old files.new content
         → IfErr result (NoTables content) }
-    ensures hashed { (hash : Hash) → F.hash files.old ≡ Some hash → IfOk result (λ t. AreHashed hash t.stop_times) }
+    ensures hashed { (hash : Hash) → F.words.hash files.old ≡ Some hash
+        → IfOk result (λ t. AreHashed hash t.stop_times) }
 {
     let agencies = required(alloc, files)?;
     let stops = required(alloc, files)?;
@@ -208,17 +175,13 @@ fn required_tables<F: FeedFiles>(alloc: Global, files: &mut F) -> Result<Require
 
 // Returns the tables of a feed's files, as `read_tables` does.
 fn tables_of<F: FeedFiles>(alloc: Global, files: &mut F) -> Result<Tables, ReadFault>
-    ensures same { F.holds files.new ≡ F.holds files.old }
-    ensures hash { F.hash files.new ≡ F.hash files.old }
-    ensures failures { F.failures files.old < 2 ^ 64 - 1
-        → F.failures files.new ≡ F.failures files.old + failed_in result }
-    ensures failed { F.failed files.new ≡ failed_by (F.failed files.old) result }
-    ensures asked { AskedFor (F.holds files.old) all_tables (F.reads files.old) (F.reads files.new) result }
-    ensures ok { (content : Content) → AllGave content (F.reads files.old) (F.reads files.new)
+    ensures read { AreReadBy F.words all_tables files.old result files.new }
+    ensures ok { (content : Content) → AllGave F.words files.old files.new content
         → IfOk result (HoldsTables content) }
-    ensures err { (content : Content) → AllGave content (F.reads files.old) (F.reads files.new)
+    ensures err { (content : Content) → AllGave F.words files.old files.new content
         → IfErr result (NoTables content) }
-    ensures hashed { (hash : Hash) → F.hash files.old ≡ Some hash → IfOk result (λ t. AreHashed hash t.stop_times) }
+    ensures hashed { (hash : Hash) → F.words.hash files.old ≡ Some hash
+        → IfOk result (λ t. AreHashed hash t.stop_times) }
 {
     let required = required_tables(alloc, files)?;
     let (calendar, calendar_dates) = calendars(alloc, files)?;
@@ -243,20 +206,13 @@ fn tables_of<F: FeedFiles>(alloc: Global, files: &mut F) -> Result<Tables, ReadF
 ///
 /// The result is that of the bytes that were read in this call, whatever the files hold later.
 pub fn read_tables<F: FeedFiles>(alloc: Global, files: &mut F) -> Result<Tables, ReadFault>
-    requires { F.failures files.old < 2 ^ 64 - 1 }
-    ensures same { F.holds files.new ≡ F.holds files.old }
-    ensures hash { F.hash files.new ≡ F.hash files.old }
-    ensures failures { F.failures files.new ≡ F.failures files.old + failed_in result }
-    ensures failed { F.failed files.new ≡ failed_by (F.failed files.old) result }
-    ensures all_read { OnOk result (AllWereRead (F.reads files.old) (F.reads files.new)) }
-    ensures first_read { SomeWereRead (F.reads files.old) (F.reads files.new) }
-    ensures read_ok { (content : Content) (ts : List TableName)
-        → AreRead content ts (F.reads files.old) (F.reads files.new) → IfOk result (HoldsTables content) }
-    ensures read_err { (content : Content) (ts : List TableName)
-        → AreRead content ts (F.reads files.old) (F.reads files.new) → IfErr result (NoTables content) }
-    ensures ok { (content : Content) → Tells (F.holds files.old) content → IfOk result (HoldsTables content) }
-    ensures err { (content : Content) → Tells (F.holds files.old) content → IfErr result (NoTables content) }
-    ensures hashed { (hash : Hash) → F.hash files.old ≡ Some hash → IfOk result (λ t. AreHashed hash t.stop_times) }
+    ensures read { AreReadBy F.words all_tables files.old result files.new }
+    ensures all_read { OnOk result (AllWereRead (F.words.reads files.old) (F.words.reads files.new)) }
+    ensures first_read { SomeWereRead (F.words.reads files.old) (F.words.reads files.new) }
+    ensures ok { (content : Content) → Shows F.words files.old files.new content → IfOk result (HoldsTables content) }
+    ensures err { (content : Content) → Shows F.words files.old files.new content → IfErr result (NoTables content) }
+    ensures hashed { (hash : Hash) → F.words.hash files.old ≡ Some hash
+        → IfOk result (λ t. AreHashed hash t.stop_times) }
 {
     tables_of(alloc, files)
 }

@@ -9,7 +9,9 @@ use Rattle.timetable.specs.declared.network.Connection.{Connection}
 use Rattle.timetable.specs.declared.network.Footpath.{Footpath}
 use Rattle.image_layout.specs.Spelling.{text}
 use Rattle.image_writer.specs.Writable.{IsWritable}
+use Rattle.gtfs_rows.specs.declared.fault.Table.TheVariants as tables
 use Rattle.gtfs_rows.specs.declared.values.Day.{Day}
+use Rattle.image_verifier.specs.declared.fault.ImageFault.TheVariants as images
 use Rattle.gtfs_tables.specs.declared.tables.Feed.{Feed}
 use Rattle.service_days.specs.Zones.{HasNoStart}
 use Rattle.service_days.specs.declared.zone.Zone.{Zone}
@@ -18,14 +20,16 @@ use Rattle.footpaths.specs.Closure.{HasLegalFootpaths}
 use Rattle.connections.specs.Days.{HasNoStartAmong, days_from}
 use Rattle.connections.specs.Faults.{IsWantOfMemory as RunsWantMemory}
 use Rattle.connections.specs.Legal.{AreWithinLimits, HasLegalConnections}
-use Rattle.connections.specs.Outcome.{IsFirstRefusal, IsListing}
+use Rattle.connections.specs.Outcome.{IsFirstRefusal, IsListing, IsReport}
+use Rattle.connections.specs.declared.report.Report.{Report}
 use Rattle.connections.specs.declared.fault.RunsFault.{RunsFault}
 use Rattle.connections.specs.declared.fault.RunsFault.TheVariants as runs
 use Rattle.connections.specs.declared.runs.Run.{Run}
-use Rattle.feed_loader.specs.Faults.{load_fault_of_runs}
-use Rattle.feed_loader.specs.Loaded.{AreNames}
-use Rattle.feed_loader.specs.Refused.{AreNamesRefused, IsFeedRefusal, IsWantOfMemory}
+use Rattle.feed_loader.specs.Faults.{load_fault_of_runs, out_of_memory}
+use Rattle.feed_loader.specs.Loaded.{AreNames, IsFeedClosure, IsMade}
+use Rattle.feed_loader.specs.Refused.{AreNamesRefused, IsFeedRefusal, IsTableMemory, IsWantOfMemory, RanOut}
 use Rattle.feed_loader.specs.declared.fault.LoadFault.{LoadFault}
+use Rattle.feed_loader.specs.declared.fault.LoadFault.TheVariants as faults
 use Rattle.feed_loader.specs.declared.plan.Plan.{Plan}
 
 -- the first of some days is among them
@@ -37,6 +41,66 @@ first_missing zone first (suc n) some missing = (0, first, omega arith, refl, mi
 wants_memory : (fault : RunsFault) → RunsWantMemory fault → IsWantOfMemory (load_fault_of_runs fault)
 wants_memory (runs.Table fault) wants = wants
 wants_memory (runs.Day fault) wants = wants
+
+table_wants : (fault : LoadFault) → IsTableMemory fault → IsWantOfMemory fault
+table_wants (faults.Table fault) wants = wants
+table_wants (faults.Day fault) wants = elim wants [ ]
+table_wants (faults.Footpaths fault) wants = elim wants [ ]
+table_wants (faults.Image fault) wants = elim wants [ ]
+table_wants (faults.FileFailed table) wants = elim wants [ ]
+
+-- memory ran out for the runs, or for the names
+pub runs_ran_out : (feed : Feed) (plan : Plan) (fault : RunsFault) → length feed.stops.items ≤ MAX_STOPS
+    → IsWantOfMemory (load_fault_of_runs fault) → RanOut feed plan (load_fault_of_runs fault)
+runs_ran_out feed plan (runs.Table fault) few wants = wants
+runs_ran_out feed plan (runs.Day fault) few wants = (wants, few)
+
+pub names_ran_out : (feed : Feed) (plan : Plan) (runs_are : List Run) (outcome : LoadFault) → length feed.stops.items ≤ MAX_STOPS
+    → AreNamesRefused feed plan runs_are outcome → IsWantOfMemory outcome → RanOut feed plan outcome
+names_ran_out feed plan runs_are (faults.Table fault) few refused wants = wants
+names_ran_out feed plan runs_are (faults.Day fault) few refused wants = (wants, few)
+names_ran_out feed plan runs_are (faults.Footpaths fault) few (inl none) wants = elim none [ ]
+names_ran_out feed plan runs_are (faults.Footpaths fault) few (inr (inl (is, missing))) wants = absurd cc
+names_ran_out feed plan runs_are (faults.Footpaths fault) few (inr (inr (is, names, named, long))) wants = absurd cc
+names_ran_out feed plan runs_are (faults.Image fault) few (inl none) wants = elim none [ ]
+names_ran_out feed plan runs_are (faults.Image fault) few (inr (inl (is, missing))) wants = absurd cc
+names_ran_out feed plan runs_are (faults.Image fault) few (inr (inr (is, names, named, long))) wants = absurd cc
+names_ran_out feed plan runs_are (faults.FileFailed table) few refused wants = elim wants [ ]
+
+-- memory ran out for an image that was made
+is_made : (feed : Feed) (plan : Plan) (connections : List Connection) (runs_are : List Run) (footpaths : List Footpath) (names : NamesValue)
+    (report : Report) → IsListing feed plan.zone plan.first_day plan.days connections runs_are → IsFeedClosure feed footpaths
+    → AreNames feed plan runs_are names → IsReport feed (length runs_are) (length connections) report
+    → IsMade feed plan (record { stops = length feed.stops.items; trips = length runs_are; connections = connections; footpaths = footpaths })
+    names (record report { footpaths = length footpaths })
+is_made feed plan connections runs_are footpaths names report listing closure named counted = record {
+  runs = runs_are;
+  timetable = record { stops = refl; trips = refl; listing = listing; footpaths = closure };
+  named = named;
+  counted = record {
+    counts = record {
+      stops = counted.stops;
+      runs = counted.runs;
+      connections = counted.connections;
+      footpaths = refl;
+      lifted = counted.lifted;
+      flex = counted.flex;
+      frequencies = counted.frequencies;
+      skipped = counted.skipped;
+    };
+    footpaths = refl;
+  };
+}
+
+pub image_ran_out : (feed : Feed) (plan : Plan) (connections : List Connection) (runs_are : List Run) (footpaths : List Footpath) (names : NamesValue)
+    (report : Report) (outcome : LoadFault) → IsListing feed plan.zone plan.first_day plan.days connections runs_are → IsFeedClosure feed footpaths
+    → AreNames feed plan runs_are names → IsReport feed (length runs_are) (length connections) report
+    → (outcome ≡ out_of_memory tables.Trips) ⊎ (outcome ≡ faults.Image images.OutOfMemory) → RanOut feed plan outcome
+image_ran_out feed plan connections runs_are footpaths names report outcome listing closure named counted (inl is) =
+    subst (λ (x : LoadFault). RanOut feed plan x) (sym is) refl
+image_ran_out feed plan connections runs_are footpaths names report outcome listing closure named counted (inr is) =
+    subst (λ (x : LoadFault). RanOut feed plan x) (sym is)
+    (refl, _, names, _, is_made feed plan connections runs_are footpaths names report listing closure named counted)
 
 -- the runs are refused
 pub runs_refused : (feed : Feed) (plan : Plan) (fault : RunsFault) (outcome : LoadFault) → outcome ≡ load_fault_of_runs fault → length feed.stops.items
@@ -50,7 +114,7 @@ pub names_refused : (feed : Feed) (plan : Plan) (connections : List Connection) 
     → 1 ≤ plan.days → length feed.stops.items ≤ MAX_STOPS
     → IsListing feed plan.zone plan.first_day plan.days connections runs_are → AreNamesRefused feed plan runs_are outcome
     → IsWantOfMemory outcome ⊎ IsFeedRefusal feed plan outcome
-names_refused feed plan connections runs_are outcome some few listing (inl wants) = inl wants
+names_refused feed plan connections runs_are outcome some few listing (inl wants) = inl (table_wants outcome wants)
 names_refused feed plan connections runs_are outcome some few listing (inr (inl (is, missing))) =
     inr (inr (inl (record {
       refusal = runs.Day DayOutOfRange;

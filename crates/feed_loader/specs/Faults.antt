@@ -29,15 +29,6 @@ too_many table = faults.Table (record { file = table; row = 0; kind = kinds.TooM
 abbrev pub out_of_memory : Table → LoadFault
 out_of_memory table = faults.Table (record { file = table; row = 0; kind = kinds.OutOfMemory })
 
--- how many reads failed
-abbrev pub failed_in : {T : Type 0} → Result T LoadFault → ℕ
-failed_in (Ok t) = 0
-failed_in (Err (faults.Table fault)) = 0
-failed_in (Err (faults.Day fault)) = 0
-failed_in (Err (faults.Footpaths fault)) = 0
-failed_in (Err (faults.Image fault)) = 0
-failed_in (Err (faults.FileFailed table)) = 1
-
 -- the names of the files whose reads failed: those from before, and that of the file that the fault names
 abbrev pub failed_by : {T : Type 0} → List (List ℕ) → Result T LoadFault → List (List ℕ)
 failed_by before (Ok t) = before

@@ -37,6 +37,14 @@ IsWantOfMemory (faults.Footpaths fault) = fault ≡ paths.OutOfMemory
 IsWantOfMemory (faults.Image fault) = fault ≡ images.OutOfMemory
 IsWantOfMemory (faults.FileFailed table) = ⊥
 
+-- memory ran out, with the number 17
+abbrev pub IsTableMemory : LoadFault → Type 0
+IsTableMemory (faults.Table fault) = fault.kind ≡ kinds.OutOfMemory
+IsTableMemory (faults.Day fault) = ⊥
+IsTableMemory (faults.Footpaths fault) = ⊥
+IsTableMemory (faults.Image fault) = ⊥
+IsTableMemory (faults.FileFailed table) = ⊥
+
 -- there are too many stops
 pub record AreTooManyStops (feed : Feed) (fault : LoadFault) : Type 0 where
   pub is : fault ≡ too_many tables.Stops
@@ -75,10 +83,20 @@ pub record AreFootpathsRefused (feed : Feed) (plan : Plan) (fault : LoadFault) :
   pub listed_are : AreFeedPaths feed listed
   pub too_large : IsFault listed MAX_FOOTPATHS MAX_WALK_SECS refusal
 
+-- memory ran out while an image was made of a joined feed: 23 comes only once the stops are counted, 43 once the names are known, 76 once the image is made
+abbrev pub RanOut : Feed → Plan → LoadFault → Type 0
+RanOut feed plan (faults.Table fault) = fault.kind ≡ kinds.OutOfMemory
+RanOut feed plan (faults.Day fault) = (fault ≡ days.OutOfMemory) × (length feed.stops.items ≤ MAX_STOPS)
+RanOut feed plan (faults.Footpaths fault) =
+    (fault ≡ paths.OutOfMemory) × (names : NamesValue) × IsNamed feed plan names × (length (text names) ≤ MAX_NAME_BYTES)
+RanOut feed plan (faults.Image fault) =
+    (fault ≡ images.OutOfMemory) × (t : TimetableValue) × (names : NamesValue) × (report : Report) × IsMade feed plan t names report
+RanOut feed plan (faults.FileFailed table) = ⊥
+
 -- why there are no names: memory ran out, the first day has no start, or the names are too long together
 abbrev pub AreNamesRefused : Feed → Plan → List Run → LoadFault → Type 0
 AreNamesRefused feed plan runs fault =
-    IsWantOfMemory fault
+    IsTableMemory fault
     ⊎ (((fault ≡ faults.Day days.DayOutOfRange) × HasNoStart plan.zone plan.first_day)
     ⊎ ((fault ≡ too_many tables.Trips) × (names : NamesValue) × AreNames feed plan runs names × (MAX_NAME_BYTES < length (text names))))
 
@@ -122,3 +140,7 @@ pub record IsLoaded (content : Content) (plan : Plan) (t : TimetableValue) (name
   pub feed : Feed
   pub read : IsRead content plan.strict feed
   pub made : IsMade feed plan t names report
+
+-- memory ran out during a load: with another number than 17, a feed had been joined from the files, which all were read by then
+abbrev pub LacksMemory : Content → Plan → LoadFault → Type 0
+LacksMemory content plan fault = IsTableMemory fault ⊎ ((feed : Feed) × IsRead content plan.strict feed × RanOut feed plan fault)

@@ -14,4 +14,5 @@ pub use fault::LoadFault;
 pub use feed_files::{FailedNames, FeedFiles, FileFault, FolderFiles, MemoryFiles};
 pub use loading::load;
 pub use made::image_of;
+pub use names::day_number;
 pub use plan::Plan;

@@ -1,13 +1,12 @@
 //! Loads a feed: from files to tables, from tables to a feed, from a feed to its image.
 
-ghost use Rattle.std.specs.Prelude.{◌≡◌, ◌≤◌, ◌<◌, ◌+◌, ◌-◌, ◌^◌, List, IfOk, IfErr, OnOk};
+ghost use Rattle.std.specs.Prelude.{◌≡◌, ◌≤◌, IfOk, IfErr, OnOk};
 ghost use Rattle.image_layout.specs.declared.layout.TheConstants.{LAYOUT};
-ghost use Rattle.gtfs_rows.specs.declared.fault.Table.{Table};
-ghost use Rattle.feed_files.specs.Reading.{Content, Tells};
-ghost use Rattle.feed_files.specs.Reads.{AllWereRead, AreRead, SomeWereRead};
+ghost use Rattle.feed_files.specs.Reading.{Content};
+ghost use Rattle.feed_files.specs.Reads.{AllWereRead, Shows, SomeWereRead};
 ghost use Rattle.connections.specs.declared.days.TheConstants.{MAX_DAYS};
-ghost use Rattle.feed_loader.specs.Faults.{failed_by, failed_in};
-ghost use Rattle.feed_loader.specs.Refused.{IsLoadRefusal, IsLoaded, IsWantOfMemory};
+ghost use Rattle.feed_loader.specs.Faults.{failed_by};
+ghost use Rattle.feed_loader.specs.Refused.{IsLoadRefusal, IsLoaded, IsWantOfMemory, LacksMemory};
 
 use crate::fault::LoadFault;
 use crate::made::image_of;
@@ -31,25 +30,19 @@ pub fn load<F: FeedFiles>(
     files: &mut F,
     plan: &Plan,
 ) -> Result<(Verified, Report), LoadFault>
-    requires failures { F.failures files.old < 2 ^ 64 - 1 }
     requires some { 1 ≤ plan.now.days }
     requires few { plan.now.days ≤ MAX_DAYS }
-    ensures same { F.holds files.new ≡ F.holds files.old }
-    ensures failures { F.failures files.new ≡ F.failures files.old + failed_in result }
-    ensures failed { F.failed files.new ≡ failed_by (F.failed files.old) result }
+    ensures same { F.words.holds files.new ≡ F.words.holds files.old }
+    ensures failed { F.words.failed files.new ≡ failed_by (F.words.failed files.old) result }
     ensures layout { IfOk result (λ loaded. loaded.0.layout ≡ LAYOUT) }
-    ensures all_read { OnOk result (AllWereRead (F.reads files.old) (F.reads files.new)) }
-    ensures first_read { SomeWereRead (F.reads files.old) (F.reads files.new) }
-    ensures read_ok { (content : Content) (ts : List Table)
-        → AreRead content ts (F.reads files.old) (F.reads files.new)
+    ensures all_read { OnOk result (AllWereRead (F.words.reads files.old) (F.words.reads files.new)) }
+    ensures first_read { SomeWereRead (F.words.reads files.old) (F.words.reads files.new) }
+    ensures ok { (content : Content) → Shows F.words files.old files.new content
         → IfOk result (λ loaded. IsLoaded content plan.now loaded.0.timetable loaded.0.names loaded.1) }
-    ensures read_err { (content : Content) (ts : List Table)
-        → AreRead content ts (F.reads files.old) (F.reads files.new)
+    ensures err { (content : Content) → Shows F.words files.old files.new content
         → IfErr result (λ fault. ¬ (IsWantOfMemory fault) → IsLoadRefusal content plan.now fault) }
-    ensures ok { (content : Content) → Tells (F.holds files.old) content
-        → IfOk result (λ loaded. IsLoaded content plan.now loaded.0.timetable loaded.0.names loaded.1) }
-    ensures err { (content : Content) → Tells (F.holds files.old) content
-        → IfErr result (λ fault. ¬ (IsWantOfMemory fault) → IsLoadRefusal content plan.now fault) }
+    ensures memory { (content : Content) → Shows F.words files.old files.new content
+        → IfErr result (λ fault. IsWantOfMemory fault → LacksMemory content plan.now fault) }
 {
     let tables = read_tables(alloc, files)?;
     let feed = join(alloc, tables, plan.strict)?;

@@ -6,7 +6,7 @@ ghost use Rattle.image_layout.specs.declared.layout.TheConstants.{LAYOUT};
 ghost use Rattle.image_layout.specs.Spelling.{text};
 ghost use Rattle.connections.specs.declared.days.TheConstants.{MAX_DAYS};
 ghost use Rattle.feed_loader.specs.Loaded.{AreNames, IsMade};
-ghost use Rattle.feed_loader.specs.Refused.{AreNamesRefused, IsFeedRefusal, IsWantOfMemory};
+ghost use Rattle.feed_loader.specs.Refused.{AreNamesRefused, IsFeedRefusal, IsWantOfMemory, RanOut};
 
 use crate::closed::closed_footpaths;
 use crate::fault::{LoadFault, out_of_memory, too_many};
@@ -58,6 +58,7 @@ pub fn image_of(alloc: Global, feed: &Feed, plan: &Plan) -> Result<(Verified, Re
     ensures layout { IfOk result (λ made. made.0.layout ≡ LAYOUT) }
     ensures ok { IfOk result (λ made. IsMade feed.now plan.now made.0.timetable made.0.names made.1) }
     ensures err { IfErr result (λ fault. IsWantOfMemory fault ⊎ IsFeedRefusal feed.now plan.now fault) }
+    ensures memory { IfErr result (λ fault. IsWantOfMemory fault → RanOut feed.now plan.now fault) }
 {
     listing_is_legal();
     listing_is_within_limits();

@@ -10,8 +10,8 @@ use gtfs_tables::{Day, Feed, Stop, Trip};
 use std::alloc::{AllocError, Global};
 use timetable::TripName;
 
-// Returns a day as the number YYYYMMDD.
-fn day_number(day: Day) -> u32
+/// Returns a day as the number YYYYMMDD.
+pub fn day_number(day: Day) -> u32
     ensures { result ≡ day_number day }
 {
     10_000 * day.year as u32 + 100 * day.month as u32 + day.day as u32

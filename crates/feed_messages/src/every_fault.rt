@@ -44,8 +44,7 @@ pub fn explain_further<H: Files + AllocGlobal, F: FeedFiles, E: Write>(
     strict: bool,
     errors: &mut E,
 )
-    ensures once { AreAskedFor all_tables (F.reads files.old, F.failed files.old)
-        (F.reads files.new, F.failed files.new) }
+    ensures once { AreAskedFor F.words all_tables files.old files.new }
 {
     let mut found = FoundFaults::none(rt.alloc(), files.id_hash(), first, strict);
     found.explain_files(rt, folder, files, errors);
@@ -90,8 +89,7 @@ impl FoundFaults {
         files: &mut F,
         errors: &mut E,
     )
-        ensures { AreAskedFor all_tables (F.reads files.old, F.failed files.old)
-            (F.reads files.new, F.failed files.new) }
+        ensures { AreAskedFor F.words all_tables files.old files.new }
     {
         let mut left: &[Table] = &TABLES;
         while let [table, behind @ ..] = left {
@@ -114,7 +112,7 @@ impl FoundFaults {
         table: Table,
         errors: &mut E,
     ) -> Option<()>
-        ensures { IsAskedFor table (F.reads files.old, F.failed files.old) (F.reads files.new, F.failed files.new) }
+        ensures { IsAskedFor F.words table files.old files.new }
     {
         let answer = files.read(self.alloc, table.file_name());
         self.explain_answer(rt, folder, table, answer, errors)

@@ -1,7 +1,5 @@
 //! Files of which a read fails, and the order of a feed's reads.
 
-ghost use Rattle.std.specs.Prelude.{◌≡◌};
-
 use feed_files::{FailedNames, FeedFiles, FileFault, MemoryFiles};
 use gtfs_tables::{IdHash, Table};
 use std::alloc::Global;
@@ -31,9 +29,7 @@ pub struct Failing<'a> {
 
 impl<'a> Failing<'a> {
     /// Files of which this many can be read.
-    pub fn after(left: usize, files: &'a [(&'a str, &'a [u8])], fault: FileFault) -> Failing<'a>
-        ensures { result.failures ≡ 0 }
-    {
+    pub fn after(left: usize, files: &'a [(&'a str, &'a [u8])], fault: FileFault) -> Failing<'a> {
         Failing {
             files: MemoryFiles::of(files),
             left,
@@ -47,15 +43,13 @@ impl<'a> Failing<'a> {
 impl<'a> FeedFiles for Failing<'a> {
     ghost use Rattle.std.specs.Prelude.{None};
 
-    ghost failures = { λ files. files.failures };
-
-    ghost failed = { λ files. files.failed };
-
-    ghost reads = { λ files. ⟦<MemoryFiles<'a> as FeedFiles>⟧.reads files.files };
-
-    ghost holds = { λ files name. None };
-
-    ghost hash = { λ files. None };
+    ghost words = { record {
+      reads = λ files. ⟦<MemoryFiles<'a> as FeedFiles>⟧.words.reads files.files;
+      failed = λ files. files.failed;
+      holds = λ files name. None;
+      may_give = λ files name answer. Unit {0};
+      hash = λ files. None;
+    } };
 
     fn read(&mut self, alloc: Global, name: &str) -> Result<Option<Vec<u8>>, FileFault> {
         if self.left > 0 {

@@ -111,15 +111,13 @@ struct Hashed<F> {
 }
 
 impl<F: FeedFiles> FeedFiles for Hashed<F> {
-    ghost failures = { λ hashed. F.failures hashed.files };
-
-    ghost failed = { λ hashed. F.failed hashed.files };
-
-    ghost reads = { λ hashed. F.reads hashed.files };
-
-    ghost holds = { λ hashed. F.holds hashed.files };
-
-    ghost hash = { λ hashed. Some hashed.hash };
+    ghost words = { record {
+      reads = λ hashed. F.words.reads hashed.files;
+      failed = λ hashed. F.words.failed hashed.files;
+      holds = λ hashed. F.words.holds hashed.files;
+      may_give = λ hashed. F.words.may_give hashed.files;
+      hash = λ hashed. Some hashed.hash;
+    } };
 
     fn read(&mut self, alloc: Global, name: &str) -> Result<Option<Vec<u8>>, FileFault> {
         self.files.read(alloc, name)

@@ -1,5 +1,5 @@
 -- All files were read before the image was made, and none after that; what is written is the image that was made.
-use Rattle.std.proofs.Common.{◌∙◌}
+use Rattle.std.proofs.Common.{◌∙◌, inr}
 use Rattle.feed_files.specs.Reads.{all_tables}
 use Rattle.feed_loader.specs.Refused.{IsLoaded}
 use Rattle.connections.specs.declared.report.Report.{Report}
@@ -22,15 +22,15 @@ put_image-requires g c =
 pub returns-clause-built : goal.returns-clause-built
 returns-clause-built g c =
     let loaded = c.in-Ok.loaded in
-    whole_of g.F.FeedFiles.reads (g.F.FeedFiles.reads c.args.files.now.files) c.load_reported.new.files.files
+    whole_of g.F.FeedFiles.words.reads (g.F.FeedFiles.words.reads c.args.files.now.files) c.load_reported.new.files.files
     c.report_written.new.self.files
     (λ content. IsLoaded content c.args.plan loaded.0.timetable loaded.0.names loaded.1)
     (c.report_written.ensures ∙ c.report_writing.ensures) c.in-Ok.ensures.all_read
-    (λ content read. c.in-Ok.ensures.read_ok content all_tables read)
+    (λ content read. c.in-Ok.ensures.ok content (inr (all_tables, read)))
 
 pub returns-in-Err-clause-refused : goal.returns-in-Err-clause-refused
 returns-in-Err-clause-refused g c unless = (
   c.load_reported.ensures.first_read,
-  c.in-Err.ensures.failed ∙ as_failed (ImageValue × Report) (g.F.FeedFiles.failed c.args.files.now.files) c.in-Err.fault,
-  λ content ts read. c.in-Err.ensures.read_err content ts read unless,
+  c.in-Err.ensures.failed ∙ as_failed (ImageValue × Report) (g.F.FeedFiles.words.failed c.args.files.now.files) c.in-Err.fault,
+  λ content shows. c.in-Err.ensures.err content shows unless,
 )

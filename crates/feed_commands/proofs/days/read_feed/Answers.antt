@@ -9,31 +9,25 @@ pub returns-in_err-tables-clause-refused : goal.returns-in_err-tables-clause-ref
 returns-in_err-tables-clause-refused g c =
     let refusal = c.in_err-tables.field-0.0 in
     let figures = err_from_is_err_and c.from_residual.result c.from_residual.ensures.1 in
-    rw (figures.1, figures.2) (λ unless. (
-      c.in_err-tables.ensures.failed,
-      of_read_weaker g.H.Disk.gives c.args.folder.now (λ content. NoTables content refusal) _
-          (λ content first. inl (record {
-            refusal = refusal;
-            is = refl;
-            first = first;
-          })) c.in_err-tables.ensures.refused,
-    ))
+    rw (figures.1, figures.2) (λ unless. of_read_weaker (λ content. NoTables content refusal) _
+    (λ content first. inl (record {
+      refusal = refusal;
+      is = refl;
+      first = first;
+    })) c.in_err-tables.ensures.refused)
 
 pub returns-in_err-feed-clause-refused : goal.returns-in_err-feed-clause-refused
 returns-in_err-feed-clause-refused g c =
     let tables = c.in_ok-tables.tables in
     let figures = err_from_is_err_and c.from_residual-in_err-feed.result c.from_residual-in_err-feed.ensures.1 in
-    rw (figures.1, figures.2) (λ unless. (
-      tt,
-      of_read_weaker g.H.Disk.gives c.args.folder.now (λ content. HoldsTables content tables) _
-          (λ content held. inr (record {
-            t = tables;
-            held = held;
-            refusal = c.in_err-feed.field-0.0;
-            is = refl;
-            first = c.in_err-feed.ensures.err unless;
-          })) c.in_ok-tables.ensures.held,
-    ))
+    rw (figures.1, figures.2) (λ unless. of_read_weaker (λ content. HoldsTables content tables) _
+    (λ content held. inr (record {
+      t = tables;
+      held = held;
+      refusal = c.in_err-feed.field-0.0;
+      is = refl;
+      first = c.in_err-feed.ensures.err unless;
+    })) c.in_ok-tables.ensures.held)
 
 pub returns-clause-feed : goal.returns-clause-feed
 returns-clause-feed g c = (c.in_ok-tables.tables, c.in_ok-tables.ensures.tables, c.in_ok-feed.ensures.ok)

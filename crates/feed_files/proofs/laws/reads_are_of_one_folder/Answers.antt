@@ -11,4 +11,4 @@ pub returns-clause-read : goal.returns-clause-read
 returns-clause-read g c content ts read =
     let before = c.args.before.now in
     let then = c.args.then.now in
-    may_hold (g.H.Disk.gives then.disk.now) content ts before.folder.now then.folder.now before.reads then.reads read then.given
+    may_hold (λ folder. g.H.Disk.gives then.disk.now folder then.state) content ts before.folder.now then.folder.now before.reads then.reads read then.given

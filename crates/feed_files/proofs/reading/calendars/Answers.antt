@@ -9,18 +9,18 @@ use Rattle.gtfs_rows.specs.Tables.{HoldsCalendar, HoldsCalendarDates, IsFaultOf}
 use Rattle.feed_files.specs.Reading.{OptionalFault, earlier}
 use Rattle.feed_files.proofs.ReadingLemmas.{calendar_fault, calendars_held, calendars_missing, fine_more, held_rows}
 use Rattle.feed_files.proofs.ReadingLemmas.{no_file, no_tables, none_items, some_items, some_there}
-use Rattle.feed_files.proofs.ReadLemmas.{asked_join, gave_first, gave_rest, stopped_after, stopped_before}
+use Rattle.feed_files.proofs.ReadLemmas.{gave_first, gave_rest, read_then, read_up_to}
 use Rattle.feed_files.proofs.reading.calendars.Goals as goal
 
-pub returns-in_err-calendar-clause-asked : goal.returns-in_err-calendar-clause-asked
-returns-in_err-calendar-clause-asked g c =
+pub returns-in_err-calendar-clause-read : goal.returns-in_err-calendar-clause-read
+returns-in_err-calendar-clause-read g c =
     let p = err_from_is_err_and c.from_residual.result c.from_residual.ensures.1 in
-    rw p.1 (stopped_before (tables.CalendarDates ∷ []) c.in_err-calendar.ensures.asked)
+    rw (p.1, p.2) (read_up_to (tables.CalendarDates ∷ []) c.in_err-calendar.ensures.read)
 
-pub returns-in_err-dates-clause-asked : goal.returns-in_err-dates-clause-asked
-returns-in_err-dates-clause-asked g c =
+pub returns-in_err-dates-clause-read : goal.returns-in_err-dates-clause-read
+returns-in_err-dates-clause-read g c =
     let p = err_from_is_err_and c.from_residual-in_err-dates.result c.from_residual-in_err-dates.ensures.1 in
-    rw p.1 (stopped_after c.in_ok-calendar.ensures.asked c.in_ok-calendar.ensures.same c.in_err-dates.ensures.asked)
+    rw (p.1, p.2) (read_up_to [] (read_then c.in_ok-calendar.ensures.read c.in_err-dates.ensures.read))
 
 pub returns-in_err-calendar-clause-err : goal.returns-in_err-calendar-clause-err
 returns-in_err-calendar-clause-err g c content gave fine =
@@ -33,8 +33,8 @@ returns-in_err-calendar-clause-err g c content gave fine =
 pub returns-in_err-dates-clause-err : goal.returns-in_err-dates-clause-err
 returns-in_err-dates-clause-err g c content gave fine =
     let p = err_from_is_err_and c.from_residual-in_err-dates.result c.from_residual-in_err-dates.ensures.1 in
-    let a1 = c.in_ok-calendar.ensures.asked in
-    let g1 = gave_first content a1 (c.in_err-dates.ensures.asked.1) gave in
+    let a1 = c.in_ok-calendar.ensures.read in
+    let g1 = gave_first content a1 (c.in_err-dates.ensures.read) gave in
     let g2 = gave_rest content a1 gave in
     let calendar = held_rows (λ (rows : Vec CalendarRow Global). rows.items) HoldsCalendar (content tables.Calendar)
     c.in_ok-calendar.calendar (c.in_ok-calendar.ensures.ok content g1) in
@@ -43,13 +43,14 @@ returns-in_err-dates-clause-err g c content gave fine =
     (OptionalFault (IsFaultOf tables.CalendarDates) (content tables.CalendarDates)) c.in_err-dates.field-0.0
     (λ row kind h. h) (fine_more content (earlier tables.Calendar) tables.Calendar fine calendar) e)
 
-pub returns-in-None-None-clause-asked : goal.returns-in-None-None-clause-asked
-returns-in-None-None-clause-asked g c = (2, asked_join c.in_ok-calendar.ensures.asked c.in_ok-calendar.ensures.same c.in_ok-dates.ensures.asked)
+pub returns-in-None-None-clause-read : goal.returns-in-None-None-clause-read
+returns-in-None-None-clause-read g c = let both = read_then c.in_ok-calendar.ensures.read c.in_ok-dates.ensures.read in
+    record { asked = (2, both.asked); failed = both.failed; holds = both.holds; hash = both.hash }
 
 pub returns-in-None-Some-clause-ok : goal.returns-in-None-Some-clause-ok
 returns-in-None-Some-clause-ok g c content gave =
-    let a1 = c.in_ok-calendar.ensures.asked in
-    let g1 = gave_first content a1 c.in_ok-dates.ensures.asked gave in
+    let a1 = c.in_ok-calendar.ensures.read in
+    let g1 = gave_first content a1 c.in_ok-dates.ensures.read gave in
     let g2 = gave_rest content a1 gave in
     calendars_held content c.in_ok-calendar.calendar c.in_ok-dates.dates _ _
     (c.in_ok-calendar.ensures.ok content g1) (c.in_ok-dates.ensures.ok content g2)
@@ -59,8 +60,8 @@ returns-in-None-Some-clause-ok g c content gave =
 
 pub returns-in-Some-None-clause-ok : goal.returns-in-Some-None-clause-ok
 returns-in-Some-None-clause-ok g c content gave =
-    let a1 = c.in_ok-calendar.ensures.asked in
-    let g1 = gave_first content a1 c.in_ok-dates.ensures.asked gave in
+    let a1 = c.in_ok-calendar.ensures.read in
+    let g1 = gave_first content a1 c.in_ok-dates.ensures.read gave in
     let g2 = gave_rest content a1 gave in
     calendars_held content c.in_ok-calendar.calendar c.in_ok-dates.dates _ _
     (c.in_ok-calendar.ensures.ok content g1) (c.in_ok-dates.ensures.ok content g2)
@@ -70,8 +71,8 @@ returns-in-Some-None-clause-ok g c content gave =
 
 pub returns-in-Some-Some-clause-ok : goal.returns-in-Some-Some-clause-ok
 returns-in-Some-Some-clause-ok g c content gave =
-    let a1 = c.in_ok-calendar.ensures.asked in
-    let g1 = gave_first content a1 c.in_ok-dates.ensures.asked gave in
+    let a1 = c.in_ok-calendar.ensures.read in
+    let g1 = gave_first content a1 c.in_ok-dates.ensures.read gave in
     let g2 = gave_rest content a1 gave in
     calendars_held content c.in_ok-calendar.calendar c.in_ok-dates.dates _ _
     (c.in_ok-calendar.ensures.ok content g1) (c.in_ok-dates.ensures.ok content g2)
@@ -81,8 +82,8 @@ returns-in-Some-Some-clause-ok g c content gave =
 
 pub returns-in-None-None-clause-err : goal.returns-in-None-None-clause-err
 returns-in-None-None-clause-err g c content gave fine ne =
-    let a1 = c.in_ok-calendar.ensures.asked in
-    let g1 = gave_first content a1 c.in_ok-dates.ensures.asked gave in
+    let a1 = c.in_ok-calendar.ensures.read in
+    let g1 = gave_first content a1 c.in_ok-dates.ensures.read gave in
     let g2 = gave_rest content a1 gave in
     let calendar = no_file (λ bytes (rows : Vec CalendarRow Global). HoldsCalendar bytes rows.items)
     (content tables.Calendar) c.in_ok-calendar.calendar

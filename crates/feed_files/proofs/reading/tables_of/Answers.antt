@@ -1,5 +1,5 @@
 -- The files are read one after another.
-use Rattle.std.proofs.Common.{◌≡◌, [], Vec, ◌∙◌, ◌∷◌}
+use Rattle.std.proofs.Common.{◌≡◌, [], Vec, ◌∷◌}
 use Rattle.std.specs.Prelude.{⊤}
 use Rattle.std.proofs.lemmas.Result.{err_from_is_err_and}
 use Rattle.std.specs.declared.alloc.Global.{Global}
@@ -8,44 +8,43 @@ use Rattle.gtfs_rows.specs.declared.fault.Table.TheVariants as tables
 use Rattle.gtfs_rows.specs.declared.rows.TransferRow.{TransferRow}
 use Rattle.feed_files.specs.Reading.{OptionalFault, earlier}
 use Rattle.feed_files.proofs.ReadingLemmas.{calendars_fine, fine_more, no_tables, optional_rows, required_fine}
-use Rattle.feed_files.proofs.ReadLemmas.{asked_join, gave_first, gave_rest, stopped_after, stopped_before}
+use Rattle.feed_files.proofs.ReadLemmas.{gave_first, gave_rest, read_all, read_then, read_up_to}
 use Rattle.feed_files.proofs.reading.tables_of.Goals as goal
 
-pub returns-in_err-required-clause-asked : goal.returns-in_err-required-clause-asked
-returns-in_err-required-clause-asked g c =
+pub returns-in_err-required-clause-read : goal.returns-in_err-required-clause-read
+returns-in_err-required-clause-read g c =
     let p = err_from_is_err_and c.from_residual.result c.from_residual.ensures.1 in
-    rw p.1 (stopped_before (tables.Calendar ∷ tables.CalendarDates ∷ tables.Transfers ∷ tables.Frequencies ∷ []) c.in_err-required.ensures.asked)
+    rw (p.1, p.2) (read_up_to (tables.Calendar ∷ tables.CalendarDates ∷ tables.Transfers ∷ tables.Frequencies ∷ []) c.in_err-required.ensures.read)
 
-pub returns-in_err-calendar-clause-asked : goal.returns-in_err-calendar-clause-asked
-returns-in_err-calendar-clause-asked g c =
-    let a1 = c.in_ok-required.ensures.asked in
+pub returns-in_err-calendar-clause-read : goal.returns-in_err-calendar-clause-read
+returns-in_err-calendar-clause-read g c =
+    let a1 = c.in_ok-required.ensures.read in
     let p = err_from_is_err_and c.from_residual-in_err-calendar.result c.from_residual-in_err-calendar.ensures.1 in
-    rw p.1 (stopped_before (tables.Transfers ∷ tables.Frequencies ∷ []) (stopped_after a1 (c.in_ok-required.ensures.same) c.in_err-calendar.ensures.asked))
+    rw (p.1, p.2) (read_up_to (tables.Transfers ∷ tables.Frequencies ∷ []) (read_then a1 c.in_err-calendar.ensures.read))
 
-pub returns-in_err-transfers-clause-asked : goal.returns-in_err-transfers-clause-asked
-returns-in_err-transfers-clause-asked g c =
-    let a1 = c.in_ok-required.ensures.asked in
-    let a2 = c.in_ok-calendar.ensures.asked in
-    let j2 = asked_join a1 (c.in_ok-required.ensures.same) a2 in
+pub returns-in_err-transfers-clause-read : goal.returns-in_err-transfers-clause-read
+returns-in_err-transfers-clause-read g c =
+    let a1 = c.in_ok-required.ensures.read in
+    let a2 = c.in_ok-calendar.ensures.read in
+    let j2 = read_then a1 a2 in
     let p = err_from_is_err_and c.from_residual-in_err-transfers.result c.from_residual-in_err-transfers.ensures.1 in
-    rw p.1 (stopped_before (tables.Frequencies ∷ [])
-    (stopped_after j2 (c.in_ok-calendar.ensures.same ∙ c.in_ok-required.ensures.same) c.in_err-transfers.ensures.asked))
+    rw (p.1, p.2) (read_up_to (tables.Frequencies ∷ [])
+    (read_then j2 c.in_err-transfers.ensures.read))
 
-pub returns-in_err-frequencies-clause-asked : goal.returns-in_err-frequencies-clause-asked
-returns-in_err-frequencies-clause-asked g c =
-    let a1 = c.in_ok-required.ensures.asked in
-    let a2 = c.in_ok-calendar.ensures.asked in
-    let a3 = c.in_ok-transfers.ensures.asked in
-    let j2 = asked_join a1 (c.in_ok-required.ensures.same) a2 in
-    let j3 = asked_join j2 (c.in_ok-calendar.ensures.same ∙ c.in_ok-required.ensures.same) a3 in
+pub returns-in_err-frequencies-clause-read : goal.returns-in_err-frequencies-clause-read
+returns-in_err-frequencies-clause-read g c =
+    let a1 = c.in_ok-required.ensures.read in
+    let a2 = c.in_ok-calendar.ensures.read in
+    let a3 = c.in_ok-transfers.ensures.read in
+    let j2 = read_then a1 a2 in
+    let j3 = read_then j2 a3 in
     let p = err_from_is_err_and c.from_residual-in_err-frequencies.result c.from_residual-in_err-frequencies.ensures.1 in
-    rw p.1 (stopped_after j3 (c.in_ok-transfers.ensures.same ∙ c.in_ok-calendar.ensures.same ∙ c.in_ok-required.ensures.same)
-    c.in_err-frequencies.ensures.asked)
+    rw (p.1, p.2) (read_up_to [] (read_then j3 c.in_err-frequencies.ensures.read))
 
 pub returns-in_err-calendar-clause-err : goal.returns-in_err-calendar-clause-err
 returns-in_err-calendar-clause-err g c content gave =
-    let a1 = c.in_ok-required.ensures.asked in
-    let f1 = gave_first content a1 (c.in_err-calendar.ensures.asked.1) gave in
+    let a1 = c.in_ok-required.ensures.read in
+    let f1 = gave_first content a1 (c.in_err-calendar.ensures.read) gave in
     let g2 = gave_rest content a1 gave in
     let r = c.in_ok-required.required in
     let required = required_fine content r.agencies.items r.stops.rows.items r.trips.rows.items r.stop_times
@@ -55,10 +54,10 @@ returns-in_err-calendar-clause-err g c content gave =
 
 pub returns-in_err-transfers-clause-err : goal.returns-in_err-transfers-clause-err
 returns-in_err-transfers-clause-err g c content gave =
-    let a1 = c.in_ok-required.ensures.asked in
-    let a2 = c.in_ok-calendar.ensures.asked in
-    let j2 = asked_join a1 (c.in_ok-required.ensures.same) a2 in
-    let f2 = gave_first content j2 (c.in_err-transfers.ensures.asked.1) gave in
+    let a1 = c.in_ok-required.ensures.read in
+    let a2 = c.in_ok-calendar.ensures.read in
+    let j2 = read_then a1 a2 in
+    let f2 = gave_first content j2 (c.in_err-transfers.ensures.read) gave in
     let f1 = gave_first content a1 a2 f2 in
     let g2 = gave_rest content a1 f2 in
     let g3 = gave_rest content j2 gave in
@@ -74,12 +73,12 @@ returns-in_err-transfers-clause-err g c content gave =
 
 pub returns-in_err-frequencies-clause-err : goal.returns-in_err-frequencies-clause-err
 returns-in_err-frequencies-clause-err g c content gave =
-    let a1 = c.in_ok-required.ensures.asked in
-    let a2 = c.in_ok-calendar.ensures.asked in
-    let a3 = c.in_ok-transfers.ensures.asked in
-    let j2 = asked_join a1 (c.in_ok-required.ensures.same) a2 in
-    let j3 = asked_join j2 (c.in_ok-calendar.ensures.same ∙ c.in_ok-required.ensures.same) a3 in
-    let f3 = gave_first content j3 (c.in_err-frequencies.ensures.asked.1) gave in
+    let a1 = c.in_ok-required.ensures.read in
+    let a2 = c.in_ok-calendar.ensures.read in
+    let a3 = c.in_ok-transfers.ensures.read in
+    let j2 = read_then a1 a2 in
+    let j3 = read_then j2 a3 in
+    let f3 = gave_first content j3 (c.in_err-frequencies.ensures.read) gave in
     let f2 = gave_first content j2 a3 f3 in
     let f1 = gave_first content a1 a2 f2 in
     let g2 = gave_rest content a1 f2 in
@@ -99,24 +98,24 @@ returns-in_err-frequencies-clause-err g c content gave =
     (OptionalFault (IsFaultOf tables.Frequencies) (content tables.Frequencies)) c.in_err-frequencies.field-0.0
     (λ row kind h. h) fine (c.in_err-frequencies.ensures.err content g4))
 
-pub returns-clause-asked : goal.returns-clause-asked
-returns-clause-asked g c =
-    let a1 = c.in_ok-required.ensures.asked in
-    let a2 = c.in_ok-calendar.ensures.asked in
-    let a3 = c.in_ok-transfers.ensures.asked in
-    let a4 = c.in_ok-frequencies.ensures.asked in
-    let j2 = asked_join a1 (c.in_ok-required.ensures.same) a2 in
-    let j3 = asked_join j2 (c.in_ok-calendar.ensures.same ∙ c.in_ok-required.ensures.same) a3 in
-    asked_join j3 (c.in_ok-transfers.ensures.same ∙ c.in_ok-calendar.ensures.same ∙ c.in_ok-required.ensures.same) a4
+pub returns-clause-read : goal.returns-clause-read
+returns-clause-read g c =
+    let a1 = c.in_ok-required.ensures.read in
+    let a2 = c.in_ok-calendar.ensures.read in
+    let a3 = c.in_ok-transfers.ensures.read in
+    let a4 = c.in_ok-frequencies.ensures.read in
+    let j2 = read_then a1 a2 in
+    let j3 = read_then j2 a3 in
+    read_all (read_then j3 a4)
 
 pub returns-clause-ok : goal.returns-clause-ok
 returns-clause-ok g c content gave =
-    let a1 = c.in_ok-required.ensures.asked in
-    let a2 = c.in_ok-calendar.ensures.asked in
-    let a3 = c.in_ok-transfers.ensures.asked in
-    let j2 = asked_join a1 (c.in_ok-required.ensures.same) a2 in
-    let j3 = asked_join j2 (c.in_ok-calendar.ensures.same ∙ c.in_ok-required.ensures.same) a3 in
-    let f3 = gave_first content j3 c.in_ok-frequencies.ensures.asked gave in
+    let a1 = c.in_ok-required.ensures.read in
+    let a2 = c.in_ok-calendar.ensures.read in
+    let a3 = c.in_ok-transfers.ensures.read in
+    let j2 = read_then a1 a2 in
+    let j3 = read_then j2 a3 in
+    let f3 = gave_first content j3 c.in_ok-frequencies.ensures.read gave in
     let f2 = gave_first content j2 a3 f3 in
     let f1 = gave_first content a1 a2 f2 in
     let g2 = gave_rest content a1 f2 in

@@ -1,82 +1,38 @@
 use Rattle.std.proofs.Common.{inl, inr, refl}
 use Rattle.std.proofs.lemmas.Result.{err_from_is_err_and, IfOk-weaker, IfErr-weaker}
-use Rattle.feed_loader.proofs.LoadLemmas.{feed_refused}
+use Rattle.feed_loader.proofs.LoadLemmas.{feed_refused, read_memory}
 use Rattle.feed_loader.proofs.loading.load.Goals as goal
 
 -- the files are refused as they are read
 pub returns-in_err-tables-clause-err : goal.returns-in_err-tables-clause-err
-returns-in_err-tables-clause-err g c = λ content tells.
+returns-in_err-tables-clause-err g c = λ content shows.
     let outcome = err_from_is_err_and c.from_residual.result c.from_residual.ensures.1 in
     rw (outcome.1, outcome.2) (λ unless. inl (record {
       refusal = c.in_err-tables.field-0.0;
       is = refl;
-      first = c.in_err-tables.ensures.err content tells;
-    }))
-
-pub returns-in_err-tables-clause-read_err : goal.returns-in_err-tables-clause-read_err
-returns-in_err-tables-clause-read_err g c = λ content ts read.
-    let outcome = err_from_is_err_and c.from_residual.result c.from_residual.ensures.1 in
-    rw (outcome.1, outcome.2) (λ unless. inl (record {
-      refusal = c.in_err-tables.field-0.0;
-      is = refl;
-      first = c.in_err-tables.ensures.read_err content ts read;
+      first = c.in_err-tables.ensures.err content shows;
     }))
 
 -- the tables are read, and don't join
 pub returns-in_err-feed-clause-err : goal.returns-in_err-feed-clause-err
-returns-in_err-feed-clause-err g c = λ content tells.
+returns-in_err-feed-clause-err g c = λ content shows.
     let outcome = err_from_is_err_and c.from_residual-in_err-feed.result c.from_residual-in_err-feed.ensures.1 in
     rw (outcome.1, outcome.2) (λ unless. inr (inl (record {
       t = c.in_ok-tables.tables;
-      held = c.in_ok-tables.ensures.ok content tells;
+      held = c.in_ok-tables.ensures.ok content shows;
       refusal = c.in_err-feed.field-0.0;
       is = refl;
       first = c.in_err-feed.ensures.err unless;
     })))
-
-pub returns-in_err-feed-clause-read_err : goal.returns-in_err-feed-clause-read_err
-returns-in_err-feed-clause-read_err g c = λ content ts read.
-    let outcome = err_from_is_err_and c.from_residual-in_err-feed.result c.from_residual-in_err-feed.ensures.1 in
-    rw (outcome.1, outcome.2) (λ unless. inr (inl (record {
-      t = c.in_ok-tables.tables;
-      held = c.in_ok-tables.ensures.read_ok content ts read;
-      refusal = c.in_err-feed.field-0.0;
-      is = refl;
-      first = c.in_err-feed.ensures.err unless;
-    })))
-
-pub returns-clause-read_ok : goal.returns-clause-read_ok
-returns-clause-read_ok g c = λ content ts read.
-    IfOk-weaker c.image_of.result _ _ (λ made is. record {
-      feed = c.in_ok-feed.feed;
-      read =
-          record {
-            t = c.in_ok-tables.tables;
-            held = c.in_ok-tables.ensures.read_ok content ts read;
-            joined =
-                c.in_ok-feed.ensures.ok;
-          };
-      made = is;
-    }) c.image_of.ensures.ok
-
-pub returns-clause-read_err : goal.returns-clause-read_err
-returns-clause-read_err g c = λ content ts read.
-    IfErr-weaker c.image_of.result _ _ (λ fault wrong.
-    feed_refused content c.args.plan.now c.in_ok-feed.feed fault (record {
-      t = c.in_ok-tables.tables;
-      held =
-          c.in_ok-tables.ensures.read_ok content ts read;
-      joined = c.in_ok-feed.ensures.ok;
-    }) wrong) c.image_of.ensures.err
 
 pub returns-clause-ok : goal.returns-clause-ok
-returns-clause-ok g c = λ content tells.
+returns-clause-ok g c = λ content shows.
     IfOk-weaker c.image_of.result _ _ (λ made is. record {
       feed = c.in_ok-feed.feed;
       read =
           record {
             t = c.in_ok-tables.tables;
-            held = c.in_ok-tables.ensures.ok content tells;
+            held = c.in_ok-tables.ensures.ok content shows;
             joined =
                 c.in_ok-feed.ensures.ok;
           };
@@ -84,11 +40,35 @@ returns-clause-ok g c = λ content tells.
     }) c.image_of.ensures.ok
 
 pub returns-clause-err : goal.returns-clause-err
-returns-clause-err g c = λ content tells.
+returns-clause-err g c = λ content shows.
     IfErr-weaker c.image_of.result _ _ (λ fault wrong.
     feed_refused content c.args.plan.now c.in_ok-feed.feed fault (record {
       t = c.in_ok-tables.tables;
       held =
-          c.in_ok-tables.ensures.ok content tells;
+          c.in_ok-tables.ensures.ok content shows;
       joined = c.in_ok-feed.ensures.ok;
     }) wrong) c.image_of.ensures.err
+
+-- where memory ran out
+pub returns-in_err-tables-clause-memory : goal.returns-in_err-tables-clause-memory
+returns-in_err-tables-clause-memory g c = λ content shows.
+    let outcome = err_from_is_err_and c.from_residual.result c.from_residual.ensures.1 in
+    rw (outcome.1, outcome.2) (λ wants. inl (read_memory c.in_err-tables.field-0.0 wants))
+
+pub returns-in_err-feed-clause-memory : goal.returns-in_err-feed-clause-memory
+returns-in_err-feed-clause-memory g c = λ content shows.
+    let outcome = err_from_is_err_and c.from_residual-in_err-feed.result c.from_residual-in_err-feed.ensures.1 in
+    rw (outcome.1, outcome.2) (λ wants. inl wants)
+
+pub returns-clause-memory : goal.returns-clause-memory
+returns-clause-memory g c = λ content shows.
+    IfErr-weaker c.image_of.result _ _ (λ fault ran wants. inr (
+      c.in_ok-feed.feed,
+      record {
+        t = c.in_ok-tables.tables;
+        held =
+            c.in_ok-tables.ensures.ok content shows;
+        joined = c.in_ok-feed.ensures.ok;
+      },
+      ran wants,
+    )) c.image_of.ensures.memory

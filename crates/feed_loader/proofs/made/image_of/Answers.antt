@@ -5,7 +5,7 @@ use Rattle.timetable.proofs.LegalLemmas.{Contains-At}
 use Rattle.timetable.specs.declared.limits.TheConstants.{MAX_WALK_SECS}
 use Rattle.timetable.specs.declared.network.Footpath.{Footpath}
 use Rattle.footpaths.specs.Closure.{HasLegalFootpaths}
-use Rattle.feed_loader.proofs.MadeLemmas.{is_writable, names_refused}
+use Rattle.feed_loader.proofs.MadeLemmas.{image_ran_out, is_writable, names_refused}
 use Rattle.feed_loader.proofs.made.image_of.Goals as goal
 
 -- the runs are listed, and their names are refused
@@ -39,3 +39,13 @@ written-requires c =
     )) c.in_ok-footpaths.ensures.legal) c.in_ok-footpaths.ensures.few
     (λ i f at. All-contains (λ (p : Footpath). p.secs ≤ MAX_WALK_SECS) _ f c.in_ok-footpaths.ensures.short
     (Contains-At _ i f at)) (rw (← c.deref.ensures.value) c.in_ok-names.ensures.ok) c.in_ok-names.ensures.short
+
+-- the image that was made is one of the feed, so only memory was wanting
+pub returns-in_err-image-clause-memory : goal.returns-in_err-image-clause-memory
+returns-in_err-image-clause-memory c =
+    let outcome = err_from_is_err_and c.from_residual-in_err-image.result c.from_residual-in_err-image.ensures.1 in
+    let listed = c.in_ok-connections in
+    rw (outcome.1, outcome.2) (λ wants. image_ran_out c.args.feed.now c.args.plan.now listed.connections.items listed.runs.items
+    c.in_ok-footpaths.footpaths.items c.in_ok-names.names listed.report c.in_err-image.field-0.0 listed.ensures.ok
+    c.in_ok-footpaths.ensures.closure (rw (← c.deref.ensures.value) c.in_ok-names.ensures.ok) listed.ensures.report
+    c.in_err-image.ensures.err)

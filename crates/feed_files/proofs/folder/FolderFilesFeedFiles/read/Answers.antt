@@ -8,10 +8,9 @@ pub invariant_of-self : goal.invariant_of-self
 invariant_of-self g c =
     let files = c.args.self.now in
     record {
-      given = one_more (g.H.Disk.gives files.disk.now files.folder.now) files.reads c.note.new.self c.args.name.now c.in-Ok.file
+      shown = files.shown;
+      given = one_more (g.H.Disk.gives files.disk.now files.folder.now files.state) files.reads c.note.new.self c.args.name.now c.in-Ok.file
           c.feed_file-read.result c.in-Ok.is c.feed_file-read.ensures.gives c.note.ensures files.given;
-      of_one_state = one_more (g.H.Disk.gives_in files.disk.now files.folder.now files.state) files.reads c.note.new.self c.args.name.now
-          c.in-Ok.file c.feed_file-read.result c.in-Ok.is c.feed_file-read.ensures.gives_in c.note.ensures files.of_one_state;
       unread = files.unread;
     }
 
@@ -20,8 +19,8 @@ invariant_of-self-in-Err-Failed g c =
     let files = c.args.self.now in
     let failed : c.feed_file-read.result ≡ Err faults.Failed = search rules in
     record {
+      shown = files.shown;
       given = files.given;
-      of_one_state = files.of_one_state;
-      unread = one_failed (g.H.Disk.gives files.disk.now files.folder.now) files.failed c.note-in-Err-Failed.new.self c.args.name.now
+      unread = one_failed (g.H.Disk.gives files.disk.now files.folder.now files.state) files.failed c.note-in-Err-Failed.new.self c.args.name.now
           c.feed_file-read.result failed c.feed_file-read.ensures.gives c.note-in-Err-Failed.ensures files.unread;
     }
