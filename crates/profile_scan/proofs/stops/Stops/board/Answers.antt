@@ -24,7 +24,7 @@ use Rattle.profile_scan.proofs.stops.Stops.board.Goals as goal
 
 -- a connection that isn't boarded
 not_boarded : (c d : Connection) → c ≡ d → c.board ≡ false → d.board ≡ false
-not_boarded c d is no = subst (λ (x : Connection). x.board ≡ false) is no
+not_boarded c d is closed = subst (λ (x : Connection). x.board ≡ false) is closed
 
 -- the connection begins at a stop
 begins : (g : given.Over) (c : goal.Start g) → c.args.hop.now.connection.from < (g.S.ConnSource.timetable c.args.source.now).stops
