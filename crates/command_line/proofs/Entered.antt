@@ -1,11 +1,20 @@
 -- The command that a parse entered; the program without stop_ids that begin with a hyphen is simple.
-use Rattle.std.proofs.Common.{◌≡◌, ◌<◌, ◌∙◌, ℕ, Bool, List, None, Option, Some, ap, ap₂, false, get_or, length, map, refl, subst, sym, true}
-use Rattle.std.specs.Prelude.{IsSomeAnd, is_some, option_map, slice_get, unwrap_or}
+use Rattle.std.proofs.Common.{◌≡◌, ◌≢◌, ◌<◌, ◌∙◌, ◌∷◌, ◌⊎◌, ℕ, Bool, List, [], None, Option, Some, ap, ap₂, codes, false, get_or, inl, inr, length, map, refl}
+use Rattle.std.proofs.Common.{subst, sym, true, ⊎_elim}
+use Rattle.std.specs.Prelude.{Err, IsSomeAnd, Ok, Result, is_some, option_map, slice_get, unwrap_or}
 use Rattle.std.proofs.lemmas.Bool.{true≢false}
 use Rattle.std.proofs.lemmas.Option.{slice_get-get_or, slice_get-map}
-use Rattle.clap.specs.Words.{Row, Text, is_simple, is_simple_and_free}
+use Rattle.clap.specs.Words.{App, Row, Text, fault_of, is_simple, is_simple_and_free}
 use Rattle.clap.proofs.OnLiterals.{clap_on_literals}
 use Rattle.command_line.specs.Grammar.{csa_app}
+use Rattle.command_line.specs.Reading.{AsksForHelp, AsksTopic, IsRead, IsShown, Names}
+use Rattle.command_line.specs.Requests.{Finds, IsHelp}
+use Rattle.command_line.specs.declared.reading.NoCommand.{NoCommand}
+use Rattle.command_line.specs.declared.reading.NoCommand.TheVariants.{Help, Mistake, OutOfMemory}
+use Rattle.command_requests.specs.declared.requests.CommandRequest.{CommandRequest}
+use Rattle.clap.specs.Kinds.{IsAmong}
+use Rattle.clap.specs.declared.error.kind.ErrorKind.{ErrorKind}
+use Rattle.clap.specs.declared.error.kind.ErrorKind.TheVariants.{DisplayHelp, DisplayVersion, OutOfMemory as SpentMemory}
 
 inside : {A : Type 0} (a b : A) → Some a ≡ Some b → a ≡ b
 inside {A} a b same = ap (λ (o : Option A). unwrap_or o a) same
@@ -33,10 +42,13 @@ pub csa_is_free : is_simple_and_free (csa_app false) ≡ true
 unfolding csa_app clap_on_literals
 csa_is_free = refl
 
--- what would show this does not
-pub fails : (test : Bool) (P : Type 0) → (test ≡ true → P) → ¬ P → test ≡ false
-fails true P shows none = absurd (none (shows refl))
-fails false P shows none = refl
+fails : {P : Type 0} (test : Bool) → (test ≡ true → P) → ¬ P → test ≡ false
+fails true shows none = absurd (none (shows refl))
+fails false shows none = refl
+
+-- the program that is read without what the test would show
+pub plain_app : {P : Type 0} (test : Bool) (app : App) → (test ≡ true → P) → ¬ P → app ≡ csa_app test → app ≡ csa_app false
+plain_app test app shows none is = is ∙ ap csa_app (fails test shows none)
 
 -- a word of the command line
 pub word_at : {X : Type 0} (text : X → Text) (xs : List X) (i : ℕ) (d x : X) (word : Text) (P : Text → Type 0) → i < length xs
@@ -45,3 +57,41 @@ word_at {X} text xs i d x word P inside there is holds =
     subst (λ (o : Option Text). IsSomeAnd o P)
     (sym (slice_get-map text xs i ∙ ap (option_map text) (slice_get-get_or xs i d inside ∙ ap (λ (y : X). Some y) (sym there))))
     (subst P is holds)
+
+-- the same request by another rule
+pub finds_by : {R : Type 0} (result : Result R NoCommand) (P Q : R → Type 0) → ((request : R) → P request → Q request)
+    → ((request : R) → Q request → P request) → Finds P result → Finds Q result
+finds_by (Ok request) P Q to from is = to request is
+finds_by (Err fault) P Q to from none = (none.0, λ memory request is. none.1 memory request (from request is))
+
+-- what is read of words that clap takes
+pub read_request : (words : List Text) (result : Result CommandRequest NoCommand) → Finds (Names words) result → IsRead words result
+read_request words (Ok request) is = is
+read_request words (Err (Help text)) none = absurd (none.0 tt)
+read_request words (Err (Mistake text)) none = none.1 (λ same. cc)
+read_request words (Err OutOfMemory) none = tt
+
+-- and of words that it refuses
+pub read_fault : (words : List Text) (fault : NoCommand) → (fault ≢ OutOfMemory → (request : CommandRequest) → ¬ (Names words request))
+    → (IsHelp fault → AsksForHelp words) → IsRead words (Err fault)
+read_fault words (Help text) none help = help tt
+read_fault words (Mistake text) none help = none (λ same. cc)
+read_fault words OutOfMemory none help = tt
+
+-- `csa help` asks for help
+pub topic_is_help : (words : List Text) → AsksTopic words → AsksForHelp words
+unfolding csa_app clap_on_literals
+topic_is_help [] is = absurd is
+topic_is_help (program ∷ []) is = absurd is
+topic_is_help (program ∷ word ∷ rest) is =
+    subst (λ (w : Text). AsksForHelp (program ∷ w ∷ rest)) (sym is) (inl (inl refl))
+
+-- a fault of such a kind
+pub shown_is_help : (words : List Text) (kind : ErrorKind) → IsShown kind → (kind ≡ SpentMemory) ⊎ IsAmong kind (fault_of (csa_app false) words)
+    → AsksForHelp words
+shown_is_help words kind shown (inl spent) =
+    absurd (⊎_elim (λ (help : kind ≡ DisplayHelp). let bad : SpentMemory ≡ DisplayHelp = sym spent ∙ help in cc)
+    (λ (version : kind ≡ DisplayVersion). let bad : SpentMemory ≡ DisplayVersion = sym spent ∙ version in cc) shown)
+shown_is_help words kind shown (inr among) =
+    ⊎_elim (λ (help : kind ≡ DisplayHelp). inl (subst (λ (k : ErrorKind). IsAmong k (fault_of (csa_app false) words)) help among))
+    (λ (version : kind ≡ DisplayVersion). inr (subst (λ (k : ErrorKind). IsAmong k (fault_of (csa_app false) words)) version among)) shown

@@ -1,2 +1,4 @@
 pub mod Apps
+pub mod Distinct
 pub mod Entered
+pub mod Feeds

@@ -1,5 +1,5 @@
 -- What a command's arguments were given: the values under the id of each.
-use Rattle.std.specs.Prelude.{◌≡◌, ℕ, Bool, false, List, [], Option, Some, IsSomeAnd, codes}
+use Rattle.std.specs.Prelude.{◌≡◌, ◌<◌, ◌^◌, ℕ, Bool, false, List, [], Option, Some, IsSomeAnd, codes}
 use Rattle.std.specs.Prelude.{option_map, unwrap_or}
 use Rattle.std.specs.Borrow.{Bor}
 use Rattle.std.specs.Option.{option_map_or}
@@ -33,3 +33,7 @@ HasClock rows id time = Spells rows id (λ text. SpellsClock text time)
 
 abbrev pub HasNumber : List Row → Text → ℕ → Type 0
 HasNumber rows id number = Spells rows id (λ text. SpellsNumber text number)
+
+-- a number of so many bits at most
+abbrev pub HasBits : List Row → Text → ℕ → ℕ → Type 0
+HasBits rows id bits number = HasNumber rows id number × (number < 2 ^ bits)

@@ -1,12 +1,18 @@
 -- What a whole command line asks for.
-use Rattle.std.specs.Prelude.{◌≡◌, ◌+◌, ◌||◌, ℕ, Bool, false, true, List, [], Some, IsSomeAnd, codes, slice_get}
+use Rattle.std.specs.Prelude.{◌≡◌, ◌+◌, ◌||◌, ◌⊎◌, ℕ, Bool, false, true, List, [], Result, Ok, Err, Some, IsSomeAnd, codes}
+use Rattle.std.specs.Prelude.{slice_get}
 use Rattle.std.specs.Str.{bytes_eq}
 use Rattle.clap.specs.Faults.{fault_of}
+use Rattle.clap.specs.Kinds.{IsAmong}
 use Rattle.clap.specs.Simple.{subcommand_of}
 use Rattle.clap.specs.Walk.{Text}
+use Rattle.clap.specs.declared.error.kind.ErrorKind.{ErrorKind}
+use Rattle.clap.specs.declared.error.kind.ErrorKind.TheVariants.{DisplayHelp, DisplayVersion}
 use Rattle.command_requests.specs.declared.requests.CommandRequest.{CommandRequest}
 use Rattle.command_line.specs.Grammar.{csa_app}
 use Rattle.command_line.specs.Requests.{IsRequest}
+use Rattle.command_line.specs.declared.reading.NoCommand.{NoCommand}
+use Rattle.command_line.specs.declared.reading.NoCommand.TheVariants.{Help, Mistake, OutOfMemory}
 
 -- an option whose value is a stop_id
 abbrev pub is_stop_option : Text → Bool
@@ -25,3 +31,22 @@ HasHyphenValue words = (i : ℕ) × IsSomeAnd (slice_get words i) (λ word. is_s
 abbrev pub Names : List Text → CommandRequest → Type 0
 Names words request = (fault_of (csa_app false) words ≡ [])
     × IsSomeAnd (subcommand_of (csa_app false) words) (λ command. IsRequest command.0 command.1 request)
+
+-- an error of this kind is a text that was asked for
+abbrev pub IsShown : ErrorKind → Type 0
+IsShown kind = (kind ≡ DisplayHelp) ⊎ (kind ≡ DisplayVersion)
+
+-- the command is `help`
+abbrev pub AsksTopic : List Text → Type 0
+AsksTopic words = IsSomeAnd (slice_get words 1) (λ word. word ≡ codes "help")
+
+-- what clap finds first is that the words ask for help, or for the version
+abbrev pub AsksForHelp : List Text → Type 0
+AsksForHelp words = IsAmong DisplayHelp (fault_of (csa_app false) words) ⊎ IsAmong DisplayVersion (fault_of (csa_app false) words)
+
+-- what is read of words: the request that they name; help, if they ask for it; a message, if they name no request; or memory ran out
+abbrev pub IsRead : List Text → Result CommandRequest NoCommand → Type 0
+IsRead words (Ok request) = Names words request
+IsRead words (Err (Help text)) = AsksForHelp words
+IsRead words (Err (Mistake text)) = (request : CommandRequest) → ¬ (Names words request)
+IsRead words (Err OutOfMemory) = Unit {0}

@@ -1,6 +1,7 @@
 -- The request of each command, an argument a line: where its value stands, and what it spells.
-use Rattle.std.specs.Prelude.{◌≡◌, ◌≤◌, ℕ, Bool, true, false, List, [], Option, Some, None, MatchOption, length, codes}
-use Rattle.std.specs.Prelude.{IsSome, map, unwrap_or}
+use Rattle.std.specs.Prelude.{◌≡◌, ◌≢◌, ◌≤◌, ◌⊎◌, ℕ, Bool, true, false, List, [], Option, Some, None, MatchOption, length, codes}
+use Rattle.std.specs.Prelude.{IsSome, MatchResult, Result, map, unwrap_or}
+use Rattle.std.specs.List.{AllPairs, AllZip}
 use Rattle.clap.specs.Walk.{Row, Text, first_of}
 use Rattle.command_requests.specs.Naming.{IsWordOf}
 use Rattle.clap.specs.Matches.{found_of}
@@ -22,6 +23,7 @@ use Rattle.command_requests.specs.declared.requests.DeparturesRequest.{Departure
 use Rattle.command_requests.specs.declared.requests.InfoRequest.{InfoRequest}
 use Rattle.command_requests.specs.declared.requests.JourneyRequest.{JourneyRequest}
 use Rattle.command_requests.specs.declared.requests.MatrixRequest.{MatrixRequest}
+use Rattle.command_requests.specs.declared.requests.NamedFolder.{NamedFolder}
 use Rattle.command_requests.specs.declared.requests.ProfileRequest.{ProfileRequest}
 use Rattle.command_requests.specs.declared.requests.ServeRequest.{ServeRequest}
 use Rattle.command_requests.specs.declared.requests.StationsRequest.{StationsRequest}
@@ -30,8 +32,14 @@ use Rattle.command_requests.specs.declared.requests.TablesRequest.{TablesRequest
 use Rattle.command_requests.specs.declared.requests.UpgradeRequest.{UpgradeRequest}
 use Rattle.criteria.specs.Names.{name_text}
 use Rattle.criteria.specs.declared.name.CriterionName.{CriterionName}
-use Rattle.command_line.specs.Options.{HasClock, HasMaybeText, HasNumber, HasText, Spells, is_given, values_of}
-use Rattle.command_line.specs.Values.{SpellsNumber, SpellsZone}
+use Rattle.command_line.specs.Options.{HasBits, HasClock, HasMaybeText, HasNumber, HasText, Spells, is_given, values_of}
+use Rattle.command_line.specs.Values.{SpellsFolder, SpellsNumber, SpellsZone}
+use Rattle.command_line.specs.declared.reading.NoCommand.{NoCommand}
+use Rattle.command_line.specs.declared.reading.NoCommand.TheVariants.{Help, OutOfMemory}
+
+-- no two of the texts are alike
+abbrev pub AreDistinct : List Text → Type 0
+AreDistinct texts = AllPairs (λ a b. a ≢ b) texts
 
 module _ (rows : List Row) where
   abbrev pub IsInfo : InfoRequest → Type 0
@@ -107,14 +115,14 @@ module _ (rows : List Row) where
   abbrev pub HasCriterion : CriterionName → Type 0
   HasCriterion criterion = Spells rows (codes "criterion") (λ text. text ≡ name_text criterion)
 
-  -- at most 1000 stop_ids, in the order in which they are given
+  -- at most 1000 stop_ids, in the order in which they are given, no two alike
   abbrev pub HasStops : Text → List Text → Type 0
-  HasStops id stops = (stops ≡ values_of rows id) × (length stops ≤ 1000)
+  HasStops id stops = (stops ≡ values_of rows id) × (length stops ≤ 1000) × AreDistinct stops
 
   -- without --rows a picture has 200; with it there is a picture
   abbrev pub HasPictureRows : PictureRows → Type 0
-  HasPictureRows picture = MatchOption (first_of (codes "rows") rows) (picture.number ≡ 200)
-      (λ text. SpellsNumber text picture.number × IsSome (first_of (codes "picture") rows))
+  HasPictureRows picture = ((first_of (codes "rows") rows ≡ None) × (picture.number ≡ 200))
+      ⊎ (HasNumber rows (codes "rows") picture.number × IsSome (first_of (codes "picture") rows))
 
   abbrev pub HasProfileOptions : ProfileRequest → Type 0
   HasProfileOptions r = HasText rows (codes "image") r.image.now
@@ -171,20 +179,27 @@ module _ (rows : List Row) where
   -- a number of seconds that may be left out
   abbrev pub HasSeconds : Text → Option Seconds → Type 0
   HasSeconds id None = first_of id rows ≡ None
-  HasSeconds id (Some seconds) = HasNumber rows id seconds.number
+  HasSeconds id (Some seconds) = HasBits rows id 32 seconds.number
 
-  -- all of it but the feeds
-  abbrev pub IsServe : ServeRequest → Type 0
-  IsServe r = HasText rows (codes "image") r.image.now
-      × HasNumber rows (codes "port") r.port
+  -- the folder that each word names, no two by one name
+  abbrev pub HasFeeds : List NamedFolder → Type 0
+  HasFeeds feeds = AllZip SpellsFolder (values_of rows (codes "feeds")) feeds
+      × AreDistinct (map (λ feed. feed.name.now) feeds)
+
+  abbrev pub HasServeOptions : ServeRequest → Type 0
+  HasServeOptions r = HasText rows (codes "image") r.image.now
+      × HasBits rows (codes "port") 16 r.port
       × HasNumber rows (codes "workers") r.workers.number
-      × HasNumber rows (codes "sessions") r.sessions
+      × HasBits rows (codes "sessions") 64 r.sessions
       × (r.legs ≡ is_given rows (codes "legs"))
       × (r.log ≡ is_given rows (codes "log"))
       × HasSeconds (codes "idle") r.idle
       × HasSeconds (codes "longest") r.longest
       × (r.sets ≡ is_given rows (codes "sets"))
       × HasPlan false r.plan
+
+  abbrev pub IsServe : ServeRequest → Type 0
+  IsServe r = HasFeeds r.feeds.items × HasServeOptions r
 
 -- the command of this name, with these values, is the request
 abbrev pub IsRequest : Text → List Row → CommandRequest → Type 0
@@ -201,6 +216,22 @@ IsRequest name rows (command.Build r) = (name ≡ codes "build") × IsBuild rows
 IsRequest name rows (command.Stops r) = (name ≡ codes "stops") × IsStops rows r
 IsRequest name rows (command.Upgrade r) = (name ≡ codes "upgrade") × IsUpgrade rows r
 IsRequest name rows (command.Serve r) = (name ≡ codes "serve") × IsServe rows r
+
+-- the request has a list, which takes memory
+abbrev pub HasList : CommandRequest → Type 0
+HasList (command.Profile r) = Unit {0}
+HasList (command.Departures r) = Unit {0}
+HasList (command.Serve r) = Unit {0}
+HasList _ = ⊥
+
+-- it is the text of the help, or of the version
+abbrev pub IsHelp : NoCommand → Type 0
+IsHelp (Help text) = Unit {0}
+IsHelp _ = ⊥
+
+-- such a one comes; or there is none, as a message says, or memory ran out
+abbrev pub Finds : {R : Type 0} → (R → Type 0) → Result R NoCommand → Type 0
+Finds {R} Is result = MatchResult result Is (λ fault. (¬ (IsHelp fault)) × (fault ≢ OutOfMemory → (r : R) → ¬ (Is r)))
 
 -- what is read of the values is such a request, or there is none
 abbrev pub Reads : {R : Type 0} → (List Row → R → Type 0) → ArgMatches → Option R → Type 0

@@ -1,5 +1,10 @@
 //! What is said of words that make no request.
 
+ghost use Rattle.std.specs.Prelude.{◌≡◌};
+ghost use Rattle.clap.specs.Words.{kind_of};
+ghost use Rattle.command_line.specs.Reading.{IsShown};
+ghost use Rattle.command_line.specs.Requests.{IsHelp};
+
 use crate::commands::usage;
 use crate::reading::NoCommand;
 use crate::values::{clock, count, month_name, number, port, spelled_date, zone};
@@ -122,17 +127,28 @@ const HINT: &str = "\nFor more information, try '--help'.\n";
 const USAGE: &str = "\nUsage: ";
 
 /// Clap's message about words that begin with this command, or with none if its name is empty.
-pub(crate) fn unread_of(alloc: Global, error: &Error, command: &str) -> NoCommand {
-    if error.kind() == ErrorKind::OutOfMemory {
-        return NoCommand::OutOfMemory;
+pub(crate) fn unread_of(alloc: Global, error: &Error, command: &str) -> NoCommand
+    ensures memory { kind_of error.now ≡ ErrorKind.OutOfMemory → result ≡ NoCommand.OutOfMemory }
+    ensures help { IsHelp result → IsShown (kind_of error.now) }
+{
+    match error.kind() {
+        ErrorKind::OutOfMemory => NoCommand::OutOfMemory,
+        ErrorKind::DisplayHelp | ErrorKind::DisplayVersion => match error.to_string(alloc) {
+            Ok(text) => NoCommand::Help(text),
+            Err(_) => NoCommand::OutOfMemory,
+        },
+        kind => clap_mistake(alloc, error, command, kind),
     }
+}
+
+// Clap's message about a mistake.
+fn clap_mistake(alloc: Global, error: &Error, command: &str, kind: ErrorKind) -> NoCommand
+    ensures { ¬ (IsHelp result) }
+{
     let Ok(text) = error.to_string(alloc) else {
         return NoCommand::OutOfMemory;
     };
-    if !error.use_stderr() {
-        return NoCommand::Help(text);
-    }
-    let is_unknown = error.kind() == ErrorKind::UnknownArgument;
+    let is_unknown = kind == ErrorKind::UnknownArgument;
     match with_hint(alloc, command, text.as_str(), is_unknown) {
         Ok(whole) => NoCommand::Mistake(whole),
         Err(_) => NoCommand::Mistake(text),
@@ -165,7 +181,9 @@ fn hint(alloc: Global, command: &str) -> Result<String, AllocError> {
 }
 
 /// The message about the first option whose value has a wrong form.
-pub(crate) fn wrong_value(alloc: Global, command: &str, matches: &ArgMatches<'_>) -> NoCommand {
+pub(crate) fn wrong_value(alloc: Global, command: &str, matches: &ArgMatches<'_>) -> NoCommand
+    ensures { ¬ (IsHelp result) }
+{
     for (option, form) in &FORMS {
         let form = form.of_command(command);
         if let Some(value) = matches.get_str(option)
@@ -226,7 +244,9 @@ fn no_date(alloc: Global, date: (u32, u32, u32)) -> Result<String, AllocError> {
 }
 
 /// The message about a word of `csa serve` that is no feed.
-pub(crate) fn wrong_feed(alloc: Global, word: &str) -> NoCommand {
+pub(crate) fn wrong_feed(alloc: Global, word: &str) -> NoCommand
+    ensures { ¬ (IsHelp result) }
+{
     mistake(
         alloc,
         "serve",
@@ -234,7 +254,9 @@ pub(crate) fn wrong_feed(alloc: Global, word: &str) -> NoCommand {
     )
 }
 
-pub(crate) fn feed_named_twice(alloc: Global, word: &str) -> NoCommand {
+pub(crate) fn feed_named_twice(alloc: Global, word: &str) -> NoCommand
+    ensures { ¬ (IsHelp result) }
+{
     mistake(
         alloc,
         "serve",
@@ -242,12 +264,9 @@ pub(crate) fn feed_named_twice(alloc: Global, word: &str) -> NoCommand {
     )
 }
 
-pub(crate) fn too_many_stops(
-    alloc: Global,
-    command: &str,
-    option: &str,
-    count: usize,
-) -> NoCommand {
+pub(crate) fn too_many_stops(alloc: Global, command: &str, option: &str, count: usize) -> NoCommand
+    ensures { ¬ (IsHelp result) }
+{
     mistake(
         alloc,
         command,
@@ -265,7 +284,9 @@ pub(crate) fn stop_given_twice(
     stop: &str,
     first: usize,
     index: usize,
-) -> NoCommand {
+) -> NoCommand
+    ensures { ¬ (IsHelp result) }
+{
     let (first, index) = (first.saturating_add(1), index.saturating_add(1));
     mistake(
         alloc,
@@ -277,7 +298,9 @@ pub(crate) fn stop_given_twice(
 }
 
 /// A message about the words of a command, with the command's usage and a hint if there is memory for them.
-fn mistake(alloc: Global, command: &str, text: Result<String, AllocError>) -> NoCommand {
+fn mistake(alloc: Global, command: &str, text: Result<String, AllocError>) -> NoCommand
+    ensures { ¬ (IsHelp result) }
+{
     let Ok(text) = text else {
         return NoCommand::OutOfMemory;
     };

@@ -1,12 +1,15 @@
 //! From words to a request, or to a message about them.
 
-ghost use Rattle.std.specs.Prelude.{◌≡◌, IfOk, map, true};
-ghost use Rattle.command_line.specs.Reading.{HasHyphenValue, IsHyphenated, Names, is_stop_option};
+ghost use Rattle.std.specs.Prelude.{◌≡◌, ◌⊎◌, IfSome, None, map, true};
+ghost use Rattle.clap.specs.Words.{kind_of};
+ghost use Rattle.command_line.specs.Reading.{AsksTopic, HasHyphenValue, IsHyphenated, IsRead, IsShown, is_stop_option};
+ghost use Rattle.command_line.specs.Requests.{IsHelp};
 
 use crate::commands::{is_command, program};
 use crate::messages::unread_of;
 use crate::requests::request_in;
 use clap::Error;
+use clap::error::ErrorKind;
 use command_requests::CommandRequest;
 use std::alloc::Global;
 use std::convert::AsStr;
@@ -32,7 +35,7 @@ fn command_in<'a, S: AsStr>(words: &'a [S]) -> &'a str {
 
 /// The request that the words make; the first word is the program's name.
 pub fn read<'a, S: AsStr>(alloc: Global, words: &'a [S]) -> Result<CommandRequest<'a>, NoCommand>
-    ensures { ¬ (HasHyphenValue (map S.text words.entry.now)) → IfOk result (Names (map S.text words.entry.now)) }
+    ensures { ¬ (HasHyphenValue (map S.text words.entry.now)) → IsRead (map S.text words.entry.now) result }
 {
     let Ok(command) = program(alloc, has_hyphen_value(words)) else {
         return Err(NoCommand::OutOfMemory);
@@ -71,20 +74,27 @@ fn is_hyphenated(word: &str) -> bool
 }
 
 // The message about words that clap refuses.
-fn unread<S: AsStr>(alloc: Global, words: &[S], error: &Error) -> NoCommand {
-    match unknown_topic(words) {
+fn unread<S: AsStr>(alloc: Global, words: &[S], error: &Error) -> NoCommand
+    ensures memory { kind_of error.now ≡ ErrorKind.OutOfMemory → result ≡ NoCommand.OutOfMemory }
+    ensures help { IsHelp result → IsShown (kind_of error.now) ⊎ AsksTopic (map S.text words.now) }
+{
+    match unknown_topic(words, error.kind()) {
         Some(topic) => unread_topic(alloc, topic, error),
         None => unread_of(alloc, error, command_in(words)),
     }
 }
 
-/// What `csa help` is asked about, if it is no command.
-fn unknown_topic<S: AsStr>(words: &[S]) -> Option<&str> {
-    let (help, topic) = (words.get(1)?.as_str(), words.get(2)?.as_str());
-    if words.len() == 3 && help == "help" && !is_command(topic) {
-        Some(topic)
-    } else {
-        None
+/// What `csa help` is asked about, if it is no command; `kind` is that of clap's error.
+fn unknown_topic<S: AsStr>(words: &[S], kind: ErrorKind) -> Option<&str>
+    ensures memory { kind ≡ ErrorKind.OutOfMemory → result ≡ None }
+    ensures help { IfSome result (λ _. AsksTopic (map S.text words.now)) }
+{
+    if words.len() != 3 {
+        return None;
+    }
+    match kind {
+        ErrorKind::InvalidSubcommand if words[1].as_str() == "help" => Some(words[2].as_str()),
+        _ => None,
     }
 }
 

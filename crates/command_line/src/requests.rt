@@ -1,12 +1,20 @@
 //! The request of each command, from the values of its arguments.
 
-ghost use Rattle.std.specs.Prelude.{◌≡◌, ◌<◌, IfOk, IfSome, IsSomeAnd, MatchOption, length, map};
-ghost use Rattle.clap.specs.Words.{found_of, rows_of, subcommand_rows_of};
+ghost use Rattle.std.specs.Prelude.{◌≡◌, ◌≢◌, ◌<◌, ◌↔◌, IfSome, IsSomeAnd, IsTrue, List, MatchOption};
+ghost use Rattle.std.specs.Prelude.{MatchResult, get_or, length, map};
+ghost use Rattle.std.specs.List.{All, Any};
+ghost use Rattle.clap.specs.Words.{Text, found_of, rows_of, subcommand_rows_of};
+ghost use Rattle.command_requests.specs.declared.requests.CommandRequest.{CommandRequest};
 ghost use Rattle.command_requests.specs.declared.requests.DeparturesRequest.{DeparturesRequest};
-ghost use Rattle.command_line.specs.Requests.{AsksAnswer, AsksDepartures, HasDeparturesOptions, HasPictureRows};
-ghost use Rattle.command_line.specs.Requests.{HasPlan, HasProfileOptions, HasSeconds, HasStops, HasWorkers, IsBuild};
-ghost use Rattle.command_line.specs.Requests.{IsDays, IsDepartures, IsInfo, IsJourney, IsMatrix, IsProfile, IsRequest};
-ghost use Rattle.command_line.specs.Requests.{IsServe, IsStations, IsStops, IsTables, IsUpgrade, Reads, text_sought};
+ghost use Rattle.command_requests.specs.declared.requests.NamedFolder.{NamedFolder};
+ghost use Rattle.command_requests.specs.declared.requests.ProfileRequest.{ProfileRequest};
+ghost use Rattle.command_requests.specs.declared.requests.ServeRequest.{ServeRequest};
+ghost use Rattle.command_line.specs.declared.reading.NoCommand.{NoCommand};
+ghost use Rattle.command_line.specs.Requests.{AreDistinct, AsksAnswer, AsksDepartures, Finds, HasDeparturesOptions};
+ghost use Rattle.command_line.specs.Requests.{HasFeeds, HasList, HasPictureRows, HasPlan, HasProfileOptions};
+ghost use Rattle.command_line.specs.Requests.{HasSeconds, HasServeOptions, HasStops, HasWorkers, IsBuild, IsDays, IsDepartures};
+ghost use Rattle.command_line.specs.Requests.{IsHelp, IsInfo, IsJourney, IsMatrix, IsProfile, IsRequest, IsServe};
+ghost use Rattle.command_line.specs.Requests.{IsStations, IsStops, IsTables, IsUpgrade, Reads, text_sought};
 
 use crate::messages::{
     feed_named_twice, stop_given_twice, too_many_stops, wrong_feed, wrong_value,
@@ -31,8 +39,8 @@ pub(crate) fn request_in<'a>(
     alloc: Global,
     matches: &ArgMatches<'a>,
 ) -> Result<CommandRequest<'a>, NoCommand>
-    ensures { IfOk result (λ request. IsSomeAnd (subcommand_rows_of matches.now)
-        (λ command. IsRequest command.0 command.1 request)) }
+    ensures { Finds (λ request. IsSomeAnd (subcommand_rows_of matches.now)
+        (λ command. IsRequest command.0 command.1 request)) result }
 {
     match matches.subcommand() {
         Some((name, inner)) => named_request(alloc, name, inner),
@@ -46,7 +54,7 @@ fn named_request<'a>(
     name: &str,
     matches: &ArgMatches<'a>,
 ) -> Result<CommandRequest<'a>, NoCommand>
-    ensures { IfOk result (IsRequest name.now (rows_of (found_of matches.now))) }
+    ensures { Finds (IsRequest name.now (rows_of (found_of matches.now))) result }
 {
     match name {
         "profile" => Ok(CommandRequest::Profile(profile_request(alloc, matches)?)),
@@ -61,7 +69,8 @@ fn named_request<'a>(
 
 // The request of a command that takes no memory; `None` if a value has a wrong form.
 fn plain_request<'a>(name: &str, matches: &ArgMatches<'a>) -> Option<CommandRequest<'a>>
-    ensures { IfSome result (IsRequest name.now (rows_of (found_of matches.now))) }
+    ensures { MatchOption result ((r : CommandRequest) → IsRequest name.now (rows_of (found_of matches.now)) r
+        → HasList r) (IsRequest name.now (rows_of (found_of matches.now))) }
 {
     match name {
         "verify" => text_at(matches, "image").map(CommandRequest::Verify),
@@ -165,7 +174,7 @@ fn profile_request<'a>(
     alloc: Global,
     matches: &ArgMatches<'a>,
 ) -> Result<ProfileRequest<'a>, NoCommand>
-    ensures { IfOk result (IsProfile (rows_of (found_of matches.now))) }
+    ensures { Finds (IsProfile (rows_of (found_of matches.now))) result }
 {
     let from = stops_at(alloc, "profile", matches, "from")?;
     let to = stops_at(alloc, "profile", matches, "to")?;
@@ -181,8 +190,8 @@ fn profile_between<'a>(
     from: Vec<&'a str>,
     to: Vec<&'a str>,
 ) -> Option<ProfileRequest<'a>>
-    ensures { IfSome result (λ r. HasProfileOptions (rows_of (found_of matches.now)) r × (r.from ≡ from.entry)
-        × (r.to ≡ to.entry)) }
+    ensures { MatchOption result ((r : ProfileRequest) → ¬ (HasProfileOptions (rows_of (found_of matches.now)) r))
+        (λ r. HasProfileOptions (rows_of (found_of matches.now)) r × (r.from ≡ from.entry) × (r.to ≡ to.entry)) }
 {
     Some(ProfileRequest {
         image: text_at(matches, "image")?,
@@ -216,7 +225,7 @@ fn answer_form(matches: &ArgMatches<'_>) -> Option<AnswerForm>
 
 // How many rows a picture has; `None` if the value has a wrong form, or stands without a picture.
 fn rows_at(matches: &ArgMatches<'_>) -> Option<PictureRows>
-    ensures { IfSome result (HasPictureRows (rows_of (found_of matches.now))) }
+    ensures { Reads HasPictureRows matches.now result }
 {
     if text_at(matches, "rows").is_none() {
         return Some(PictureRows::plain());
@@ -229,7 +238,7 @@ fn departures_request<'a>(
     alloc: Global,
     matches: &ArgMatches<'a>,
 ) -> Result<DeparturesRequest<'a>, NoCommand>
-    ensures { IfOk result (IsDepartures (rows_of (found_of matches.now))) }
+    ensures { Finds (IsDepartures (rows_of (found_of matches.now))) result }
 {
     let to = stops_at(alloc, "departures", matches, "to")?;
     match departures_to(matches, to) {
@@ -301,7 +310,7 @@ fn maybe_workers(matches: &ArgMatches<'_>) -> Option<Option<TableWorkers>>
 }
 
 fn build_request<'a>(matches: &ArgMatches<'a>) -> Option<BuildRequest<'a>>
-    ensures { IfSome result (IsBuild (rows_of (found_of matches.now))) }
+    ensures { Reads IsBuild matches.now result }
 {
     Some(BuildRequest {
         folder: text_at(matches, "folder")?,
@@ -313,7 +322,7 @@ fn build_request<'a>(matches: &ArgMatches<'a>) -> Option<BuildRequest<'a>>
 }
 
 fn plan_at<'a>(matches: &ArgMatches<'a>, strict: bool) -> Option<PlanText<'a>>
-    ensures { IfSome result (HasPlan (rows_of (found_of matches.now)) strict) }
+    ensures { Reads (λ rows. HasPlan rows strict) matches.now result }
 {
     Some(PlanText {
         first: day_at(matches, "first")?,
@@ -324,7 +333,7 @@ fn plan_at<'a>(matches: &ArgMatches<'a>, strict: bool) -> Option<PlanText<'a>>
 }
 
 fn serve_request<'a>(alloc: Global, matches: &ArgMatches<'a>) -> Result<ServeRequest<'a>, NoCommand>
-    ensures { IfOk result (IsServe (rows_of (found_of matches.now))) }
+    ensures { Finds (IsServe (rows_of (found_of matches.now))) result }
 {
     let feeds = feeds_at(alloc, matches)?;
     match server_of(matches, feeds) {
@@ -335,7 +344,8 @@ fn serve_request<'a>(alloc: Global, matches: &ArgMatches<'a>) -> Result<ServeReq
 
 // `None` if a value has a wrong form.
 fn server_of<'a>(matches: &ArgMatches<'a>, feeds: Vec<NamedFolder<'a>>) -> Option<ServeRequest<'a>>
-    ensures { IfSome result (IsServe (rows_of (found_of matches.now))) }
+    ensures { MatchOption result ((r : ServeRequest) → ¬ (HasServeOptions (rows_of (found_of matches.now)) r))
+        (λ r. HasServeOptions (rows_of (found_of matches.now)) r × (r.feeds ≡ feeds.entry)) }
 {
     Some(ServeRequest {
         image: text_at(matches, "image")?,
@@ -354,7 +364,7 @@ fn server_of<'a>(matches: &ArgMatches<'a>, feeds: Vec<NamedFolder<'a>>) -> Optio
 
 // How many seconds an option gives, if it is there; `None` if its value has a wrong form.
 fn maybe_seconds(matches: &ArgMatches<'_>, option: &str) -> Option<Option<Seconds>>
-    ensures { IfSome result (HasSeconds (rows_of (found_of matches.now)) option.now) }
+    ensures { Reads (λ rows. HasSeconds rows option.now) matches.now result }
 {
     if text_at(matches, option).is_none() {
         return Some(None);
@@ -372,8 +382,10 @@ fn stops_at<'a>(
     matches: &ArgMatches<'a>,
     option: &str,
 ) -> Result<Vec<&'a str>, NoCommand>
-    ensures { IfOk result (λ stops.
-        HasStops (rows_of (found_of matches.now)) option.now (map (λ s. s.now) stops.items)) }
+    ensures { MatchResult result (λ stops. HasStops (rows_of (found_of matches.now)) option.now
+        (map (λ stop. stop.now) stops.items)) (λ fault. (¬ (IsHelp fault))
+        × (fault ≢ NoCommand.OutOfMemory → (stops : List Text)
+        → ¬ (HasStops (rows_of (found_of matches.now)) option.now stops))) }
 {
     let Some(stops) = texts_at(matches, option) else {
         return Ok(Vec::new(alloc));
@@ -392,23 +404,40 @@ fn stops_at<'a>(
 
 // The places of a text that is there twice.
 fn twice_in(texts: &[&str]) -> Option<(usize, usize)>
-    ensures { IfSome result (λ places. places.1 < length texts.now) }
+    ensures bound { IfSome result (λ places. places.1 < length texts.now) }
+    ensures apart { MatchOption result (AreDistinct (map (λ text. text.now) texts.now))
+        (λ _. ¬ (AreDistinct (map (λ text. text.now) texts.now))) }
 {
     for index in 0..texts.len() {
-        for first in 0..index {
-            if texts[first] == texts[index] {
-                return Some((first, index));
-            }
+        let before = &texts[..index];
+        if let Some(first) = place_of(texts[index], before) {
+            return Some((first, index));
+        }
+    }
+    None
+}
+
+// Where a text is first among others.
+fn place_of(text: &str, others: &[&str]) -> Option<usize>
+    ensures { MatchOption result (All (λ other. other ≢ text.now) (map (λ other. other.now) others.now))
+        (λ place. (place < length others.now)
+        × ((d : Text) → get_or (map (λ other. other.now) others.now) place d ≡ text.now)) }
+{
+    for place in 0..others.len() {
+        if others[place] == text {
+            return Some(place);
         }
     }
     None
 }
 
 // The feeds that the words name, no two of them alike.
-fn feeds_at<'a>(
-    alloc: Global,
-    matches: &ArgMatches<'a>,
-) -> Result<Vec<NamedFolder<'a>>, NoCommand> {
+fn feeds_at<'a>(alloc: Global, matches: &ArgMatches<'a>) -> Result<Vec<NamedFolder<'a>>, NoCommand>
+    ensures { MatchResult result (λ feeds. HasFeeds (rows_of (found_of matches.now)) feeds.items)
+        (λ fault. (¬ (IsHelp fault))
+        × (fault ≢ NoCommand.OutOfMemory → (feeds : List NamedFolder)
+        → ¬ (HasFeeds (rows_of (found_of matches.now)) feeds))) }
+{
     let mut feeds = Vec::new(alloc);
     let Some(words) = texts_at(matches, "feeds") else {
         return Ok(feeds);
@@ -420,18 +449,15 @@ fn feeds_at<'a>(
         if has_name(&feeds, feed.name) {
             return Err(feed_named_twice(alloc, word));
         }
-        if feeds.push(feed).is_err() {
+        let Ok(()) = feeds.push(feed) else {
             return Err(NoCommand::OutOfMemory);
-        }
+        };
     }
     Ok(feeds)
 }
 
-fn has_name(feeds: &[NamedFolder<'_>], name: &str) -> bool {
-    for feed in feeds {
-        if feed.name == name {
-            return true;
-        }
-    }
-    false
+fn has_name(feeds: &[NamedFolder<'_>], name: &str) -> bool
+    ensures { IsTrue result ↔ Any (λ feed. feed.name.now ≡ name.now) feeds.now }
+{
+    feeds.iter().any(|feed| feed.name == name)
 }

@@ -1,7 +1,7 @@
 //! What reads the words of a command line.
 
-ghost use Rattle.std.specs.Prelude.{ℕ, IfOk, List, Result, map};
-ghost use Rattle.command_line.specs.Reading.{HasHyphenValue, Names};
+ghost use Rattle.std.specs.Prelude.{ℕ, List, Result, map};
+ghost use Rattle.command_line.specs.Reading.{HasHyphenValue, IsRead};
 ghost use Rattle.command_line.specs.declared.reading.NoCommand.{NoCommand};
 ghost use Rattle.command_requests.specs.declared.requests.CommandRequest.{CommandRequest};
 
@@ -20,8 +20,9 @@ pub trait Asks {
 }
 
 impl<H: AllocGlobal> Asks for H {
-    // a request is the one that the words name; nothing is known of words with a stop_id that begins with a hyphen
-    ghost may_ask = { λ _ words asked. ¬ (HasHyphenValue words) → IfOk asked (Names words) };
+    // A request is the one that the words name, and words that name one get it. Nothing is known of words with a
+    // stop_id that begins with a hyphen.
+    ghost may_ask = { λ _ words asked. ¬ (HasHyphenValue words) → IsRead words asked };
 
     fn asked<'a, S: AsStr>(&self, words: &'a [S]) -> Result<CommandRequest<'a>, NoCommand> {
         read(self.alloc(), words)
