@@ -11,10 +11,10 @@ use Rattle.session_texts.specs.Requests.{Asks, RequestValue, load, request_value
 use Rattle.session_texts.specs.declared.requests.Request.{Request}
 use Rattle.session_texts.specs.declared.refusals.Refusal.{Refusal}
 use Rattle.session.specs.declared.reply_form.ReplyForm.{ReplyForm}
-use Rattle.session.specs.Lines.{LineMeaning, too_long, no_json, no_request, asks, IsLineMeaning, memory_line, refusal_line}
-use Rattle.session.specs.SeatSteps.{Follows, SeatMove}
+use Rattle.session.specs.Lines.{too_long, no_json, no_request, asks, IsLineMeaning, memory_line, refusal_line}
+use Rattle.session.specs.SeatSteps.{Follows}
 use Rattle.session.specs.Sessions.{AreExchanges, moves_of, lines_in, orders_of, text_of}
-use Rattle.session.specs.Exchanges.{Deed, SeatState, IsLoaded, IsMet, IsExchange, OrderIsMet, Exchange, ExchangeLeadsTo, seat_state, replied_to}
+use Rattle.session.specs.Exchanges.{Deed, SeatState, IsLoaded, IsMet, IsExchange, OrderIsMet, Exchange, ExchangeLeadsTo, deed_of, seat_state, replied_to}
 use Rattle.session.proofs.SeatLemmas.{Follows-append}
 
 -- there is such an exchange of this line and this reply
@@ -22,21 +22,23 @@ abbrev pub HasTurn : ReplyForm → ℕ → List ℕ → List ℕ → SeatValue �
 HasTurn form number line reply a asked b asked_then =
     (t : Exchange) × (t.line ≡ line) × (t.reply ≡ reply) × ExchangeLeadsTo form number (seat_state a asked) t (seat_state b asked_then)
 
-abbrev exchange_of : List ℕ → List SeatMove → List OrderValue → List ℕ → Exchange
-exchange_of line moves orders reply = record { line = line; moves = moves; orders = orders; reply = reply }
+-- a line, what was done for it, and what the seat shows then
+abbrev exchange_of : List ℕ → Deed → SeatValue → Exchange
+exchange_of line d shown = record { line = line; moves = d.moves; orders = d.orders; reply = d.reply; shown = shown }
 
-has_exchange : {form : ReplyForm} (number : ℕ) (a b : SeatValue) (asked asked_then : List OrderValue) (t : Exchange) → IsExchange form a.held t
-    → Follows number a t.moves b
-    → asked_then ≡ asked ++ t.orders → HasTurn form number t.line t.reply a asked b asked_then
-has_exchange {form} number a b asked asked_then t is seat orders =
-    let exchanges : ExchangeLeadsTo form number (seat_state a asked) t (seat_state b asked_then) = record { is = is; seat = seat; orders = orders } in
-    (t, refl, refl, exchanges)
+has_exchange : {form : ReplyForm} (number : ℕ) (a b : SeatValue) (asked asked_then : List OrderValue) (line : List ℕ) (d : Deed)
+    → IsExchange form a.held (exchange_of line d b) → Follows number a d.moves b → asked_then ≡ asked ++ d.orders
+    → HasTurn form number line d.reply a asked b asked_then
+has_exchange {form} number a b asked asked_then line d is seat orders =
+    let leads : ExchangeLeadsTo form number (seat_state a asked) (exchange_of line d b) (seat_state b asked_then) =
+    record { is = is; seat = seat; shown = refl; orders = orders } in
+    (exchange_of line d b, refl, refl, leads)
 
 -- nothing was done
 idle_exchange : {form : ReplyForm} (number : ℕ) (a : SeatValue) (asked : List OrderValue) (line reply : List ℕ)
-    → IsExchange form a.held (exchange_of line [] [] reply)
+    → IsExchange form a.held (exchange_of line (deed_of [] [] reply) a)
     → HasTurn form number line reply a asked a asked
-idle_exchange {form} number a asked line reply is = has_exchange number a a asked asked (exchange_of line [] [] reply) is refl (sym (append-nil asked))
+idle_exchange {form} number a asked line reply is = has_exchange number a a asked asked line (deed_of [] [] reply) is refl (sym (append-nil asked))
 
 pub memory_exchange : {form : ReplyForm} (number : ℕ) (a : SeatValue) (asked : List OrderValue) (line reply : List ℕ) → reply ≡ memory_line
     → HasTurn form number line reply a asked a asked
@@ -75,39 +77,36 @@ waits_for sets d feed waits is asks_it = subst (λ (b : Bool). Asks sets d (load
 pub waits_not : (sets : Bool) (d : Data) (feed : List ℕ) (waits : Bool) → waits ≡ false → Asks sets d (load feed waits) → Asks sets d (load feed false)
 waits_not sets d feed waits is asks_it = subst (λ (b : Bool). Asks sets d (load feed b)) is asks_it
 
--- a request of the seat is met
-meets_exchange : {form : ReplyForm} (number : ℕ) (a b : SeatValue) (what : LineMeaning) (line reply : List ℕ) → IsLineMeaning form.sets line what
-    → (met : IsMet form number a (replied_to what reply) b)
-    → IsExchange form a.held (exchange_of line met.moves [] reply)
-meets_exchange {form} number a b what line reply is met = inr (what, is, met.meets)
+-- a whole line asks this
+asks_line : (sets : Bool) (bytes line : List ℕ) (d : Data) (request : RequestValue) → (bytes ≡ line) × (length line ≤ 65_536) → IsJson bytes d
+    → Asks sets d request → IsLineMeaning sets line (asks request)
+asks_line sets bytes line d request here json asks_it = (here.1, (d, subst (λ (xs : List ℕ). IsJson xs d) here.0 json, asks_it))
 
+-- a request of the seat is met
 pub seat_exchange : {form : ReplyForm} (number : ℕ) (a b : SeatValue) (asked : List OrderValue) (bytes line reply : List ℕ) (d : Data) (request : RequestValue)
     → (bytes ≡ line) × (length line ≤ 65_536) → IsJson bytes d → Asks form.sets d request
     → IsMet form number a (replied_to (asks request) reply) b → HasTurn form number line reply a asked b asked
 seat_exchange {form} number a b asked bytes line reply d request here json asks_it met =
-    let is : IsLineMeaning form.sets line (asks request) = (here.1, (d, subst (λ (xs : List ℕ). IsJson xs d) here.0 json, asks_it)) in
-    has_exchange number a b asked asked (exchange_of line met.moves [] reply) (meets_exchange number a b (asks request) line reply is met) met.seat
-    (sym (append-nil asked))
+    has_exchange number a b asked asked line (deed_of met.moves [] reply)
+    (inr (asks request, asks_line form.sets bytes line d request here json asks_it, met.meets)) met.seat (sym (append-nil asked))
 
 -- a feed is ordered
 pub order_exchange : {form : ReplyForm} (number : ℕ) (a : SeatValue) (asked asked_then put : List OrderValue) (bytes line reply feed : List ℕ) (d : Data)
-    → (bytes ≡ line)
-    × (length line ≤ 65_536) → IsJson bytes d → Asks form.sets d (load feed false)
+    → (bytes ≡ line) × (length line ≤ 65_536) → IsJson bytes d → Asks form.sets d (load feed false)
     → asked_then ≡ asked ++ put → OrderIsMet feed put reply ⊎ ((put ≡ []) × (reply ≡ memory_line)) → HasTurn form number line reply a asked a asked_then
 order_exchange {form} number a asked asked_then put bytes line reply feed d here json asks_it grown (inl met) =
-    let is : IsLineMeaning form.sets line (asks (load feed false)) = (here.1, (d, subst (λ (xs : List ℕ). IsJson xs d) here.0 json, asks_it)) in
-    has_exchange number a a asked asked_then (exchange_of line [] put reply) (inr (asks (load feed false), is, inr (refl, met))) refl grown
+    has_exchange number a a asked asked_then line (deed_of [] put reply)
+    (inr (asks (load feed false), asks_line form.sets bytes line d (load feed false) here json asks_it, inr (refl, met))) refl grown
 order_exchange {form} number a asked asked_then put bytes line reply feed d here json asks_it grown (inr memory) =
-    has_exchange number a a asked asked_then (exchange_of line [] put reply) (inl (memory.1, memory.0, refl)) refl grown
+    has_exchange number a a asked asked_then line (deed_of [] put reply) (inl (memory.1, memory.0, refl)) refl grown
 
 -- and is waited for
 pub load_exchange : {form : ReplyForm} (number : ℕ) (a b : SeatValue) (asked asked_then : List OrderValue) (deed : Deed) (bytes line reply feed : List ℕ)
     (d : Data) → (bytes ≡ line) × (length line ≤ 65_536) → IsJson bytes d → Asks form.sets d (load feed true)
     → deed.reply ≡ reply → asked_then ≡ asked ++ deed.orders → IsLoaded number a feed deed b → HasTurn form number line reply a asked b asked_then
 load_exchange {form} number a b asked asked_then deed bytes line reply feed d here json asks_it same grown loaded =
-    let is : IsLineMeaning form.sets line (asks (load feed true)) = (here.1, (d, subst (λ (xs : List ℕ). IsJson xs d) here.0 json, asks_it)) in
-    let exchange = has_exchange number a b asked asked_then (exchange_of line deed.moves deed.orders deed.reply)
-    (inr (asks (load feed true), is, inr loaded.meets)) loaded.seat grown in
+    let exchange = has_exchange number a b asked asked_then line deed
+    (inr (asks (load feed true), asks_line form.sets bytes line d (load feed true) here json asks_it, inr loaded.meets)) loaded.seat grown in
     (exchange.0, exchange.1, exchange.2 ∙ same, exchange.3)
 
 -- exchanges, and one more

@@ -1,41 +1,72 @@
 -- What a session has read, done and written so far, and how it ends.
 use Rattle.std.proofs.Common.{◌≡◌, ◌⊎◌, ◌<◌, ◌≤◌, ◌+◌, ◌-◌, ◌^◌, ℕ, suc, List, [], ◌∷◌, ◌++◌}
-use Rattle.std.proofs.Common.{length, take, Option, Result, Ok, Err, refl, sym, ap, ◌∙◌, subst, append-nil, length-append, arith, inl, inr}
-use Rattle.std.proofs.lemmas.List.{take-append-le, take_all, length_push}
+use Rattle.std.proofs.Common.{length, take, Option, Ok, Err, Result, refl, sym, ap, ◌∙◌, subst, append-nil, append_assoc, length-append, arith, inl, inr}
+use Rattle.std.proofs.lemmas.List.{map-append, take-append-le, take_all, length_push}
 use Rattle.std.specs.Io.KnownBytes.{Appends, Consumes, IsAtEnd}
 use Rattle.std.proofs.KnownBytes.{Appends-nil, Appends-trans}
 use Rattle.lines.specs.Counting.{one_more}
-use Rattle.lines.specs.Cutting.{IsCut, IsOneLine, lines_of, rest_of, whole_lines}
+use Rattle.lines.specs.Cutting.{IsOneLine, lines_of, rest_of, whole_lines}
 use Rattle.lines.specs.Reading.{GivesEnded, GivesRest, HasGiven, unread_of}
 use Rattle.lines.specs.declared.reader.LineReader.{LineReader}
-use Rattle.lines.proofs.CutLemmas.{IsCut-lines, IsCut-rest, IsCut-whole, lines_of-some}
-use Rattle.lines.proofs.GivenLemmas.{HasGiven-start, HasGiven-read, HasGiven-ended, HasGiven-rest, HasGiven-nothing}
+use Rattle.lines.proofs.CutLemmas.{IsCut-line, IsCut-lines, IsCut-rest, IsCut-whole, lines_of-some}
+use Rattle.lines.proofs.GivenLemmas.{HasGiven-start, HasGiven-read, HasGiven-rest, HasGiven-nothing}
 use Rattle.session.specs.declared.reply_form.ReplyForm.{ReplyForm}
 use Rattle.session.specs.declared.fault.Ended.{Ended}
 use Rattle.session.specs.declared.fault.SessionFault.{SessionFault}
-use Rattle.session.specs.Sessions.{AnswerLines, AreShort, AreExchanges, EndsSo, IsCutShort, Serves, SessionState, session_record_of, lines_in, text_of}
+use Rattle.session.specs.SeatSteps.{SeatReply, seat_reply}
+use Rattle.session.specs.Sessions.{AnswerLines, AreShort, AreExchanges, EndsSo, Serves, SessionState}
+use Rattle.session.specs.Sessions.{lines_in, replies_in, session_record_of, text_of}
 use Rattle.session.specs.Exchanges.{SeatState, Exchange, ExchangeLeadsTo}
 use Rattle.session.proofs.ExchangeLemmas.{AreExchanges-more, lines_in-more, text_of-more}
 
--- what is to be read and what was written, how many reads and writes failed, and the seat with its orders
-abbrev pub session_state : Option (List ℕ) → Option (List ℕ) → ℕ → ℕ → SeatState → SessionState
-session_state unread written failed_reads failed_writes at_seat =
-    record { unread = unread; written = written; failed_reads = failed_reads; failed_writes = failed_writes; at_seat = at_seat }
-
--- the lines that were given are answered, and the replies written
-pub record SoFar (form : ReplyForm) (number : ℕ) (to_read read_then : Option (List ℕ)) (unread : List ℕ) (contents contents_then : Option (List ℕ))
-    (a b : SeatState) (count : ℕ) : Type 0 where
+-- the lines that were given are answered, and the replies written; these bytes are in no line yet
+pub record SoFar (form : ReplyForm) (number : ℕ) (a b : SessionState) (unread : List ℕ) (count : ℕ) : Type 0 where
   pub exchanges : List Exchange
-  pub given : HasGiven to_read read_then unread (lines_in exchanges)
-  pub writes : Appends contents contents_then (text_of exchanges)
-  pub does : AreExchanges form number a exchanges b
+  pub given : HasGiven a.unread b.unread unread (lines_in exchanges)
+  pub writes : Appends a.written b.written (text_of exchanges)
+  pub replies : b.replied ≡ a.replied ++ replies_in exchanges
+  pub does : AreExchanges form number a.at_seat exchanges b.at_seat
   pub many : length exchanges ≡ count
   pub short : AreShort exchanges
 
-pub SoFar-start : {form : ReplyForm} (number : ℕ) (known : Option (List ℕ)) (unread : List ℕ) (contents : Option (List ℕ)) (a : SeatState)
-    → unread ≡ [] → SoFar form number known known unread contents contents a a 0
-SoFar-start {form} number known unread contents a none =
-    record { exchanges = []; given = HasGiven-start known unread none; writes = Appends-nil contents; does = refl; many = refl; short = tt }
+-- these bytes were read, and nothing else was done
+pub record IsRead (b c : SessionState) (bytes : List ℕ) : Type 0 where
+  pub came : Consumes b.unread c.unread bytes
+  pub written : c.written ≡ b.written
+  pub replied : c.replied ≡ b.replied
+  pub at_seat : c.at_seat ≡ b.at_seat
+  pub failed : c.failed_writes ≡ b.failed_writes
+
+-- this exchange was made, and so much of its reply was written
+pub record IsAnswered (form : ReplyForm) (number : ℕ) (b : SessionState) (t : Exchange) (written : List ℕ) (c : SessionState) : Type 0 where
+  pub unread : c.unread ≡ b.unread
+  pub failed : c.failed_reads ≡ b.failed_reads
+  pub leads : ExchangeLeadsTo form number b.at_seat t c.at_seat
+  pub replied : c.replied ≡ b.replied ++ seat_reply t.shown t.reply ∷ []
+  pub writes : Appends b.written c.written written
+
+pub SoFar-start : {form : ReplyForm} (number : ℕ) (a : SessionState) (unread : List ℕ) → unread ≡ [] → SoFar form number a a unread 0
+SoFar-start number a unread none = record {
+  exchanges = [];
+  given = HasGiven-start a.unread unread none;
+  writes = Appends-nil a.written;
+  replies = sym (append-nil a.replied);
+  does = refl;
+  many = refl;
+  short = tt;
+}
+
+pub SoFar-read : {form : ReplyForm} {number count : ℕ} {a b c : SessionState} {unread bytes : List ℕ} → SoFar form number a b unread count → IsRead b c bytes
+    → SoFar form number a c (unread ++ bytes) count
+SoFar-read {form} {number} {count} {a} {b} {c} {unread} {bytes} so_far read = record {
+  exchanges = so_far.exchanges;
+  given = HasGiven-read a.unread b.unread c.unread unread bytes (lines_in so_far.exchanges) so_far.given read.came;
+  writes = subst (λ (w : Option (List ℕ)). Appends a.written w (text_of so_far.exchanges)) (sym read.written) so_far.writes;
+  replies = read.replied ∙ so_far.replies;
+  does = subst (λ (s : SeatState). AreExchanges form number a.at_seat so_far.exchanges s) (sym read.at_seat) so_far.does;
+  many = so_far.many;
+  short = so_far.short;
+}
 
 more_lines : (exchanges : List Exchange) (t : Exchange) (line : List ℕ) → t.line ≡ line → lines_in (exchanges ++ t ∷ []) ≡ lines_in exchanges ++ line ∷ []
 more_lines exchanges t line is = lines_in-more exchanges t ∙ ap (λ (l : List ℕ). lines_in exchanges ++ l ∷ []) is
@@ -51,36 +82,176 @@ AreShort-more : (exchanges : List Exchange) (t : Exchange) → AreShort exchange
 AreShort-more [] t all short = (short, tt)
 AreShort-more (u ∷ exchanges) t all short = (all.0, AreShort-more exchanges t all.1 short)
 
--- the whole lines of what was read are those that were given and those of what is still to be cut
-IsCut-wholes : (read unread : List ℕ) (given : List (List ℕ)) → IsCut read given unread → whole_lines read ≡ given ++ whole_lines unread
-IsCut-wholes read unread given cut =
-    ap whole_lines (sym (append-nil read)) ∙ cut.whole [] ∙ ap (λ (k : List ℕ). given ++ whole_lines k) (append-nil unread)
-
 -- the lines of all that was read, of which so many were given first
 first_of : (given rest : List (List ℕ)) (all : List (List ℕ)) → all ≡ given ++ rest → given ≡ take (length given) all
 first_of given rest all is = sym (ap (λ (ls : List (List ℕ)). take (length given) ls) is
     ∙ take-append-le (length given) given rest (omega arith) ∙ take_all (length given) given (omega arith))
 
--- a line is answered and its reply is written
-pub SoFar-more : {form : ReplyForm} (number : ℕ) (to_read known later : Option (List ℕ)) (unread bytes : List ℕ) (contents wrote writes : Option (List ℕ))
-    (a b after : SeatState) (count : ℕ) (new : LineReader)
-    → SoFar form number to_read known unread contents wrote a b count → Consumes known later bytes → (gives : GivesEnded (unread ++ bytes) new)
-    → (t : Exchange) → t.line ≡ gives.line → ExchangeLeadsTo form number b t after → Appends wrote writes t.reply
-    → SoFar form number to_read later (unread_of new) contents writes a after (count + 1)
-SoFar-more {form} number to_read known later unread bytes contents wrote writes a b after count
-    new so_far came gives t line_is exchange written =
-    let given = HasGiven-ended to_read known later unread bytes (lines_in so_far.exchanges) new so_far.given came gives in
-    let lines : lines_in so_far.exchanges ++ gives.line ∷ [] ≡ lines_in (so_far.exchanges ++ t ∷ []) = sym (more_lines so_far.exchanges t gives.line line_is) in
-    let text : text_of so_far.exchanges ++ t.reply ≡ text_of (so_far.exchanges ++ t ∷ []) = sym (text_of-more so_far.exchanges t) in
-    record {
+-- a line was given of the bytes that were in none
+abbrev given_line : (first known : Option (List ℕ)) (unread : List ℕ) (given : List (List ℕ)) (new : LineReader) → HasGiven first known unread given
+    → (gives : GivesEnded unread new) → HasGiven first known (unread_of new) (given ++ gives.line ∷ [])
+given_line first known unread given new has gives = record {
+  read = has.read;
+  consumed = has.consumed;
+  cut = IsCut-line has.read unread gives.line (unread_of new) given gives.one gives.cut has.cut;
+}
+
+module _ {form : ReplyForm} {number count : ℕ} {a b : SessionState} {unread : List ℕ} (so_far : SoFar form number a b unread count) where
+  -- a session that ends so behind the lines that are answered
+  serves_so_far : (result : Result Ended SessionFault) → count ≤ 1_000_000
+      → EndsSo result (session_record_of so_far.given.read (text_of so_far.exchanges) so_far.exchanges a b) → Serves form number result a b
+  serves_so_far result few ends = record {
+    read = so_far.given.read;
+    written = text_of so_far.exchanges;
+    exchanges = so_far.exchanges;
+    reads = so_far.given.consumed;
+    writes = so_far.writes;
+    replies = so_far.replies;
+    does = so_far.does;
+    few = omega (arith, so_far.many, few);
+    short = so_far.short;
+    ends = ends;
+  }
+
+  -- nothing is left
+  pub ends_at_end : (ended : Ended) → count ≤ 1_000_000 → unread ≡ [] → IsAtEnd b.unread → (¬ (a.failed_reads < b.failed_reads))
+      → (¬ (a.failed_writes < b.failed_writes)) → Serves form number (Ok ended) a b
+  ends_at_end ended few none end no_read no_write = serves_so_far (Ok ended) few
+      (end, no_read, no_write, sym (HasGiven-nothing a.unread b.unread unread (lines_in so_far.exchanges) so_far.given none), refl)
+
+  -- a line can't be read: the lines before it are answered
+  pub read_fails : count ≤ 1_000_000 → IsOneLine unread → (a.failed_reads < b.failed_reads) ⊎ (length unread ≡ 16_777_217)
+      → (¬ (a.failed_writes < b.failed_writes)) → Serves form number (Err SessionFault.ReadFailed) a b
+  read_fails few one failed no_write =
+      let read = so_far.given.read in
+      let given = lines_in so_far.exchanges in
+      let rest : rest_of read ≡ unread = IsCut-rest read unread given one so_far.given.cut in
+      let why : (a.failed_reads < b.failed_reads) ⊎ (length (rest_of read) ≡ 16_777_217) =
+      subst (λ (xs : List ℕ). (a.failed_reads < b.failed_reads) ⊎ (length xs ≡ 16_777_217)) (sym rest) failed in
+      serves_so_far (Err SessionFault.ReadFailed) few (why, no_write, sym (IsCut-whole read unread given one so_far.given.cut), refl)
+
+  -- a million lines are answered, and a byte is there
+  pub too_many : count ≡ 1_000_000 → 0 < length unread → (¬ (a.failed_reads < b.failed_reads)) → (¬ (a.failed_writes < b.failed_writes))
+      → Serves form number (Err SessionFault.TooManyRequests) a b
+  too_many million some no_read no_write =
+      let read = so_far.given.read in
+      let given = lines_in so_far.exchanges in
+      let all : lines_of read ≡ given ++ lines_of unread = IsCut-lines read unread given so_far.given.cut in
+      let further : 0 < length (lines_of unread) = lines_of-some unread some in
+      let full : length given ≡ 1_000_000 = lines_many so_far.exchanges ∙ so_far.many ∙ million in
+      let long : 1_000_000 < length (lines_of read) =
+      omega (arith, ap (λ (ls : List (List ℕ)). length ls) all, length-append given (lines_of unread), further, full) in
+      serves_so_far (Err SessionFault.TooManyRequests) (omega (arith, million)) (
+        no_read,
+        no_write,
+        so_far.many ∙ million,
+        long,
+        first_of given (lines_of unread) (lines_of read) all ∙ ap (λ (n : ℕ). take n (lines_of read)) full,
+        refl,
+      )
+
+  module _ {c : SessionState} {t : Exchange} {part : List ℕ} (one : IsAnswered form number b t part c) where
+    replies_more : c.replied ≡ a.replied ++ replies_in (so_far.exchanges ++ t ∷ [])
+    replies_more = one.replied ∙ ap (λ (xs : List SeatReply). xs ++ seat_reply t.shown t.reply ∷ []) so_far.replies
+        ∙ append_assoc a.replied (replies_in so_far.exchanges) (seat_reply t.shown t.reply ∷ [])
+        ∙ ap (λ (xs : List SeatReply). a.replied ++ xs) (sym (map-append (λ (u : Exchange). seat_reply u.shown u.reply) so_far.exchanges (t ∷ [])))
+
+    -- a session that ends so behind one line more, whose reply is perhaps not written wholly
+    serves_one_more : (result : Result Ended SessionFault) (line : List ℕ) → count < 1_000_000 → t.line ≡ line → length line ≤ 16_777_216
+        → EndsSo result (session_record_of so_far.given.read (text_of so_far.exchanges ++ part) (so_far.exchanges ++ t ∷ []) a c)
+        → Serves form number result a c
+    serves_one_more result line few line_is short ends = record {
+      read = so_far.given.read;
+      written = text_of so_far.exchanges ++ part;
       exchanges = so_far.exchanges ++ t ∷ [];
-      given = subst (λ (ls : List (List ℕ)). HasGiven to_read later (unread_of new) ls) lines given;
-      writes = subst (λ (xs : List ℕ). Appends contents writes xs) text
-          (Appends-trans contents wrote writes (text_of so_far.exchanges) t.reply so_far.writes written);
-      does = AreExchanges-more number a b after so_far.exchanges t so_far.does exchange;
-      many = omega (arith, so_far.many, length-append so_far.exchanges (t ∷ []));
-      short = AreShort-more so_far.exchanges t so_far.short (short_exchange t gives.line line_is gives.short);
+      reads = subst (λ (u : Option (List ℕ)). Consumes a.unread u so_far.given.read) (sym one.unread) so_far.given.consumed;
+      writes = Appends-trans a.written b.written c.written (text_of so_far.exchanges) part so_far.writes one.writes;
+      replies = replies_more;
+      does = AreExchanges-more number a.at_seat b.at_seat c.at_seat so_far.exchanges t so_far.does one.leads;
+      few = omega (arith, so_far.many, few, length_push so_far.exchanges t);
+      short = AreShort-more so_far.exchanges t so_far.short (short_exchange t line line_is short);
+      ends = ends;
     }
+
+    -- the rest was the last line
+    pub ends_with_rest : {new : LineReader} (ended : Ended) → count < 1_000_000 → GivesRest unread new (IsAtEnd b.unread) → t.line ≡ unread
+        → part ≡ t.reply → (¬ (a.failed_reads < c.failed_reads)) → (¬ (a.failed_writes < c.failed_writes)) → Serves form number (Ok ended) a c
+    ends_with_rest ended few gives line_is whole no_read no_write =
+        let given = lines_in so_far.exchanges in
+        serves_one_more (Ok ended) unread few line_is gives.short (
+          subst IsAtEnd (sym one.unread) gives.end,
+          no_read,
+          no_write,
+          more_lines so_far.exchanges t unread line_is ∙ sym (HasGiven-rest a.unread b.unread unread given so_far.given gives.one gives.some),
+          ap (λ (xs : List ℕ). text_of so_far.exchanges ++ xs) whole ∙ sym (text_of-more so_far.exchanges t),
+        )
+
+    -- a reply isn't wholly written: of the lines that were read those that were given are the first
+    cut_short : (n : ℕ) (line : List ℕ) → part ≡ take n t.reply → count < 1_000_000 → t.line ≡ line → length line ≤ 16_777_216
+        → ((rest : List (List ℕ)) × (whole_lines so_far.given.read ≡ (lines_in so_far.exchanges ++ line ∷ []) ++ rest))
+        ⊎ (IsAtEnd b.unread × (lines_of so_far.given.read ≡ lines_in so_far.exchanges ++ line ∷ []))
+        → (¬ (a.failed_reads < c.failed_reads)) → a.failed_writes < c.failed_writes → Serves form number (Err SessionFault.WriteFailed) a c
+    cut_short n line part_is few line_is short all no_read failed =
+        let given = lines_in (so_far.exchanges ++ t ∷ []) in
+        let given_are : given ≡ lines_in so_far.exchanges ++ line ∷ [] = more_lines so_far.exchanges t line line_is in
+        let lines : AnswerLines (so_far.exchanges ++ t ∷ []) so_far.given.read (IsAtEnd c.unread) =
+        elim all [
+          | inl whole ↦ inl (
+            length given,
+            first_of given whole.0 (whole_lines so_far.given.read) (whole.1 ∙ ap (λ (ls : List (List ℕ)). ls ++ whole.0) (sym given_are)),
+          )
+          | inr last ↦ inr (subst IsAtEnd (sym one.unread) last.0, given_are ∙ sym last.1)
+        ] in
+        serves_one_more (Err SessionFault.WriteFailed) line few line_is short (
+          failed,
+          no_read,
+          lines,
+          record {
+            answered = so_far.exchanges;
+            last = t;
+            count = n;
+            exchanges_are = refl;
+            written_is = ap (λ (xs : List ℕ). text_of so_far.exchanges ++ xs) part_is;
+          },
+        )
+
+    pub cut_short_at_line : {new : LineReader} (n : ℕ) → part ≡ take n t.reply → count < 1_000_000 → (gives : GivesEnded unread new) → t.line ≡ gives.line
+        → (¬ (a.failed_reads < c.failed_reads)) → a.failed_writes < c.failed_writes → Serves form number (Err SessionFault.WriteFailed) a c
+    cut_short_at_line {new} n part_is few gives line_is no_read failed =
+        let given = lines_in so_far.exchanges ++ gives.line ∷ [] in
+        let has = given_line a.unread b.unread unread (lines_in so_far.exchanges) new so_far.given gives in
+        let whole : whole_lines so_far.given.read ≡ given ++ whole_lines (unread_of new) =
+        ap whole_lines (sym (append-nil so_far.given.read)) ∙ has.cut.whole []
+        ∙ ap (λ (k : List ℕ). given ++ whole_lines k) (append-nil (unread_of new)) in
+        cut_short n gives.line part_is few line_is gives.short (inl (whole_lines (unread_of new), whole)) no_read failed
+
+    pub cut_short_at_rest : {new : LineReader} (n : ℕ) → part ≡ take n t.reply → count < 1_000_000 → GivesRest unread new (IsAtEnd b.unread)
+        → t.line ≡ unread → (¬ (a.failed_reads < c.failed_reads)) → a.failed_writes < c.failed_writes
+        → Serves form number (Err SessionFault.WriteFailed) a c
+    cut_short_at_rest n part_is few gives line_is no_read failed =
+        let all = HasGiven-rest a.unread b.unread unread (lines_in so_far.exchanges) so_far.given gives.one gives.some in
+        cut_short n unread part_is few line_is gives.short (inr (gives.end, all)) no_read failed
+
+    -- a line is answered and its reply is written
+    pub SoFar-more : {new : LineReader} (gives : GivesEnded unread new) → t.line ≡ gives.line → part ≡ t.reply
+        → SoFar form number a c (unread_of new) (count + 1)
+    SoFar-more {new} gives line_is whole =
+        let lines = sym (more_lines so_far.exchanges t gives.line line_is) in
+        let given = given_line a.unread b.unread unread (lines_in so_far.exchanges) new so_far.given gives in
+        let given_then = subst (λ (u : Option (List ℕ)). HasGiven a.unread u (unread_of new) (lines_in so_far.exchanges ++ gives.line ∷ []))
+        (sym one.unread) given in
+        let text : text_of so_far.exchanges ++ part ≡ text_of (so_far.exchanges ++ t ∷ []) =
+        ap (λ (xs : List ℕ). text_of so_far.exchanges ++ xs) whole ∙ sym (text_of-more so_far.exchanges t) in
+        record {
+          exchanges = so_far.exchanges ++ t ∷ [];
+          given = subst (λ (ls : List (List ℕ)). HasGiven a.unread c.unread (unread_of new) ls) lines given_then;
+          writes = subst (λ (xs : List ℕ). Appends a.written c.written xs) text
+              (Appends-trans a.written b.written c.written (text_of so_far.exchanges) part so_far.writes one.writes);
+          replies = replies_more;
+          does = AreExchanges-more number a.at_seat b.at_seat c.at_seat so_far.exchanges t so_far.does one.leads;
+          many = omega (arith, so_far.many, length-append so_far.exchanges (t ∷ []));
+          short = AreShort-more so_far.exchanges t so_far.short (short_exchange t gives.line line_is gives.short);
+        }
 
 -- a count rose, or didn't
 pub rose : (first before now : ℕ) → first < 2 ^ 64 - 1 → before ≡ first → now ≡ one_more before → first < now
@@ -89,203 +260,11 @@ rose first before now below same more = omega (arith, below, same, more)
 pub not_rose : (first now : ℕ) → now ≡ first → ¬ (first < now)
 not_rose first now same up = absurd (omega (arith, same, up))
 
--- a session that ends so behind the lines that are answered
-serves_so_far : {form : ReplyForm} (number : ℕ) (result : Result Ended SessionFault) (to_read known later : Option (List ℕ)) (unread bytes : List ℕ)
-    (contents wrote : Option (List ℕ)) (a b : SeatState) (count : ℕ) (reads reads_then fails fails_then : ℕ)
-    → count ≤ 1_000_000 → (so_far : SoFar form number to_read known unread contents wrote a b count)
-    → (more : HasGiven to_read later (unread ++ bytes) (lines_in so_far.exchanges))
-    → EndsSo result (session_record_of more.read (text_of so_far.exchanges) so_far.exchanges (session_state to_read contents reads fails a)
-    (session_state later wrote reads_then fails_then b))
-    → Serves form number result (session_state to_read contents reads fails a) (session_state later wrote reads_then fails_then b)
-serves_so_far {form} number result to_read known later unread bytes contents wrote a b count reads reads_then fails fails_then few so_far more ends =
-    record {
-      read = more.read;
-      written = text_of so_far.exchanges;
-      exchanges = so_far.exchanges;
-      reads = more.consumed;
-      writes = so_far.writes;
-      does = so_far.does;
-      few = omega (arith, so_far.many, few);
-      short = so_far.short;
-      ends = ends;
-    }
-
--- nothing is left
-pub ends_at_end : {form : ReplyForm} (number : ℕ) (to_read known later : Option (List ℕ)) (unread bytes : List ℕ) (contents wrote : Option (List ℕ))
-    (a b : SeatState) (count : ℕ) (reads reads_then fails fails_then : ℕ) (ended : Ended)
-    → count ≤ 1_000_000 → SoFar form number to_read known unread contents wrote a b count → Consumes known later bytes → unread ++ bytes ≡ []
-    → IsAtEnd later → (¬ (reads < reads_then)) → (¬ (fails < fails_then))
-    → Serves form number (Ok ended) (session_state to_read contents reads fails a) (session_state later wrote reads_then fails_then b)
-ends_at_end {form} number to_read known later unread bytes contents wrote a b count reads reads_then fails fails_then ended few so_far came none end
-    no_read no_write =
-    let more = HasGiven-read to_read known later unread bytes (lines_in so_far.exchanges) so_far.given came in
-    serves_so_far number (Ok ended) to_read known later unread bytes contents wrote a b count
-    reads reads_then fails fails_then few so_far more
-    (end, no_read, no_write, sym (HasGiven-nothing to_read later (unread ++ bytes) (lines_in so_far.exchanges) more none), refl)
-
--- the rest was the last line
-pub ends_with_rest : {form : ReplyForm} (number : ℕ) (to_read known later : Option (List ℕ)) (unread bytes : List ℕ)
-    (contents wrote writes : Option (List ℕ)) (a b after : SeatState)
-    (count : ℕ) (new : LineReader) (reads reads_then fails fails_then : ℕ) (ended : Ended)
-    → count < 1_000_000 → SoFar form number to_read known unread contents wrote a b count → Consumes known later bytes
-    → GivesRest (unread ++ bytes) new (IsAtEnd later)
-    → (t : Exchange) → t.line ≡ unread ++ bytes → ExchangeLeadsTo form number b t after → Appends wrote writes t.reply → (¬ (reads < reads_then))
-    → (¬ (fails < fails_then))
-    → Serves form number (Ok ended) (session_state to_read contents reads fails a) (session_state later writes reads_then fails_then after)
-ends_with_rest {form} number to_read known later unread bytes contents wrote writes a b after
-    count new reads reads_then fails fails_then ended few so_far came gives t line_is exchange written no_read no_write =
-    let more = HasGiven-read to_read known later unread bytes (lines_in so_far.exchanges) so_far.given came in
-    let lines : lines_in (so_far.exchanges ++ t ∷ []) ≡ lines_of more.read =
-    more_lines so_far.exchanges t (unread ++ bytes) line_is
-    ∙ sym (HasGiven-rest to_read later (unread ++ bytes) (lines_in so_far.exchanges) more gives.one gives.some) in
-    let text : text_of so_far.exchanges ++ t.reply ≡ text_of (so_far.exchanges ++ t ∷ []) = sym (text_of-more so_far.exchanges t) in
-    record {
-      read = more.read;
-      written = text_of (so_far.exchanges ++ t ∷ []);
-      exchanges = so_far.exchanges ++ t ∷ [];
-      reads = more.consumed;
-      writes = subst (λ (xs : List ℕ). Appends contents writes xs) text
-          (Appends-trans contents wrote writes (text_of so_far.exchanges) t.reply so_far.writes written);
-      does = AreExchanges-more number a b after so_far.exchanges t so_far.does exchange;
-      few = omega (arith, so_far.many, few, length_push so_far.exchanges t);
-      short = AreShort-more so_far.exchanges t so_far.short (short_exchange t (unread ++ bytes) line_is gives.short);
-      ends = (gives.end, no_read, no_write, lines, refl);
-    }
-
--- the lines before one are answered, and it too
-AnswerLines-more : (exchanges : List Exchange) (t : Exchange) (read line : List ℕ) (at_end : Type 0) → t.line ≡ line
-    → ((rest : List (List ℕ)) × (whole_lines read ≡ (lines_in exchanges ++ line ∷ []) ++ rest)) ⊎ (at_end × (lines_of read ≡ lines_in exchanges ++ line ∷ []))
-    → AnswerLines (exchanges ++ t ∷ []) read at_end
-AnswerLines-more exchanges t read line at_end line_is (inl whole) =
-    let lines : whole_lines read ≡ lines_in (exchanges ++ t ∷ []) ++ whole.0 =
-    whole.1 ∙ ap (λ (ls : List (List ℕ)). ls ++ whole.0) (sym (more_lines exchanges t line line_is)) in
-    inl (length (lines_in (exchanges ++ t ∷ [])), first_of (lines_in (exchanges ++ t ∷ [])) whole.0 (whole_lines read) lines)
-AnswerLines-more exchanges t read line at_end line_is (inr all) = inr (all.0, more_lines exchanges t line line_is ∙ sym all.1)
-
--- a reply isn't wholly written: these bytes were read, and of their lines those given are the first
-cut_short : {form : ReplyForm} (number : ℕ) (to_read later : Option (List ℕ)) (read : List ℕ) (line : List ℕ)
-    (contents wrote writes : Option (List ℕ)) (a b after : SeatState)
-    (reads reads_then fails fails_then : ℕ) (exchanges : List Exchange)
-    → Consumes to_read later read → AreExchanges form number a exchanges b → Appends contents wrote (text_of exchanges)
-    → ((rest : List (List ℕ)) × (whole_lines read ≡ (lines_in exchanges ++ line ∷ []) ++ rest))
-    ⊎ (IsAtEnd later × (lines_of read ≡ lines_in exchanges ++ line ∷ []))
-    → length exchanges < 1_000_000 → AreShort exchanges → length line ≤ 16_777_216
-    → (t : Exchange) → t.line ≡ line → ExchangeLeadsTo form number b t after → (n : ℕ) → Appends wrote writes (take n t.reply) → (¬ (reads < reads_then))
-    → fails < fails_then
-    → Serves form number (Err SessionFault.WriteFailed) (session_state to_read contents reads fails a)
-    (session_state later writes reads_then fails_then after)
-cut_short {form} number to_read later read line contents wrote writes a b after
-    reads reads_then fails fails_then exchanges consumed does before all few short short_line t line_is exchange n written no_read
-    failed =
-    let cut : IsCutShort (text_of exchanges ++ take n t.reply) (exchanges ++ t ∷ []) =
-    record { answered = exchanges; last = t; count = n; exchanges_are = refl; written_is = refl } in
-    record {
-      read = read;
-      written = text_of exchanges ++ take n t.reply;
-      exchanges = exchanges ++ t ∷ [];
-      reads = consumed;
-      writes = Appends-trans contents wrote writes (text_of exchanges) (take n t.reply) before written;
-      does = AreExchanges-more number a b after exchanges t does exchange;
-      few = omega (arith, few, length_push exchanges t);
-      short = AreShort-more exchanges t short (short_exchange t line line_is short_line);
-      ends = (failed, no_read, AnswerLines-more exchanges t read line (IsAtEnd later) line_is all, cut);
-    }
-
-pub cut_short_at_line : {form : ReplyForm} (number : ℕ) (to_read known later : Option (List ℕ)) (unread bytes : List ℕ)
-    (contents wrote writes : Option (List ℕ)) (a b after : SeatState)
-    (count : ℕ) (new : LineReader) (reads reads_then fails fails_then : ℕ)
-    → count < 1_000_000 → SoFar form number to_read known unread contents wrote a b count → Consumes known later bytes
-    → (gives : GivesEnded (unread ++ bytes) new)
-    → (t : Exchange) → t.line ≡ gives.line → ExchangeLeadsTo form number b t after → (n : ℕ) → Appends wrote writes (take n t.reply) → (¬ (reads < reads_then))
-    → fails < fails_then
-    → Serves form number (Err SessionFault.WriteFailed) (session_state to_read contents reads fails a)
-    (session_state later writes reads_then fails_then after)
-cut_short_at_line {form} number to_read known later unread bytes contents wrote writes a b after count new reads reads_then fails fails_then few
-    so_far came gives t line_is exchange n written no_read failed =
-    let given = HasGiven-ended to_read known later unread bytes (lines_in so_far.exchanges) new so_far.given came gives in
-    let whole = IsCut-wholes given.read (unread_of new) (lines_in so_far.exchanges ++ gives.line ∷ []) given.cut in
-    cut_short number to_read later given.read gives.line contents wrote writes a b after reads reads_then fails fails_then so_far.exchanges
-    given.consumed so_far.does so_far.writes
-    (inl (whole_lines (unread_of new), whole))
-    (omega (arith, few, so_far.many)) so_far.short gives.short t line_is exchange n written no_read failed
-
-pub cut_short_at_rest : {form : ReplyForm} (number : ℕ) (to_read known later : Option (List ℕ)) (unread bytes : List ℕ)
-    (contents wrote writes : Option (List ℕ)) (a b after : SeatState)
-    (count : ℕ) (new : LineReader) (reads reads_then fails fails_then : ℕ)
-    → count < 1_000_000 → SoFar form number to_read known unread contents wrote a b count → Consumes known later bytes
-    → GivesRest (unread ++ bytes) new (IsAtEnd later)
-    → (t : Exchange) → t.line ≡ unread ++ bytes → ExchangeLeadsTo form number b t after → (n : ℕ) → Appends wrote writes (take n t.reply)
-    → (¬ (reads < reads_then)) → fails < fails_then
-    → Serves form number (Err SessionFault.WriteFailed) (session_state to_read contents reads fails a)
-    (session_state later writes reads_then fails_then after)
-cut_short_at_rest {form} number to_read known later unread bytes contents wrote writes a b after count new reads reads_then fails fails_then few
-    so_far came gives t line_is exchange n written no_read failed =
-    let more = HasGiven-read to_read known later unread bytes (lines_in so_far.exchanges) so_far.given came in
-    let lines : lines_of more.read ≡ lines_in so_far.exchanges ++ (unread ++ bytes) ∷ [] =
-    HasGiven-rest to_read later (unread ++ bytes) (lines_in so_far.exchanges) more gives.one gives.some in
-    cut_short number to_read later more.read (unread ++ bytes) contents wrote writes a b after
-    reads reads_then fails fails_then so_far.exchanges more.consumed so_far.does so_far.writes (inr (gives.end, lines))
-    (omega (arith, few, so_far.many)) so_far.short gives.short t line_is exchange n written no_read failed
-
--- a line can't be read: the lines before it are answered
-pub read_fails : {form : ReplyForm} (number : ℕ) (to_read known later : Option (List ℕ)) (unread bytes : List ℕ) (contents wrote : Option (List ℕ))
-    (a b : SeatState) (count : ℕ) (reads reads_then fails fails_then : ℕ)
-    → count ≤ 1_000_000 → SoFar form number to_read known unread contents wrote a b count → Consumes known later bytes
-    → IsOneLine (unread ++ bytes) → (reads < reads_then) ⊎ (length (unread ++ bytes) ≡ 16_777_217) → (¬ (fails < fails_then))
-    → Serves form number (Err SessionFault.ReadFailed) (session_state to_read contents reads fails a)
-    (session_state later wrote reads_then fails_then b)
-read_fails {form} number to_read known later unread bytes contents wrote a b count reads reads_then fails fails_then few so_far came one failed no_write =
-    let more = HasGiven-read to_read known later unread bytes (lines_in so_far.exchanges) so_far.given came in
-    let rest : rest_of more.read ≡ unread ++ bytes = IsCut-rest more.read (unread ++ bytes) (lines_in so_far.exchanges) one more.cut in
-    let why : (reads < reads_then) ⊎ (length (rest_of more.read) ≡ 16_777_217) =
-    subst (λ (xs : List ℕ). (reads < reads_then) ⊎ (length xs ≡ 16_777_217)) (sym rest) failed in
-    serves_so_far number (Err SessionFault.ReadFailed) to_read known later unread bytes contents wrote a b count
-    reads reads_then fails fails_then few so_far more
-    (why, no_write, sym (IsCut-whole more.read (unread ++ bytes) (lines_in so_far.exchanges) one more.cut), refl)
-
--- a million lines are answered, and a byte is there
-pub too_many : {form : ReplyForm} (number : ℕ) (to_read known later : Option (List ℕ)) (unread bytes : List ℕ) (contents wrote : Option (List ℕ))
-    (a b : SeatState) (count : ℕ) (reads reads_then fails fails_then : ℕ)
-    → count ≡ 1_000_000 → SoFar form number to_read known unread contents wrote a b count → Consumes known later bytes
-    → 0 < length (unread ++ bytes) → (¬ (reads < reads_then)) → (¬ (fails < fails_then))
-    → Serves form number (Err SessionFault.TooManyRequests) (session_state to_read contents reads fails a)
-    (session_state later wrote reads_then fails_then b)
-too_many {form} number to_read known later unread bytes contents wrote a b count reads reads_then fails fails_then million so_far came some no_read no_write =
-    let more = HasGiven-read to_read known later unread bytes (lines_in so_far.exchanges) so_far.given came in
-    let all : lines_of more.read ≡ lines_in so_far.exchanges ++ lines_of (unread ++ bytes) =
-    IsCut-lines more.read (unread ++ bytes) (lines_in so_far.exchanges) more.cut in
-    let further : 0 < length (lines_of (unread ++ bytes)) = lines_of-some (unread ++ bytes) some in
-    let full : length (lines_in so_far.exchanges) ≡ 1_000_000 = lines_many so_far.exchanges ∙ so_far.many ∙ million in
-    let long : 1_000_000 < length (lines_of more.read) =
-    omega (
-      arith,
-      ap (λ (ls : List (List ℕ)). length ls) all,
-      length-append (lines_in so_far.exchanges) (lines_of (unread ++ bytes)),
-      further,
-      full,
-    ) in
-    let first = first_of (lines_in so_far.exchanges) (lines_of (unread ++ bytes)) (lines_of more.read) all in
-    serves_so_far number (Err SessionFault.TooManyRequests) to_read known later unread bytes contents wrote a b count
-    reads reads_then fails fails_then (omega (arith, million)) so_far more
-    (no_read, no_write, so_far.many ∙ million, long, first ∙ ap (λ (n : ℕ). take n (lines_of more.read)) full, refl)
-
 -- why a read fails; what else is known of a call that failed
 pub why_failed : (first before now long : ℕ) (Left : Type 0) → first < 2 ^ 64 - 1 → before ≡ first
     → ((now ≡ one_more before) × Left) ⊎ ((now ≡ before) × (long ≡ 16_777_217)) → (first < now) ⊎ (long ≡ 16_777_217)
 why_failed first before now long Left below same (inl more) = inl (rose first before now below same more.0)
 why_failed first before now long Left below same (inr too_long) = inr too_long.1
-
--- no call failed; or one, and it was the last
-pub none_failed : (first now : ℕ) (Left : Type 0) → now ≡ first → first < now → (now ≡ one_more first) × Left
-none_failed first now Left same up = absurd (omega (arith, same, up))
-
-pub one_failed : (first before now : ℕ) (Left : Type 0) → before ≡ first → (now ≡ one_more before) × Left → first < now → (now ≡ one_more first) × Left
-one_failed first before now Left same failed up = (failed.0 ∙ ap one_more same, failed.1)
-
-pub read_stops : (first before now long : ℕ) (Left : Type 0) → before ≡ first
-    → ((now ≡ one_more before) × Left) ⊎ ((now ≡ before) × (long ≡ 16_777_217)) → first < now → (now ≡ one_more first) × Left
-read_stops first before now long Left same (inl failed) = one_failed first before now Left same failed
-read_stops first before now long Left same (inr too_long) = none_failed first now Left (too_long.0 ∙ same)
 
 -- the seat's number stays
 pub ExchangeLeadsTo-number : {form : ReplyForm} (n number : ℕ) (b after : SeatState) (t : Exchange) → n ≡ number

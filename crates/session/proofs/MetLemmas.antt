@@ -3,7 +3,7 @@ use Rattle.std.proofs.Common.{◌≡◌, ◌⊎◌, ℕ, List, [], ◌∷◌, �
 use Rattle.image_layout.specs.Image.{ImageValue}
 use Rattle.epochs.specs.declared.seats.SeatAnswer.{SeatAnswer}
 use Rattle.epochs.specs.declared.faults.PinFault.{PinFault}
-use Rattle.session.specs.SeatSteps.{HoldsInSome}
+use Rattle.session.specs.SeatSteps.{HoldsInSomeHistory}
 use Rattle.epochs.specs.Seats.{SeatValue, PinStep, ReleaseStep}
 use Rattle.session_texts.specs.Replies.{pin_text, release_text}
 use Rattle.session_texts.specs.Requests.{AskValue, pin, release, profile}
@@ -16,7 +16,7 @@ use Rattle.session.proofs.SeatLemmas.{is_pinned, is_released, pins_once, some_is
 
 -- a pin is reported
 pub pin_met : {form : ReplyForm} (number : ℕ) (a m : SeatValue) (v : ℕ) (image : ImageValue) (reply : List ℕ) → PinStep a (Ok tt) m
-    → HoldsInSome number m.held → m.held ≡ Some (v, image)
+    → HoldsInSomeHistory number m.held → m.held ≡ Some (v, image)
     → reply ≡ pin_text image.names.base v ++ 10 ∷ [] → IsMet form number a (replied_to (asks pin) reply) m
 pin_met {form} number a m v image reply step known held fact =
     let pinned = is_pinned number a m v image step known held in
@@ -36,7 +36,7 @@ pin_refused {form} number a b fault reply step fact =
 
 -- where memory is wanting, what was pinned is given back
 given_back : {form : ReplyForm} (number : ℕ) (asked : LineMeaning) → MayPin asked → (a m b : SeatValue) (v : ℕ) (image : ImageValue)
-    (r : Result (Unit {0}) PinFault) (reply : List ℕ) → PinStep a (Ok tt) m → HoldsInSome number m.held → m.held ≡ Some (v, image)
+    (r : Result (Unit {0}) PinFault) (reply : List ℕ) → PinStep a (Ok tt) m → HoldsInSomeHistory number m.held → m.held ≡ Some (v, image)
     → ReleaseStep m r b → reply ≡ memory_line → IsMet form number a (replied_to asked reply) b
 given_back {form} number asked may a m b v image r reply step known held back fact =
     let pinned = is_pinned number a m v image step known held in
@@ -50,7 +50,7 @@ given_back {form} number asked may a m b v image r reply step known held back fa
 
 -- a pin that can't be reported
 pub pin_given_back : {form : ReplyForm} (number : ℕ) (a m b : SeatValue) (v : ℕ) (image : ImageValue) (r : Result (Unit {0}) PinFault) (reply : List ℕ)
-    → PinStep a (Ok tt) m → HoldsInSome number m.held → m.held ≡ Some (v, image)
+    → PinStep a (Ok tt) m → HoldsInSomeHistory number m.held → m.held ≡ Some (v, image)
     → ReleaseStep m r b → reply ≡ memory_line → IsMet form number a (replied_to (asks pin) reply) b
 pin_given_back {form} number a m b v image r reply step known held back fact = given_back number (asks pin) tt a m b v image r reply step known held back fact
 
@@ -80,7 +80,7 @@ profile_refused {form} number a b fault ask reply empty step fact =
 
 -- and from a version that is pinned for it
 pub profile_met_once : {form : ReplyForm} (number : ℕ) (a m b : SeatValue) (v : ℕ) (image : ImageValue) (r : Result (Unit {0}) PinFault) (ask : AskValue)
-    (reply : List ℕ) → PinStep a (Ok tt) m → HoldsInSome number m.held
+    (reply : List ℕ) → PinStep a (Ok tt) m → HoldsInSomeHistory number m.held
     → m.held ≡ Some (v, image) → ReleaseStep m r b → (IsProfileReply form image v ask reply ⊎ (reply ≡ memory_line))
     → IsMet form number a (replied_to (asks (profile ask)) reply) b
 profile_met_once {form} number a m b v image r ask reply step known held back (inl fact) =

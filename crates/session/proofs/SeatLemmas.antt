@@ -5,7 +5,7 @@ use Rattle.std.specs.declared.snapshot.Snapshot.{Snapshot}
 use Rattle.image_layout.specs.Image.{ImageValue}
 use Rattle.epochs.specs.declared.seats.SeatAnswer.{SeatAnswer}
 use Rattle.epochs.specs.declared.faults.PinFault.{PinFault}
-use Rattle.session.specs.SeatSteps.{HoldsInSome}
+use Rattle.session.specs.SeatSteps.{HoldsInSomeHistory}
 use Rattle.epochs.specs.Seats.{SeatValue, PinStep, ReleaseStep, JoinStep, pinned}
 use Rattle.epochs.proofs.JoinLemmas.{version_in}
 use Rattle.session.specs.SeatSteps.{AnswerStep, Follows, IsGivenBack, NeverFalls, PinsOnce, SeatMove, answered, joined, answers_in}
@@ -25,12 +25,12 @@ pub record IsPinned (number : ℕ) (a m : SeatValue) (version : ℕ) (image : Im
   pub step : AnswerStep number a (SeatAnswer.Pinned version shown) m
 
 pinned_as : (number : ℕ) (a m : SeatValue) (version v : ℕ) (shown : Snapshot ImageValue) (image : ImageValue)
-    → a.held ≡ None → a.seen ≤ version → m ≡ pinned a version shown → HoldsInSome number m.held → version ≡ v
+    → a.held ≡ None → a.seen ≤ version → m ≡ pinned a version shown → HoldsInSomeHistory number m.held → version ≡ v
     → shown.value ≡ image
     → IsPinned number a m v image
 pinned_as number a m version v shown image empty newer is known same same_image =
-    let holds : HoldsInSome number (Some (version, shown.value)) =
-    subst (λ (h : Option (ℕ × ImageValue)). HoldsInSome number h) (ap (λ (s : SeatValue). s.held) is) known in
+    let holds : HoldsInSomeHistory number (Some (version, shown.value)) =
+    subst (λ (h : Option (ℕ × ImageValue)). HoldsInSomeHistory number h) (ap (λ (s : SeatValue). s.held) is) known in
     record {
       shown = shown;
       image_is = same_image;
@@ -39,7 +39,7 @@ pinned_as number a m version v shown image empty newer is known same same_image 
     }
 
 pub is_pinned : (number : ℕ) (a m : SeatValue) (v : ℕ) (image : ImageValue) → PinStep a (Ok tt) m
-    → HoldsInSome number m.held → m.held ≡ Some (v, image) → IsPinned number a m v image
+    → HoldsInSomeHistory number m.held → m.held ≡ Some (v, image) → IsPinned number a m v image
 is_pinned number a m v image pin known held =
     let both : Some (pin.1.0, pin.1.1.value) ≡ Some (v, image) = sym (ap (λ (s : SeatValue). s.held) pin.1.3) ∙ held in
     pinned_as number a m pin.1.0 v pin.1.1 image pin.0 pin.1.2 pin.1.3 known (ap version_in both) (ap (image_in image) both)
@@ -79,20 +79,39 @@ pins_once number a m b v image pin release =
     record { shown = pin.shown; last = release.last; image_is = pin.image_is; given_back = release.given_back; moves_are = refl } in
     (once, (m, pin.step, (b, release.step, refl)))
 
--- each answer is the last of the list after its step, and what was seen never falls
-pub step_grows : (number : ℕ) (a b : SeatValue) (answer : SeatAnswer) → AnswerStep number a answer b → b.answers ≡ a.answers ++ answer ∷ []
-step_grows number a b (SeatAnswer.Pinned version image) step = ap (λ (s : SeatValue). s.answers) step.2
-step_grows number a b (SeatAnswer.PinRefused (PinFault.Moved newest)) step = ap (λ (s : SeatValue). s.answers) step.2
-step_grows number a b (SeatAnswer.PinRefused PinFault.AlreadyPinned) step = ap (λ (s : SeatValue). s.answers) step.1
-step_grows number a b (SeatAnswer.PinRefused PinFault.SeatLost) step = ap (λ (s : SeatValue). s.answers) step.1
-step_grows number a b (SeatAnswer.PinRefused PinFault.OutOfMemory) step = ap (λ (s : SeatValue). s.answers) step.1
-step_grows number a b (SeatAnswer.PinRefused PinFault.NotPinned) step = absurd step
-step_grows number a b SeatAnswer.Released step = ap (λ (s : SeatValue). s.answers) step.1
-step_grows number a b (SeatAnswer.ReleaseRefused PinFault.NotPinned) step = ap (λ (s : SeatValue). s.answers) step.1
-step_grows number a b (SeatAnswer.ReleaseRefused PinFault.SeatLost) step = ap (λ (s : SeatValue). s.answers) step.1
-step_grows number a b (SeatAnswer.ReleaseRefused PinFault.AlreadyPinned) step = absurd step
-step_grows number a b (SeatAnswer.ReleaseRefused PinFault.OutOfMemory) step = absurd step
-step_grows number a b (SeatAnswer.ReleaseRefused (PinFault.Moved n)) step = absurd step
+-- what is held after this answer, if this was held before
+abbrev pub held_after : SeatAnswer → Option (ℕ × ImageValue) → Option (ℕ × ImageValue)
+held_after (SeatAnswer.Pinned version image) held = Some (version, image.value)
+held_after (SeatAnswer.PinRefused fault) held = held
+held_after SeatAnswer.Released held = None
+held_after (SeatAnswer.ReleaseRefused PinFault.SeatLost) held = None
+held_after (SeatAnswer.ReleaseRefused _) held = held
+
+-- what each answer makes of the seat: it is the last of the list, what was seen never falls, and this is held
+pub record Steps (a : SeatValue) (answer : SeatAnswer) (b : SeatValue) : Type 0 where
+  pub answers : b.answers ≡ a.answers ++ answer ∷ []
+  pub rises : a.seen ≤ b.seen
+  pub held : b.held ≡ held_after answer a.held
+
+steps_to : (a c b : SeatValue) (answer : SeatAnswer) → b ≡ c → c.answers ≡ a.answers ++ answer ∷ [] → a.seen ≤ c.seen → c.held ≡ held_after answer a.held
+    → Steps a answer b
+steps_to a c b answer is answers rises held =
+    subst (λ (s : SeatValue). Steps a answer s) (sym is) (record { answers = answers; rises = rises; held = held })
+
+pub steps : (number : ℕ) (a b : SeatValue) (answer : SeatAnswer) → AnswerStep number a answer b → Steps a answer b
+steps number a b (SeatAnswer.Pinned version image) step = steps_to a _ b (SeatAnswer.Pinned version image) step.2 refl step.1 refl
+steps number a b (SeatAnswer.PinRefused (PinFault.Moved newest)) step =
+    steps_to a _ b (SeatAnswer.PinRefused (PinFault.Moved newest)) step.2 refl (omega (arith, step.1)) refl
+steps number a b (SeatAnswer.PinRefused PinFault.AlreadyPinned) step = steps_to a _ b _ step.1 refl (omega arith) refl
+steps number a b (SeatAnswer.PinRefused PinFault.SeatLost) step = steps_to a _ b _ step.1 refl (omega arith) refl
+steps number a b (SeatAnswer.PinRefused PinFault.OutOfMemory) step = steps_to a _ b _ step.1 refl (omega arith) refl
+steps number a b (SeatAnswer.PinRefused PinFault.NotPinned) step = absurd step
+steps number a b SeatAnswer.Released step = steps_to a _ b SeatAnswer.Released step.1 refl (omega arith) refl
+steps number a b (SeatAnswer.ReleaseRefused PinFault.NotPinned) step = steps_to a _ b _ step.1 refl (omega arith) refl
+steps number a b (SeatAnswer.ReleaseRefused PinFault.SeatLost) step = steps_to a _ b _ step.1 refl (omega arith) refl
+steps number a b (SeatAnswer.ReleaseRefused PinFault.AlreadyPinned) step = absurd step
+steps number a b (SeatAnswer.ReleaseRefused PinFault.OutOfMemory) step = absurd step
+steps number a b (SeatAnswer.ReleaseRefused (PinFault.Moved n)) step = absurd step
 
 joined_grows : (a m b : SeatValue) (version : ℕ) (answers : List SeatAnswer) → JoinStep a version m → b.answers ≡ m.answers ++ answers
     → b.answers ≡ a.answers ++ answers
@@ -101,47 +120,23 @@ joined_grows a m b version answers step grown = grown ∙ ap (λ (s : SeatValue)
 pub answers_grow : (number : ℕ) (a b : SeatValue) (moves : List SeatMove) → Follows number a moves b → b.answers ≡ a.answers ++ answers_in moves
 answers_grow number a b [] same = ap (λ (s : SeatValue). s.answers) same ∙ sym (append-nil a.answers)
 answers_grow number a b (answered answer ∷ moves) (m, step, rest) =
-    answers_grow number m b moves rest ∙ ap (λ (xs : List SeatAnswer). xs ++ answers_in moves) (step_grows number a m answer step)
+    answers_grow number m b moves rest ∙ ap (λ (xs : List SeatAnswer). xs ++ answers_in moves) (steps number a m answer step).answers
     ∙ append_assoc a.answers (answer ∷ []) (answers_in moves)
 answers_grow number a b (joined version ∷ moves) (m, step, rest) = joined_grows a m b version (answers_in moves) step (answers_grow number m b moves rest)
-
--- a step that pins nothing sees no less
-rises : (least : ℕ) (a b : SeatValue) (n : ℕ) → least ≤ a.seen → a.seen ≤ n → b.seen ≡ n → least ≤ b.seen
-rises least a b n low up is = omega (arith, low, up, is)
-
-stays : (least : ℕ) (a b : SeatValue) → least ≤ a.seen → b.seen ≡ a.seen → least ≤ b.seen
-stays least a b low is = omega (arith, low, is)
-
-abbrev seen_in : SeatValue → ℕ
-seen_in s = s.seen
-
-refused_pin_rises : (least : ℕ) (a m : SeatValue) (fault : PinFault) → least ≤ a.seen → PinStep a (Err fault) m → least ≤ m.seen
-refused_pin_rises least a m (PinFault.Moved newest) low step = rises least a m newest low (omega (arith, step.1)) (ap seen_in step.2)
-refused_pin_rises least a m PinFault.AlreadyPinned low step = stays least a m low (ap seen_in step.1)
-refused_pin_rises least a m PinFault.SeatLost low step = stays least a m low (ap seen_in step.1)
-refused_pin_rises least a m PinFault.OutOfMemory low step = stays least a m low (ap seen_in step.1)
-refused_pin_rises least a m PinFault.NotPinned low step = absurd step
-
-refused_release_stays : (least : ℕ) (a m : SeatValue) (fault : PinFault) → least ≤ a.seen → ReleaseStep a (Err fault) m → least ≤ m.seen
-refused_release_stays least a m PinFault.NotPinned low step = stays least a m low (ap seen_in step.1)
-refused_release_stays least a m PinFault.SeatLost low step = stays least a m low (ap seen_in step.1)
-refused_release_stays least a m PinFault.AlreadyPinned low step = absurd step
-refused_release_stays least a m PinFault.OutOfMemory low step = absurd step
-refused_release_stays least a m (PinFault.Moved n) low step = absurd step
 
 pub never_falls : (number least : ℕ) (a b : SeatValue) (moves : List SeatMove) → least ≤ a.seen → Follows number a moves b → NeverFalls least moves
 never_falls number least a b [] low same = tt
 never_falls number least a b (answered (SeatAnswer.Pinned version image) ∷ moves) low (m, step, rest) =
-    let seen : m.seen ≡ version = ap seen_in step.2 in
+    let seen : m.seen ≡ version = ap (λ (s : SeatValue). s.seen) step.2 in
     (omega (arith, low, step.1), never_falls number version m b moves (omega (arith, seen)) rest)
 never_falls number least a b (answered (SeatAnswer.PinRefused fault) ∷ moves) low (m, step, rest) =
-    never_falls number least m b moves (refused_pin_rises least a m fault low step) rest
+    never_falls number least m b moves (omega (arith, low, (steps number a m (SeatAnswer.PinRefused fault) step).rises)) rest
 never_falls number least a b (answered SeatAnswer.Released ∷ moves) low (m, step, rest) =
-    never_falls number least m b moves (stays least a m low (ap seen_in step.1)) rest
+    never_falls number least m b moves (omega (arith, low, (steps number a m SeatAnswer.Released step).rises)) rest
 never_falls number least a b (answered (SeatAnswer.ReleaseRefused fault) ∷ moves) low (m, step, rest) =
-    never_falls number least m b moves (refused_release_stays least a m fault low step) rest
+    never_falls number least m b moves (omega (arith, low, (steps number a m (SeatAnswer.ReleaseRefused fault) step).rises)) rest
 never_falls number least a b (joined version ∷ moves) low (m, step, rest) =
-    let seen : m.seen ≡ max a.seen version = ap seen_in step in
+    let seen : m.seen ≡ max a.seen version = ap (λ (s : SeatValue). s.seen) step in
     never_falls number (max least version) m b moves (omega (arith, low, seen)) rest
 
 pub Follows-append : (number : ℕ) (a m b : SeatValue) (xs ys : List SeatMove) → Follows number a xs m → Follows number m ys b → Follows number a (xs ++ ys) b

@@ -20,6 +20,7 @@ pub record Exchange : Type 0 where
   pub moves : List SeatMove  -- at the seat in this exchange
   pub orders : List OrderValue  -- that were asked for in this exchange
   pub reply : List ℕ  -- with its LF
+  pub shown : SeatValue  -- what the seat showed when the reply was written
 
 -- what is done for a line: the moves at the seat, the orders that are asked for, and the reply
 pub record Deed : Type 0 where
@@ -150,8 +151,9 @@ pub record SeatState : Type 0 where
 abbrev pub seat_state : SeatValue → List OrderValue → SeatState
 seat_state seat asked = record { seat = seat; asked = asked }
 
--- the exchange's moves lead the seat from `a` to `b`, and the list of orders grows by the exchange's orders
+-- the exchange's moves lead the seat from `a` to `b`, as which it is shown at the reply, and the list of orders grows by the exchange's orders
 pub record ExchangeLeadsTo (form : ReplyForm) (number : ℕ) (a : SeatState) (t : Exchange) (b : SeatState) : Type 0 where
   pub is : IsExchange form a.seat.held t
   pub seat : Follows number a.seat t.moves b.seat
+  pub shown : t.shown ≡ b.seat
   pub orders : b.asked ≡ a.asked ++ t.orders

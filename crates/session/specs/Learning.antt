@@ -1,5 +1,5 @@
 -- What a seat comes to know of the history of its shelves, and what replies say of it.
-use Rattle.std.specs.Prelude.{◌≡◌, ◌⊎◌, ℕ, List, [], ◌∷◌, ◌++◌, Option, IfSome}
+use Rattle.std.specs.Prelude.{◌≡◌, ◌⊎◌, ℕ, List, [], ◌∷◌, ◌++◌, All, Option, IfSome}
 use Rattle.image_layout.specs.Image.{ImageValue}
 use Rattle.shelf_steps.specs.declared.views.KnownHistory.{KnownHistory}
 use Rattle.epochs.specs.declared.faults.PinFault.{PinFault}
@@ -15,25 +15,26 @@ use Rattle.session.specs.Profiles.{IsProfileReply}
 use Rattle.session.specs.Sessions.{AreExchanges, LastRelease}
 use Rattle.session.specs.Exchanges.{SeatState, Exchange, seat_state}
 
--- each version among these answers was published with that image in this history
-abbrev pub ArePublished : KnownHistory → List SeatAnswer → Type 0
-ArePublished known [] = Unit {0}
-ArePublished known (SeatAnswer.Pinned version image ∷ answers) = IsPublished known version image.value × ArePublished known answers
-ArePublished known (SeatAnswer.PinRefused fault ∷ answers) = ArePublished known answers
-ArePublished known (SeatAnswer.Released ∷ answers) = ArePublished known answers
-ArePublished known (SeatAnswer.ReleaseRefused fault ∷ answers) = ArePublished known answers
+-- if a version was pinned by this answer, it was published with that image in this history
+abbrev pub TellsPublished : KnownHistory → SeatAnswer → Type 0
+TellsPublished known (SeatAnswer.Pinned version image) = IsPublished known version image.value
+TellsPublished known _ = Unit {0}
 
 -- what is held, if anything, was published as that version with that image in this history
 abbrev pub IsPublishedIfHeld : KnownHistory → Option (ℕ × ImageValue) → Type 0
 IsPublishedIfHeld known held = IfSome held (λ h. IsPublished known h.0 h.1)
 
--- the history that the seat knows has grown, and each version that it pinned meanwhile was published, with the image that it was pinned with, in
--- the history that the seat knows now
-pub record Learns (known : KnownHistory) (a : SeatValue) (known_then : KnownHistory) (b : SeatValue) : Type 0 where
+-- what a seat knows of the history has grown while it was answered, and what each answer tells is so in what it knows then
+pub record LearnsBy {A : Type 0} (tells : KnownHistory → A → Type 0) (known : KnownHistory) (before : List A) (known_then : KnownHistory) (after : List A)
+    : Type 0 where
   pub grows : Grows known known_then
-  pub answers : List SeatAnswer
-  pub answers_are : b.answers ≡ a.answers ++ answers
-  pub published : ArePublished known_then answers
+  pub answers : List A
+  pub answers_are : after ≡ before ++ answers
+  pub published : All (tells known_then) answers
+
+-- each version that the seat pinned meanwhile was published, with the image that it was pinned with, in the history that the seat knows then
+abbrev pub Learns : KnownHistory → SeatValue → KnownHistory → SeatValue → Type 0
+Learns known a known_then b = LearnsBy TellsPublished known a.answers known_then b.answers
 
 -- what every call leaves of a worker's seat: it may still be used at these shelves, it has the same worker's number, and it learned so
 pub record GoesOn {T S N : Type 0} (words : SeatWords T S N) (shelves : T) (a b : S) : Type 0 where
@@ -55,12 +56,18 @@ AreFromPublished known form (t ∷ exchanges) =
     ((t.reply ≡ memory_line) ⊎ ((asked : LineMeaning) × IsLineMeaning form.sets t.line asked × IsFromPublished known form asked t.reply))
     × AreFromPublished known form exchanges
 
--- for all exchanges that, with the last release after them, lead the seat from `a` to `b`: each profile in them is answered from what this history
--- published, if what the seat held before them was published in it
+-- these exchanges, and the last release after them, lead the seat from `a` to `b`
+pub record LeadSeat (form : ReplyForm) (number : ℕ) (a : SeatValue) (exchanges : List Exchange) (b : SeatValue) : Type 0 where
+  pub asked : List OrderValue  -- before them
+  pub last : SeatState  -- as the last of them leaves it
+  pub does : AreExchanges form number (seat_state a asked) exchanges last
+  pub released : LastRelease number last.seat b
+
+-- whichever exchanges led the seat from `a` to `b`: if what it held at `a` was published in this history, each profile in them is answered from what
+-- was published in it
 abbrev pub TellPublished : KnownHistory → SeatValue → SeatValue → Type 0
 TellPublished known a b =
-    (form : ReplyForm) (number : ℕ) (asked : List OrderValue) (exchanges : List Exchange) (last : SeatState)
-    → AreExchanges form number (seat_state a asked) exchanges last → LastRelease number last.seat b → IsPublishedIfHeld known a.held
+    IsPublishedIfHeld known a.held → (form : ReplyForm) (number : ℕ) (exchanges : List Exchange) → LeadSeat form number a exchanges b
     → AreFromPublished known form exchanges
 
 -- a seat that learns from `a` to `b` what `Learns` says answers profiles from what was published in the history that it knows at `b`

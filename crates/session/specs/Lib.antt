@@ -7,3 +7,4 @@ pub mod Sessions
 pub mod Learning
 pub mod Forms
 pub mod OneStop
+pub mod Streams

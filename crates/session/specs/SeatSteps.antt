@@ -14,14 +14,14 @@ pub data SeatMove : Type 0 where
   joined : ℕ → SeatMove
 
 -- in some history of versions the worker with this number holds this
-abbrev pub HoldsInSome : ℕ → Option (ℕ × ImageValue) → Type 0
-HoldsInSome number held = (known : KnownHistory) × HoldsAsKnown known number held
+abbrev pub HoldsInSomeHistory : ℕ → Option (ℕ × ImageValue) → Type 0
+HoldsInSomeHistory number held = (known : KnownHistory) × HoldsAsKnown known number held
 
 -- from one value of a worker's seat to the next, by one answer. In some history the worker holds what is pinned; that the history which the seat
 -- knows published it, `Learns` says
 abbrev pub AnswerStep : ℕ → SeatValue → SeatAnswer → SeatValue → Type 0
 AnswerStep number a (SeatAnswer.Pinned version image) b =
-    (a.held ≡ None) × (a.seen ≤ version) × (b ≡ pinned a version image) × HoldsInSome number (Some (version, image.value))
+    (a.held ≡ None) × (a.seen ≤ version) × (b ≡ pinned a version image) × HoldsInSomeHistory number (Some (version, image.value))
 AnswerStep number a (SeatAnswer.PinRefused fault) b = PinStep a (Err fault) b
 AnswerStep number a SeatAnswer.Released b = ReleaseStep a (Ok tt) b
 AnswerStep number a (SeatAnswer.ReleaseRefused fault) b = ReleaseStep a (Err fault) b
@@ -40,6 +40,14 @@ abbrev pub answers_in : List SeatMove → List SeatAnswer
 answers_in [] = []
 answers_in (answered answer ∷ moves) = answer ∷ answers_in moves
 answers_in (joined version ∷ moves) = answers_in moves
+
+-- a reply, and what the seat showed when it was written
+pub record SeatReply : Type 0 where
+  pub shown : SeatValue
+  pub reply : List ℕ
+
+abbrev pub seat_reply : SeatValue → List ℕ → SeatReply
+seat_reply shown reply = record { shown = shown; reply = reply }
 
 -- by this answer what was held is given back: also by a release that is refused because the seat is lost, which empties the seat too
 abbrev pub IsGivenBack : SeatAnswer → Type 0

@@ -1,5 +1,5 @@
 -- A session: exchanges one after the other, one for each line that was read.
-use Rattle.std.specs.Prelude.{◌≡◌, ◌≢◌, ◌<◌, ◌≤◌, ◌⊎◌, ◌++◌, ◌∷◌, ℕ, List, [], None, length, take, Option, Result, Ok, Err}
+use Rattle.std.specs.Prelude.{◌≡◌, ◌≢◌, ◌<◌, ◌≤◌, ◌⊎◌, ◌++◌, ◌∷◌, ℕ, List, [], None, length, map, take, Option, Result, Ok, Err}
 use Rattle.std.specs.Io.KnownBytes.{Appends, Consumes, IsAtEnd}
 use Rattle.epochs.specs.declared.seats.SeatAnswer.{SeatAnswer}
 use Rattle.epochs.specs.Seats.{SeatValue}
@@ -10,7 +10,7 @@ use Rattle.lines.specs.Cutting.{lines_of, rest_of, whole_lines}
 use Rattle.session.specs.declared.reply_form.ReplyForm.{ReplyForm}
 use Rattle.session.specs.declared.fault.Ended.{Ended}
 use Rattle.session.specs.declared.fault.SessionFault.{SessionFault}
-use Rattle.session.specs.SeatSteps.{AnswerStep, IsGivenBack, SeatMove}
+use Rattle.session.specs.SeatSteps.{AnswerStep, IsGivenBack, SeatMove, SeatReply, seat_reply}
 use Rattle.session.specs.Exchanges.{SeatState, Exchange, ExchangeLeadsTo}
 
 -- exchanges one after the other: each begins with the seat and the orders as the one before left them
@@ -26,6 +26,10 @@ lines_in (t ∷ exchanges) = t.line ∷ lines_in exchanges
 abbrev pub text_of : List Exchange → List ℕ
 text_of [] = []
 text_of (t ∷ exchanges) = t.reply ++ text_of exchanges
+
+-- the replies, each with what the seat showed when it was written
+abbrev pub replies_in : List Exchange → List SeatReply
+replies_in exchanges = map (λ t. seat_reply t.shown t.reply) exchanges
 
 abbrev pub moves_of : List Exchange → List SeatMove
 moves_of [] = []
@@ -48,21 +52,25 @@ pub record IsCutShort (written : List ℕ) (exchanges : List Exchange) : Type 0 
   pub exchanges_are : exchanges ≡ answered ++ last ∷ []
   pub written_is : written ≡ text_of answered ++ take count last.reply
 
--- what a session changes: what is to be read and what was written, if that is known; how many reads and writes failed; the seat and the orders
+-- what a session changes: what is to be read and what was written, if that is known; how many reads and writes failed; what was replied, with what
+-- the seat showed then; the seat and the orders
 pub record SessionState : Type 0 where
   pub unread : Option (List ℕ)
   pub written : Option (List ℕ)
   pub failed_reads : ℕ
   pub failed_writes : ℕ
+  pub replied : List SeatReply
   pub at_seat : SeatState
 
 -- over this reader and this writer, by what is to be read from the one and what was written to the other
-abbrev pub state_of : {R W : Type 0} → (R → Option (List ℕ)) → (W → Option (List ℕ)) → Counted R → Counted W → SeatState → SessionState
-state_of unread written reader writer at_seat = record {
+abbrev pub state_of : {R W : Type 0} → (R → Option (List ℕ)) → (W → Option (List ℕ)) → Counted R → Counted W → List SeatReply → SeatState
+    → SessionState
+state_of unread written reader writer replied at_seat = record {
   unread = unread (inner_of reader);
   written = written (inner_of writer);
   failed_reads = failures_of reader;
   failed_writes = failures_of writer;
+  replied = replied;
   at_seat = at_seat;
 }
 
@@ -109,13 +117,14 @@ EndsSo (Err SessionFault.TooManyRequests) e =
     (¬ ReadFailed e) × (¬ WriteFailed e) × (length e.exchanges ≡ 1_000_000) × (1_000_000 < length (lines_of e.read))
     × (lines_in e.exchanges ≡ take 1_000_000 (lines_of e.read)) × (e.written ≡ text_of e.exchanges)
 
--- what a session reads, does and writes: a million lines at most
+-- what a session reads, does and writes: a million lines at most. The seat shows at each reply what the exchanges up to that one made of it
 pub record Serves (form : ReplyForm) (number : ℕ) (result : Result Ended SessionFault) (a b : SessionState) : Type 0 where
   pub read : List ℕ
   pub written : List ℕ
   pub exchanges : List Exchange
   pub reads : Consumes a.unread b.unread read
   pub writes : Appends a.written b.written written
+  pub replies : b.replied ≡ a.replied ++ replies_in exchanges
   pub does : AreExchanges form number a.at_seat exchanges b.at_seat
   pub few : length exchanges ≤ 1_000_000
   pub short : AreShort exchanges

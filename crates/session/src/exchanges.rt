@@ -15,6 +15,7 @@ use session_texts::{LineFault, Refusal, Request, RequestFault, read_line, reques
 
 impl<'a, N: Drop, T: Versions<Notice = N>, G: Gate> SessionServer<'a, T, G> {
     /// Does what a line asks, and makes the reply.
+    #[tactic(auto, using(crate::proofs::LearnLemmas::goes_on_same))]
     pub(crate) fn exchange<O: Orders<Notice = N>>(
         &self,
         line: Line<'_>,

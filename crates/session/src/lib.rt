@@ -9,6 +9,7 @@ mod pinning;
 mod profiles;
 mod reply;
 mod reply_form;
+mod reply_log;
 mod serving;
 mod session_server;
 
@@ -17,5 +18,6 @@ pub use fault::{Ended, SessionFault};
 pub use lines::Counted;
 pub use orders::{Gate, OpenGate, OrderFault, Orders};
 pub use reply_form::ReplyForm;
+pub use reply_log::ReplyLog;
 pub use serving::{MOST_REQUESTS, serve};
 pub use session_server::{SessionServer, Streams};

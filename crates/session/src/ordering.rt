@@ -32,6 +32,7 @@ impl<'a, N: Drop, T: Versions<Notice = N>, G> SessionServer<'a, T, G> {
 
     /// Orders the feed and waits for its version. The seat joins the notice of that version before the client is
     /// reported of it, so that no later pin by this seat gives an older one.
+    #[tactic(auto, using(crate::proofs::LearnLemmas::goes_on_same))]
     pub(crate) fn load_feed<O: Orders<Notice = N>>(
         &self,
         seat: &mut T::Seat,
@@ -59,6 +60,7 @@ impl<'a, N: Drop, T: Versions<Notice = N>, G> SessionServer<'a, T, G> {
     }
 
     // The seat learns of the notice's version.
+    #[tactic(auto, using(crate::proofs::LearnLemmas::learns_by_notice))]
     fn take_notice(&self, seat: &mut T::Seat, notice: N)
         requires { T.words.fits self.now.shelves.now seat.old }
         ensures seat { GoesOn T.words self.now.shelves.now seat.old seat.new }

@@ -1,6 +1,5 @@
 //! Pins and releases that a request asks for.
 
-ghost use Rattle.std.specs.Prelude.{◌≡◌};
 ghost use Rattle.session_texts.specs.Requests.{pin, release};
 ghost use Rattle.session.specs.Learning.{GoesOn};
 ghost use Rattle.session.specs.Lines.{asks, text_of_reply};
@@ -14,6 +13,7 @@ use session_texts::{Refusal, pin_line, release_line};
 impl<'a, T: Versions, G> SessionServer<'a, T, G> {
     /// Pins the current version, and names it in the reply. If there is no memory for the reply, the version is given
     /// back.
+    #[tactic(auto, using(crate::proofs::LearnLemmas::pins))]
     pub(crate) fn pin(&self, seat: &mut T::Seat) -> SessionReply
         requires { T.words.fits self.now.shelves.now seat.old }
         ensures seat { GoesOn T.words self.now.shelves.now seat.old seat.new }
@@ -37,6 +37,7 @@ impl<'a, T: Versions, G> SessionServer<'a, T, G> {
     }
 
     /// Gives back what the seat holds.
+    #[tactic(auto, using(crate::proofs::LearnLemmas::learns_by_release))]
     pub(crate) fn release(&self, seat: &mut T::Seat) -> SessionReply
         requires { T.words.fits self.now.shelves.now seat.old }
         ensures seat { GoesOn T.words self.now.shelves.now seat.old seat.new }

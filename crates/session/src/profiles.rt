@@ -40,6 +40,7 @@ impl<'a, T: Versions, G: Gate> SessionServer<'a, T, G> {
     }
 
     // Answers from the current version, which is pinned for this answer, and released after it.
+    #[tactic(auto, using(crate::proofs::LearnLemmas::learns_unpinned))]
     fn answer_once(&self, seat: &mut T::Seat, ask: &Ask<'_>) -> SessionReply
         requires fits { T.words.fits self.now.shelves.now seat.old }
         requires idle { (T.words.shown seat.old).held ≡ None }

@@ -1,16 +1,18 @@
 //! Sessions: exchange after exchange.
 
-ghost use Rattle.std.specs.Prelude.{◌≡◌, ◌<◌, ◌-◌, ◌^◌, ℕ, List, None, MatchResult, take};
+ghost use Rattle.std.specs.Prelude.{◌≡◌, ◌<◌, ◌++◌, ◌∷◌, ◌-◌, ◌^◌, ℕ, List, [], None, MatchResult, take};
 ghost use Rattle.std.specs.Io.KnownBytes.{Appends};
 ghost use Rattle.lines.specs.Counting.{HasFailed, StopsAtFailure, failures_of, inner_of};
 ghost use Rattle.lines.specs.Showing.{ShowsLine};
 ghost use Rattle.epochs.specs.Seats.{SeatValue};
 ghost use Rattle.session.specs.Forms.{bare};
 ghost use Rattle.session.specs.Learning.{GoesOn, TellPublished};
+ghost use Rattle.session.specs.SeatSteps.{SeatReply, seat_reply};
 ghost use Rattle.session.specs.Sessions.{LastRelease, Serves, state_of};
 ghost use Rattle.session.specs.Exchanges.{AgreeOnNotices, Exchange, ExchangeLeadsTo, seat_state};
 
 use crate::fault::{Ended, SessionFault};
+use crate::reply_log::ReplyLog;
 use crate::session_server::{SessionServer, Streams};
 use epochs::Versions;
 use lines::{Counted, Line, LineReader, NextLine, WriteFailed};
@@ -41,21 +43,22 @@ pub fn serve<
 ) -> Result<Ended, SessionFault>
     requires fits { T.words.fits shelves.now seat.old }
     requires notices { AgreeOnNotices O.notice_version T.words.version }
-    requires reads { failures_of reader.old < 2 ^ 64 - 1 }
-    requires writes { failures_of writer.old < 2 ^ 64 - 1 }
+    requires counts { (failures_of reader.old < 2 ^ 64 - 1) × (failures_of writer.old < 2 ^ 64 - 1) }
     ensures seat { GoesOn T.words shelves.now seat.old seat.new }
     ensures route { O.route orders.new ≡ O.route orders.old }
     ensures profiles { TellPublished (T.words.known seat.new) (T.words.shown seat.old) (T.words.shown seat.new) }
     ensures released { (T.words.shown seat.new).held ≡ None }
-    ensures session { (last : SeatValue) × LastRelease (T.words.number seat.old) last (T.words.shown seat.new)
+    ensures session { (last : SeatValue) × (replied : List SeatReply)
+        × LastRelease (T.words.number seat.old) last (T.words.shown seat.new)
         × Serves bare (T.words.number seat.old) result
-        (state_of In.remaining Out.contents reader.old writer.old
+        (state_of In.remaining Out.contents reader.old writer.old []
         (seat_state (T.words.shown seat.old) (O.asked orders.old)))
-        (state_of In.remaining Out.contents reader.new writer.new (seat_state last (O.asked orders.new))) }
+        (state_of In.remaining Out.contents reader.new writer.new replied (seat_state last (O.asked orders.new))) }
     ensures stops { StopsAtFailure reader.old reader.new × StopsAtFailure writer.old writer.new }
 {
     let session_server = SessionServer::new(alloc, shelves, gate);
-    let outcome = session_server.answer_lines(reader, writer, seat, orders);
+    let mut replied = ReplyLog::new();
+    let outcome = session_server.answer_lines(reader, writer, &mut replied, seat, orders);
     session_server.release_last(seat);
     outcome
 }
@@ -71,22 +74,28 @@ impl<'a, N: Drop, T: Versions<Notice = N>, G: Gate> SessionServer<'a, T, G> {
     ) -> Result<Ended, SessionFault>
         requires fits { T.words.fits self.now.shelves.now seat.old }
         requires notices { AgreeOnNotices O.notice_version T.words.version }
-        requires reads { failures_of streams.old.reader < 2 ^ 64 - 1 }
-        requires writes { failures_of streams.old.writer < 2 ^ 64 - 1 }
+        requires counts { (failures_of streams.old.reader < 2 ^ 64 - 1)
+            × (failures_of streams.old.writer < 2 ^ 64 - 1) }
         ensures seat { GoesOn T.words self.now.shelves.now seat.old seat.new }
         ensures route { O.route orders.new ≡ O.route orders.old }
         ensures profiles { TellPublished (T.words.known seat.new) (T.words.shown seat.old) (T.words.shown seat.new) }
         ensures released { (T.words.shown seat.new).held ≡ None }
         ensures session { (last : SeatValue) × LastRelease (T.words.number seat.old) last (T.words.shown seat.new)
             × Serves self.now.form (T.words.number seat.old) result
-            (state_of In.remaining Out.contents streams.old.reader streams.old.writer
+            (state_of In.remaining Out.contents streams.old.reader streams.old.writer streams.old.replied
             (seat_state (T.words.shown seat.old) (O.asked orders.old)))
-            (state_of In.remaining Out.contents streams.new.reader streams.new.writer
+            (state_of In.remaining Out.contents streams.new.reader streams.new.writer streams.new.replied
             (seat_state last (O.asked orders.new))) }
         ensures stops { StopsAtFailure streams.old.reader streams.new.reader
             × StopsAtFailure streams.old.writer streams.new.writer }
     {
-        let outcome = self.answer_lines(&mut streams.reader, &mut streams.writer, seat, orders);
+        let outcome = self.answer_lines(
+            &mut streams.reader,
+            &mut streams.writer,
+            &mut streams.replied,
+            seat,
+            orders,
+        );
         self.release_last(seat);
         outcome
     }
@@ -108,6 +117,7 @@ impl<'a, N: Drop, T: Versions<Notice = N>, G: Gate> SessionServer<'a, T, G> {
         &self,
         reader: &mut Counted<In>,
         writer: &mut Counted<Out>,
+        replied: &mut ReplyLog,
         seat: &mut T::Seat,
         orders: &mut O,
     ) -> Result<Ended, SessionFault>
@@ -117,9 +127,9 @@ impl<'a, N: Drop, T: Versions<Notice = N>, G: Gate> SessionServer<'a, T, G> {
         ensures seat { GoesOn T.words self.now.shelves.now seat.old seat.new }
         ensures route { O.route orders.new ≡ O.route orders.old }
         ensures session { Serves self.now.form (T.words.number seat.old) result
-            (state_of In.remaining Out.contents reader.old writer.old
+            (state_of In.remaining Out.contents reader.old writer.old replied.old
             (seat_state (T.words.shown seat.old) (O.asked orders.old)))
-            (state_of In.remaining Out.contents reader.new writer.new
+            (state_of In.remaining Out.contents reader.new writer.new replied.new
             (seat_state (T.words.shown seat.new) (O.asked orders.new))) }
         ensures stops { StopsAtFailure reader.old reader.new × StopsAtFailure writer.old writer.new }
     {
@@ -130,14 +140,14 @@ impl<'a, N: Drop, T: Versions<Notice = N>, G: Gate> SessionServer<'a, T, G> {
                 Ok(NextLine::Nothing) => return Ok(Ended),
                 Ok(NextLine::Rest) => {
                     let line = lines.line();
-                    match self.answer_line(line, writer, seat, orders) {
+                    match self.answer_line(line, writer, replied, seat, orders) {
                         Ok(()) => return Ok(Ended),
                         Err(_) => return Err(SessionFault::WriteFailed),
                     }
                 }
                 Ok(NextLine::Ended) => {
                     let line = lines.line();
-                    match self.answer_line(line, writer, seat, orders) {
+                    match self.answer_line(line, writer, replied, seat, orders) {
                         Ok(()) => {}
                         Err(_) => return Err(SessionFault::WriteFailed),
                     }
@@ -156,6 +166,7 @@ impl<'a, N: Drop, T: Versions<Notice = N>, G: Gate> SessionServer<'a, T, G> {
         &self,
         line: Line<'_>,
         writer: &mut Counted<Out>,
+        replied: &mut ReplyLog,
         seat: &mut T::Seat,
         orders: &mut O,
     ) -> Result<(), WriteFailed>
@@ -170,13 +181,14 @@ impl<'a, N: Drop, T: Versions<Notice = N>, G: Gate> SessionServer<'a, T, G> {
             → (t : Exchange) × (t.line ≡ l) × ExchangeLeadsTo self.now.form (T.words.number seat.old)
             (seat_state (T.words.shown seat.old) (O.asked orders.old)) t
             (seat_state (T.words.shown seat.new) (O.asked orders.new))
+            × (replied.new ≡ replied.old ++ seat_reply t.shown t.reply ∷ [])
             × MatchResult result
             (λ _. Appends (Out.contents (inner_of writer.old)) (Out.contents (inner_of writer.new)) t.reply)
             (λ _. (n : ℕ) × Appends (Out.contents (inner_of writer.old)) (Out.contents (inner_of writer.new))
             (take n t.reply)) }
     {
         let reply = self.exchange(line, seat, orders);
-        let written = writer.write_line(reply.bytes());
+        let written = replied.write::<T, Out>(writer, seat, &reply);
         if reply.has_scanned() {
             self.gate.leave();
         }

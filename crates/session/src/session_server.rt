@@ -1,10 +1,10 @@
 //! What sessions are answered from, and the streams that each reads and writes.
 
 ghost use Rattle.std.specs.Prelude.{◌≡◌};
-ghost use Rattle.lines.specs.Counting.{failures_of, inner_of};
 ghost use Rattle.session.specs.Forms.{bare};
 
 use crate::reply_form::ReplyForm;
+use crate::reply_log::ReplyLog;
 use answer_replies::PointForm;
 use lines::Counted;
 use std::alloc::Global;
@@ -34,24 +34,26 @@ impl<'a, T, G> SessionServer<'a, T, G> {
     }
 }
 
-/// Where a session's requests are read and its replies are written, each with the number of its calls that failed.
+/// Where a session's requests are read and its replies are written, each with the number of its calls that failed; and
+/// what the seat showed at each reply.
 #[derive(Drop)]
 pub struct Streams<I, O> {
     pub reader: Counted<I>,
     pub writer: Counted<O>,
+    pub replied: ReplyLog,
 }
 
 impl<I, O> Streams<I, O> {
-    /// No call has failed yet.
+    ghost use Rattle.session.specs.Streams.{AreNew};
+
+    /// No call has failed yet, and nothing was replied.
     pub fn new(reader: I, writer: O) -> Streams<I, O>
-        ensures reader { inner_of result.reader ≡ reader }
-        ensures writer { inner_of result.writer ≡ writer }
-        ensures reads { failures_of result.reader ≡ 0 }
-        ensures writes { failures_of result.writer ≡ 0 }
+        ensures { AreNew reader writer result }
     {
         Streams {
             reader: Counted::new(reader),
             writer: Counted::new(writer),
+            replied: ReplyLog::new(),
         }
     }
 }

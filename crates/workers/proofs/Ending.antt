@@ -1,53 +1,14 @@
 -- How a session and an order end.
-use Rattle.std.proofs.Common.{◌≡◌, ◌∷◌, ◌++◌, ℕ, List, [], Option, Some, None, IfSome, Result, Ok, refl, sym, subst, inl}
-use Rattle.epochs.specs.Seats.{SeatValue}
+use Rattle.std.proofs.Common.{◌≡◌, ◌∷◌, ◌++◌, List, [], Some, None, IfSome, refl, sym, subst, inl}
 use Rattle.epochs.specs.declared.seats.LoaderAnswer.{LoaderAnswer}
-use Rattle.lines.specs.Counting.{failures_of, inner_of}
-use Rattle.session.specs.declared.fault.Ended.{Ended}
-use Rattle.session.specs.declared.fault.SessionFault.{SessionFault}
-use Rattle.session.specs.Sessions.{LastRelease, Serves, state_of}
-use Rattle.session.specs.Exchanges.{seat_state}
-use Rattle.workers.specs.Ends.{Session, end_of}
+use Rattle.lines.specs.Counting.{inner_of}
+use Rattle.workers.specs.Ends.{Session}
 use Rattle.workers.specs.Loading.{IsEarly, IsNotPublished}
-use Rattle.workers.specs.Sessions.{AreServed, IsServedAt, IsSession, MayCloseFrom, WorkerState}
+use Rattle.workers.specs.Sessions.{AreServed, IsServedAt, MayCloseFrom, WorkerState}
 use Rattle.workers.specs.Words.{SessionWords}
 use Rattle.workers.specs.declared.refusal.LoadRefusal.{LoadRefusal}
-use Rattle.workers.specs.declared.served.SessionEnd.{SessionEnd}
-use Rattle.session.specs.declared.session_server.Streams.{Streams}
 
 module _ {C R W T S N : Type 0} (words : SessionWords C R W T S N) where
-  -- what is served from a new counted reader and writer is served from what they hold, and each failure is counted
-  pub session_of : (client : C) (was : R × W) (new now : Streams R W) (end : SessionEnd) (result : Result Ended SessionFault)
-      (last : SeatValue) (a b : WorkerState S)
-      → words.clients.opens client (Ok was) → inner_of new.reader ≡ was.0 → inner_of new.writer ≡ was.1
-      → failures_of new.reader ≡ 0 → failures_of new.writer ≡ 0 → end ≡ end_of result
-      → LastRelease (words.seats.number a.seat) last (words.seats.shown b.seat)
-      → Serves words.form (words.seats.number a.seat) result
-      (state_of words.unread words.written new.reader new.writer (seat_state (words.seats.shown a.seat) a.asked))
-      (state_of words.unread words.written now.reader now.writer (seat_state last b.asked))
-      → IsSession words client (now, end) a b
-  session_of client was new now end result last a b opens reader writer no_reads no_writes end_is released serves =
-      let Shows = λ (read : R) (write : W) (n m : ℕ).
-      Serves words.form (words.seats.number a.seat) result (record {
-        unread = words.unread read;
-        written = words.written write;
-        failed_reads = n;
-        failed_writes = m;
-        at_seat = seat_state (words.seats.shown a.seat) a.asked;
-      }) (state_of words.unread words.written now.reader now.writer (seat_state last b.asked)) in
-      let read = subst (λ (r : R). Shows r (inner_of new.writer) (failures_of new.reader) (failures_of new.writer)) reader serves in
-      let written = subst (λ (w : W). Shows was.0 w (failures_of new.reader) (failures_of new.writer)) writer read in
-      let from_no_read = subst (λ (n : ℕ). Shows was.0 was.1 n (failures_of new.writer)) no_reads written in
-      record {
-        was = was;
-        opens = opens;
-        result = result;
-        last = last;
-        end_is = end_is;
-        released = released;
-        serves = subst (λ (m : ℕ). Shows was.0 was.1 0 m) no_writes from_no_read;
-      }
-
   -- one client more is served behind the others
   pub served_also : (clients : List C) (sessions : List (Session R W)) (client : C) (session : Session R W) (a m b : WorkerState S)
       → AreServed words clients sessions a m → IsServedAt words client session m b
@@ -77,11 +38,12 @@ module _ {C R W T S N : Type 0} (words : SessionWords C R W T S N) where
       (subst (λ (list : List (Session R W)). Are (has ++ client ∷ []) list) (sym adds) all)
 
   -- the reader and the writer of a session that was served may be closed
-  pub may_close : (clients : List C) (sessions : List (Session R W)) (client : C) (streams : Option (Streams R W)) (end : SessionEnd)
-      (start a b : WorkerState S) → MayCloseFrom words start → AreServed words clients sessions start a → IsServedAt words client (streams, end) a b
-      → IfSome streams (λ now. words.clients.closes (inner_of now.reader) (inner_of now.writer) end)
-  may_close clients sessions client None end start a b may before served = tt
-  may_close clients sessions client (Some now) end start a b may before served = may clients sessions client now end a b before served
+  pub may_close : (clients : List C) (sessions : List (Session R W)) (client : C) (session : Session R W) (start a b : WorkerState S)
+      → MayCloseFrom words start → AreServed words clients sessions start a → IsServedAt words client session a b
+      → IfSome session.0 (λ now. words.clients.closes (inner_of now.reader) (inner_of now.writer) session.1)
+  may_close clients sessions client (None, end) start a b may before served = tt
+  may_close clients sessions client (Some now, end) start a b may before served =
+      may client now end (record { clients = clients; sessions = sessions; a = a; b = b; before = before; session = served })
 
 -- what is answered before a publish was tried leaves the loader's seat as it was
 pub not_published : (answers : List LoaderAnswer) (refusal : LoadRefusal) → IsEarly refusal → IsNotPublished answers refusal answers

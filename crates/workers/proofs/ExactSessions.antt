@@ -1,13 +1,13 @@
 -- What sessions reported, by the history that their seat knows in the end.
-use Rattle.std.proofs.Common.{◌≡◌, ◌∷◌, ℕ, List, [], Option, Some, None, sym, subst, append-nil}
+use Rattle.std.proofs.Common.{◌≡◌, ◌∷◌, ℕ, List, [], Option, Some, None, sym, subst}
 use Rattle.image_layout.specs.Image.{ImageValue}
 use Rattle.epochs.specs.SeatHistory.{Grows}
 use Rattle.epochs.specs.Seats.{SeatValue}
 use Rattle.shelf_steps.specs.declared.views.KnownHistory.{KnownHistory}
-use Rattle.session.specs.Learning.{IsPublishedIfHeld, Learns, TellPublished}
+use Rattle.session.specs.Learning.{IsPublishedIfHeld, Learns, TellPublished, TellsPublished}
 use Rattle.session.specs.Exchanges.{seat_state}
 use Rattle.session.specs.declared.session_server.Streams.{Streams}
-use Rattle.session.proofs.LearnLemmas.{learning_tells, learns_on, learns_same}
+use Rattle.session.proofs.LearnLemmas.{learning_tells, learns_nothing, learns_on, learns_same}
 use Rattle.workers.specs.Ends.{Session}
 use Rattle.workers.specs.Sessions.{AreExact, AreServed, IsExact, IsServed, WorkerState, served_client_of}
 use Rattle.workers.specs.Words.{SessionWords}
@@ -15,7 +15,7 @@ use Rattle.workers.specs.declared.served.SessionEnd.{SessionEnd}
 
 -- a seat that is left alone while its shelves' history goes on
 learns_later : (k later : KnownHistory) (a : SeatValue) → Grows k later → Learns k a later a
-learns_later k later a grows = record { grows = grows; answers = []; answers_are = sym (append-nil a.answers); published = tt }
+learns_later k later a grows = learns_nothing TellsPublished k later a.answers grows
 
 module _ {C R W T S N : Type 0} (words : SessionWords C R W T S N) where
   -- what a seat knows only grows
@@ -40,7 +40,8 @@ module _ {C R W T S N : Type 0} (words : SessionWords C R W T S N) where
   exact_one history client (Some now) end a m none served tells =
       let held = subst (λ (h : Option (ℕ × ImageValue)). IsPublishedIfHeld history h) (sym none) tt in (
         served,
-        tells words.form (words.seats.number a.seat) a.asked served.serves.exchanges (seat_state served.last m.asked) served.serves.does served.released held,
+        tells held words.form (words.seats.number a.seat) served.serves.exchanges
+            (record { asked = a.asked; last = seat_state served.last m.asked; does = served.serves.does; released = served.released }),
       )
 
   -- each session reported what was published in the history that the seat knew then, so also what was published in that which it knows in the end

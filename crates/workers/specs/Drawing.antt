@@ -1,5 +1,5 @@
 -- A feed's files that are drawn for an order.
-use Rattle.std.specs.Prelude.{◌≡◌, ℕ, List, Option, Result}
+use Rattle.std.specs.Prelude.{◌≡◌, List, Option, Result}
 use Rattle.feed_loader.specs.declared.plan.Plan.{Plan}
 use Rattle.load_orders.specs.Keeping.{QueueId}
 use Rattle.load_orders.specs.declared.queue.Order.{Order}

@@ -1,7 +1,6 @@
 -- Where the workers and the loader of a server work, and what they leave there.
 use Rattle.std.specs.Prelude.{◌≡◌, ◌≤◌, List, [], All, length}
 use Rattle.handoff.specs.Ends.{QueueId as ClientQueueId, TakerValue}
-use Rattle.client_queue.specs.Ends.{DealerValue}
 use Rattle.load_orders.specs.Asking.{OrderRoute}
 use Rattle.load_orders.specs.Keeping.{KeeperValue, QueueId}
 use Rattle.session.specs.declared.reply_form.ReplyForm.{ReplyForm}

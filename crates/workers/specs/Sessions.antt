@@ -3,20 +3,21 @@ use Rattle.std.specs.Prelude.{◌≡◌, ◌++◌, ◌∷◌, ℕ, Some, None, L
 use Rattle.client_queue.specs.declared.queue.DealerView.{DealerView}
 use Rattle.epochs.specs.Seats.{SeatValue}
 use Rattle.handoff.specs.Ends.{QueueId, TakerValue}
-use Rattle.lines.specs.Counting.{inner_of}
+use Rattle.lines.specs.Counting.{StopsAtFailure, inner_of}
 use Rattle.load_orders.specs.Asking.{OrderRoute, WorkerOrdersValue}
 use Rattle.orders.specs.Ordering.{OrderValue}
 use Rattle.shelf_steps.specs.declared.views.KnownHistory.{KnownHistory}
 use Rattle.session.specs.Learning.{AreFromPublished, Learns, TellPublished}
 use Rattle.session.specs.declared.fault.Ended.{Ended}
 use Rattle.session.specs.declared.fault.SessionFault.{SessionFault}
-use Rattle.session.specs.Sessions.{LastRelease, Serves, SessionState, state_of}
+use Rattle.session.specs.Sessions.{LastRelease, Serves, state_of}
 use Rattle.session.specs.Exchanges.{seat_state}
 use Rattle.workers.specs.Ends.{Session, end_of}
 use Rattle.workers.specs.Ordering.{IsAskedBy}
 use Rattle.workers.specs.Words.{SessionWords}
 use Rattle.workers.specs.declared.clients.ConnFault.{ConnFault}
 use Rattle.workers.specs.declared.served.SessionEnd.{SessionEnd}
+use Rattle.session.specs.Streams.{AreNew}
 use Rattle.session.specs.declared.session_server.Streams.{Streams}
 
 -- a seat, and the orders that were asked for at it
@@ -66,26 +67,20 @@ abbrev pub served_client_of : {C R W : Type 0} → C → Session R W → ServedC
 served_client_of client session = record { client = client; session = session }
 
 module _ {C R W T S N : Type 0} (words : SessionWords C R W T S N) where
-  -- a session as it begins, over what opening the client gave
-  abbrev pub opened : R × W → WorkerState S → SessionState
-  opened was a = record {
-    unread = words.unread was.0;
-    written = words.written was.1;
-    failed_reads = 0;
-    failed_writes = 0;
-    at_seat = seat_state (words.seats.shown a.seat) a.asked;
-  }
-
-  -- the client's own reader and writer were opened and served at this seat, and are so now, with only this session's failures counted
+  -- the client's own reader and writer were opened and served at this seat, and are so now: if a read or a write failed, it was the last one there
   pub record IsSession (client : C) (served_client : Streams R W × SessionEnd) (a b : WorkerState S) : Type 0 where
-    pub was : R × W
-    pub opens : words.clients.opens client (Ok was)
+    pub opened : R × W
+    pub opens : words.clients.opens client (Ok opened)
+    pub was : Streams R W
+    pub new : AreNew opened.0 opened.1 was
     pub result : Result Ended SessionFault
     pub last : SeatValue
     pub end_is : served_client.1 ≡ end_of result
     pub released : LastRelease (words.seats.number a.seat) last (words.seats.shown b.seat)
-    pub serves : Serves words.form (words.seats.number a.seat) result (opened was a)
-        (state_of words.unread words.written served_client.0.reader served_client.0.writer (seat_state last b.asked))
+    pub serves : Serves words.form (words.seats.number a.seat) result
+        (state_of words.unread words.written was.reader was.writer was.replied (seat_state (words.seats.shown a.seat) a.asked))
+        (state_of words.unread words.written served_client.0.reader served_client.0.writer served_client.0.replied (seat_state last b.asked))
+    pub stops : StopsAtFailure was.reader served_client.0.reader × StopsAtFailure was.writer served_client.0.writer
 
   -- the client couldn't be opened, and nothing was changed
   pub record IsUnopened (client : C) (end : SessionEnd) (a b : WorkerState S) : Type 0 where
@@ -112,6 +107,10 @@ module _ {C R W T S N : Type 0} (words : SessionWords C R W T S N) where
       (m : WorkerState S) × IsExact (words.seats.known b.seat) (served_client_of client session) a m × AreExact clients sessions m b
   AreExact _ _ a b = ⊥
 
+  -- the seat holds no version
+  abbrev pub IsIdle : S → Type 0
+  IsIdle seat = (words.seats.shown seat).held ≡ None
+
   -- a client is served at this seat, which learns meanwhile: each profile is answered over the image that the history published as its version, and
   -- the seat holds nothing then if it held nothing
   pub record IsServedAt (client : C) (session : Session R W) (a b : WorkerState S) : Type 0 where
@@ -119,7 +118,7 @@ module _ {C R W T S N : Type 0} (words : SessionWords C R W T S N) where
     pub number : words.seats.number b.seat ≡ words.seats.number a.seat
     pub learns : Learns (words.seats.known a.seat) (words.seats.shown a.seat) (words.seats.known b.seat) (words.seats.shown b.seat)
     pub profiles : TellPublished (words.seats.known b.seat) (words.seats.shown a.seat) (words.seats.shown b.seat)
-    pub idle : (words.seats.shown a.seat).held ≡ None → (words.seats.shown b.seat).held ≡ None
+    pub idle : IsIdle a.seat → IsIdle b.seat
 
   -- the clients are served at this seat one after the other, each in one of these sessions
   abbrev pub AreServed : List C → List (Session R W) → WorkerState S → WorkerState S → Type 0
@@ -128,11 +127,19 @@ module _ {C R W T S N : Type 0} (words : SessionWords C R W T S N) where
       (m : WorkerState S) × IsServedAt client session a m × AreServed clients sessions m b
   AreServed _ _ a b = ⊥
 
-  -- whatever sessions were served one after the other from here on, the reader and the writer of the last may be closed as they are then, as those of
-  -- a session that ended as this one did
+  -- after some sessions from this state on, the client was served, and its session ended so
+  pub record IsServedLater (start : WorkerState S) (client : C) (now : Streams R W) (end : SessionEnd) : Type 0 where
+    pub clients : List C
+    pub sessions : List (Session R W)
+    pub a : WorkerState S
+    pub b : WorkerState S
+    pub before : AreServed clients sessions start a
+    pub session : IsServedAt client (Some now, end) a b
+
+  -- each client's reader and writer may be closed as its session left them, whichever sessions came before it from this state on
   abbrev pub MayCloseFrom : WorkerState S → Type 0
-  MayCloseFrom start = (clients : List C) (sessions : List (Session R W)) (client : C) (now : Streams R W) (end : SessionEnd) (a b : WorkerState S)
-      → AreServed clients sessions start a → IsServedAt client (Some now, end) a b → words.clients.closes (inner_of now.reader) (inner_of now.writer) end
+  MayCloseFrom start = (client : C) (now : Streams R W) (end : SessionEnd) → IsServedLater start client now end
+      → words.clients.closes (inner_of now.reader) (inner_of now.writer) end
 
   -- a client's reader and writer may be closed after whatever sessions are served from the first on at one of these seats
   abbrev pub MayClose : List S → Type 0
@@ -151,14 +158,13 @@ module _ {C R W T S N : Type 0} (words : SessionWords C R W T S N) where
     pub fits : words.seats.fits shelves b.seat
     pub queue_is : share.0.queue ≡ queue
     pub served : AreServed share.0.taken share.1 a b
-    pub exact : (words.seats.shown a.seat).held ≡ None → AreExact share.0.taken share.1 a b
+    pub exact : IsIdle a.seat → AreExact share.0.taken share.1 a b
 
-  -- a worker's share: the sessions are those of these clients at its seat. If the seat held nothing at first, each profile in them is answered
-  -- exactly. All that was ordered in them was asked of these orders, which go the way of this post
+  -- a worker's share: the sessions are those of these clients at its seat, and each profile in them is answered exactly, if the seat was idle at first,
+  -- as new seats are. All that was ordered in them was asked of these orders, which go the way of this post
   pub record IsShare (start : WorkerStart S N) (clients : List C) (share : ShareValue R W S N) : Type 0 where
     pub served : AreServed clients share.sessions (worker_state start.seat []) (worker_state share.seat share.orders.asked)
-    pub exact : (words.seats.shown start.seat).held ≡ None
-        → AreExact clients share.sessions (worker_state start.seat []) (worker_state share.seat share.orders.asked)
+    pub exact : IsIdle start.seat → AreExact clients share.sessions (worker_state start.seat []) (worker_state share.seat share.orders.asked)
     pub asked : IsAskedBy words.seats.version start.route share.orders
 
   -- each worker at one of these posts got one hand of the clients, and this is its share

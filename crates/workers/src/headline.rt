@@ -33,9 +33,10 @@ use std::thread::Threads;
 ///   of these seats, as those of a session that ended as the last one did.
 /// - `left`: no further client comes, and what held of their source holds still; the seats are of these shelves, and
 ///   the histories that `served` and `loaded` speak of are one.
-/// - `served`: each client who came was dealt to exactly one worker and had one session at its seat. Each line that was
-///   read has its reply, up to where the session ended; and each profile is answered exactly, over the image that was
-///   published as the version that the reply names.
+/// - `served`: each client who came was dealt to exactly one worker and had one session at its seat, unless it couldn't
+///   be opened. Each line that was read has its reply, up to where the session ended. Each profile is answered exactly,
+///   over the image that was published as the version that the reply names; or the reply says why it isn't: memory ran
+///   out, no version could be pinned, or the profile or its window can't be asked of that image.
 /// - `loaded`: the loader took exactly the orders that the sessions put, each once, and carried out each. Each image
 ///   that it published is that of the bytes that the files of the ordered feed gave.
 /// - `pinned`: no image is collected while a seat of these shelves has it pinned.

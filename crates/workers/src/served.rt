@@ -1,8 +1,10 @@
 //! How sessions ended.
 
-ghost use Rattle.std.specs.Prelude.{◌≡◌};
+ghost use Rattle.std.specs.Prelude.{◌≡◌, ◌++◌, ◌∷◌, [], IfSome};
+ghost use Rattle.lines.specs.Counting.{inner_of};
 ghost use Rattle.workers.specs.Ends.{end_of as end_of_outcome};
 
+use crate::clients::Client;
 use load_orders::GhostList;
 use session::{Ended, SessionFault, Streams};
 use std::marker::Model;
@@ -67,8 +69,8 @@ impl<R, W> Served<R, W> {
         }
     }
 
-    /// Adds one session.
-    pub fn add(&mut self, session: &(Option<Streams<R, W>>, SessionEnd))
+    // Counts a session and notes it.
+    fn add(&mut self, session: &(Option<Streams<R, W>>, SessionEnd))
         ensures { self.new ≡ self.old ++ session.now ∷ [] }
     {
         match session.1 {
@@ -114,5 +116,27 @@ impl<R, W> Served<R, W> {
         ensures { result ≡ spent_in self.now }
     {
         self.spent
+    }
+}
+
+/// Notes the session, and closes its client, if it could be opened, with the very reader and writer that are noted.
+pub(crate) fn close_client<C: Client>(
+    served: &mut Served<C::Reader, C::Writer>,
+    session: (Option<Streams<C::Reader, C::Writer>>, SessionEnd),
+)
+    requires { IfSome session.0 (λ now. C.words.closes (inner_of now.reader) (inner_of now.writer) session.1) }
+    ensures { served.new ≡ served.old ++ session ∷ [] }
+{
+    served.add(&session);
+    let (streams, end) = session;
+    if let Some(
+        Streams {
+            reader,
+            writer,
+            replied: _,
+        },
+    ) = streams
+    {
+        C::close(reader.into_inner(), writer.into_inner(), end);
     }
 }

@@ -1,9 +1,9 @@
 use Rattle.std.proofs.Common.{◌∙◌, refl, sym, arith, inl}
 use Rattle.reasoning.proofs.BoolLemmas.{where_true, where_false}
 use Rattle.lines.proofs.GivenLemmas.{Gives-ended, Gives-nothing, Gives-rest}
-use Rattle.session.proofs.LineLemmas.{nothing_is_one_line, some_bytes, SoFar-more, SoFar-start, ExchangeLeadsTo-number}
+use Rattle.session.proofs.LineLemmas.{nothing_is_one_line, some_bytes, SoFar-more, SoFar-read, SoFar-start, ExchangeLeadsTo-number}
 use Rattle.session.proofs.LineLemmas.{cut_short_at_line, cut_short_at_rest, ends_at_end, ends_with_rest, not_rose}
-use Rattle.session.proofs.LineLemmas.{none_failed, one_failed, read_fails, read_stops, rose, too_many, why_failed}
+use Rattle.session.proofs.LineLemmas.{read_fails, rose, too_many, why_failed}
 use Rattle.session.proofs.LearnLemmas.{goes_on, goes_on_same}
 use Rattle.session.proofs.session_server.SessionServer.answer_lines.Goals as goal
 
@@ -12,32 +12,34 @@ loop-init g c = record {
   seat = goes_on_same _ _ _ c.requires.fits;
   route = refl;
   reads = refl;
-  writes =
-      refl;
-  so_far = SoFar-start _ _ _ _ _ c.new-lines.ensures;
+  writes = refl;
+  so_far = SoFar-start _ _ _ c.new-lines.ensures;
 }
 
 pub returns-in-Err-clause-session : goal.returns-in-Err-clause-session
 returns-in-Err-clause-session g c =
     let e = c.in-Err.ensures in
-    read_fails _ _ _ _ _ e.0 _ _ _ _ _ _ _ _ _ (omega (arith, c.loop-test.true, c.loop.auto.counter-end))
-    c.loop.invariant.so_far e.1 e.2.0 (why_failed _ _ _ _ _ c.requires.counts.0 c.loop.invariant.reads e.2.2) (not_rose _ _ c.loop.invariant.writes)
+    read_fails (SoFar-read c.loop.invariant.so_far (record { came = e.1; written = refl; replied = refl; at_seat = refl; failed = refl }))
+    (omega (arith, c.loop-test.true, c.loop.auto.counter-end)) e.2.0
+    (why_failed _ _ _ _ _ c.requires.counts.0 c.loop.invariant.reads e.2.2) (not_rose _ _ c.loop.invariant.writes)
 
 pub returns-in-Ok-Nothing-clause-session : goal.returns-in-Ok-Nothing-clause-session
 returns-in-Ok-Nothing-clause-session g c =
     let e = c.in-Ok-Nothing.ensures in
     let nothing = Gives-nothing _ _ _ _ c.in-Ok-Nothing.field-0-is e.2.0 in
-    ends_at_end _ _ _ _ _ e.0 _ _ _ _ _ _ _ _ _ _ (omega (arith, c.loop-test.true, c.loop.auto.counter-end))
-    c.loop.invariant.so_far e.1 nothing.0 nothing.2 (not_rose _ _ (e.2.1 ∙ c.loop.invariant.reads)) (not_rose _ _ c.loop.invariant.writes)
+    ends_at_end (SoFar-read c.loop.invariant.so_far (record { came = e.1; written = refl; replied = refl; at_seat = refl; failed = refl }))
+    _ (omega (arith, c.loop-test.true, c.loop.auto.counter-end)) nothing.0 nothing.2 (not_rose _ _ (e.2.1 ∙ c.loop.invariant.reads))
+    (not_rose _ _ c.loop.invariant.writes)
 
 pub returns-in-Err-answer_line-2-clause-session : goal.returns-in-Err-answer_line-2-clause-session
 returns-in-Err-answer_line-2-clause-session g c =
     let e = c.in-Ok-Ended.ensures in
     let gives = Gives-ended _ _ _ _ c.in-Ok-Ended.field-0-is e.2.0 in
     let done = c.in-Err-answer_line-2.ensures.exchange gives.line (c.line-line-in-Ok-Ended.ensures gives.line gives.shown) in
-    let exchange = ExchangeLeadsTo-number _ _ _ _ _ c.loop.invariant.seat.number done.2 in
-    cut_short_at_line _ _ _ _ _ e.0 _ _ _ _ _ _ _ _ _ _ _ _ (omega (arith, c.loop-test.true, c.loop.auto.counter-end))
-    c.loop.invariant.so_far e.1 gives done.0 done.1 exchange done.3.0 done.3.1 (not_rose _ _ (e.2.1 ∙ c.loop.invariant.reads))
+    let leads = ExchangeLeadsTo-number _ _ _ _ _ c.loop.invariant.seat.number done.2 in
+    cut_short_at_line (SoFar-read c.loop.invariant.so_far (record { came = e.1; written = refl; replied = refl; at_seat = refl; failed = refl }))
+    (record { unread = refl; failed = refl; leads = leads; replied = done.3; writes = done.4.1 }) done.4.0 refl
+    (omega (arith, c.loop-test.true, c.loop.auto.counter-end)) gives done.1 (not_rose _ _ (e.2.1 ∙ c.loop.invariant.reads))
     (rose _ _ _ c.requires.counts.1 c.loop.invariant.writes c.in-Err-answer_line-2.ensures.failures.0)
 
 pub loop-preserved : goal.loop-preserved
@@ -45,13 +47,14 @@ loop-preserved g c =
     let e = c.in-Ok-Ended.ensures in
     let gives = Gives-ended _ _ _ _ c.in-Ok-Ended.field-0-is e.2.0 in
     let done = c.in-Ok-answer_line.ensures.exchange gives.line (c.line-line-in-Ok-Ended.ensures gives.line gives.shown) in
-    let exchange = ExchangeLeadsTo-number _ _ _ _ _ c.loop.invariant.seat.number done.2 in
+    let leads = ExchangeLeadsTo-number _ _ _ _ _ c.loop.invariant.seat.number done.2 in
     record {
       seat = goes_on _ _ _ _ _ c.loop.invariant.seat c.in-Ok-answer_line.ensures.seat;
       route = c.in-Ok-answer_line.ensures.route ∙ c.loop.invariant.route;
       reads = e.2.1 ∙ c.loop.invariant.reads;
       writes = c.in-Ok-answer_line.ensures.failures ∙ c.loop.invariant.writes;
-      so_far = SoFar-more _ _ _ _ _ e.0 _ _ _ _ _ _ _ _ c.loop.invariant.so_far e.1 gives done.0 done.1 exchange done.3;
+      so_far = SoFar-more (SoFar-read c.loop.invariant.so_far (record { came = e.1; written = refl; replied = refl; at_seat = refl; failed = refl }))
+          (record { unread = refl; failed = refl; leads = leads; replied = done.3; writes = done.4 }) gives done.1 refl;
     }
 
 pub returns-in-Ok-clause-session : goal.returns-in-Ok-clause-session
@@ -59,9 +62,10 @@ returns-in-Ok-clause-session g c =
     let e = c.in-Ok-Rest.ensures in
     let gives = Gives-rest _ _ _ _ c.in-Ok-Rest.field-0-is e.2.0 in
     let done = c.in-Ok.ensures.exchange _ (c.line-line.ensures _ gives.shown) in
-    let exchange = ExchangeLeadsTo-number _ _ _ _ _ c.loop.invariant.seat.number done.2 in
-    ends_with_rest _ _ _ _ _ e.0 _ _ _ _ _ _ _ _ _ _ _ _ _ (omega (arith, c.loop-test.true, c.loop.auto.counter-end))
-    c.loop.invariant.so_far e.1 gives done.0 done.1 exchange done.3 (not_rose _ _ (e.2.1 ∙ c.loop.invariant.reads))
+    let leads = ExchangeLeadsTo-number _ _ _ _ _ c.loop.invariant.seat.number done.2 in
+    ends_with_rest (SoFar-read c.loop.invariant.so_far (record { came = e.1; written = refl; replied = refl; at_seat = refl; failed = refl }))
+    (record { unread = refl; failed = refl; leads = leads; replied = done.3; writes = done.4 }) _
+    (omega (arith, c.loop-test.true, c.loop.auto.counter-end)) gives done.1 refl (not_rose _ _ (e.2.1 ∙ c.loop.invariant.reads))
     (not_rose _ _ (c.in-Ok.ensures.failures ∙ c.loop.invariant.writes))
 
 pub returns-in-Err-answer_line-clause-session : goal.returns-in-Err-answer_line-clause-session
@@ -69,47 +73,33 @@ returns-in-Err-answer_line-clause-session g c =
     let e = c.in-Ok-Rest.ensures in
     let gives = Gives-rest _ _ _ _ c.in-Ok-Rest.field-0-is e.2.0 in
     let done = c.in-Err-answer_line.ensures.exchange _ (c.line-line.ensures _ gives.shown) in
-    let exchange = ExchangeLeadsTo-number _ _ _ _ _ c.loop.invariant.seat.number done.2 in
-    cut_short_at_rest _ _ _ _ _ e.0 _ _ _ _ _ _ _ _ _ _ _ _ (omega (arith, c.loop-test.true, c.loop.auto.counter-end))
-    c.loop.invariant.so_far e.1 gives done.0 done.1 exchange done.3.0 done.3.1 (not_rose _ _ (e.2.1 ∙ c.loop.invariant.reads))
+    let leads = ExchangeLeadsTo-number _ _ _ _ _ c.loop.invariant.seat.number done.2 in
+    cut_short_at_rest (SoFar-read c.loop.invariant.so_far (record { came = e.1; written = refl; replied = refl; at_seat = refl; failed = refl }))
+    (record { unread = refl; failed = refl; leads = leads; replied = done.3; writes = done.4.1 }) done.4.0 refl
+    (omega (arith, c.loop-test.true, c.loop.auto.counter-end)) gives done.1 (not_rose _ _ (e.2.1 ∙ c.loop.invariant.reads))
     (rose _ _ _ c.requires.counts.1 c.loop.invariant.writes c.in-Err-answer_line.ensures.failures.0)
 
 pub returns-in-Ok-true-clause-session : goal.returns-in-Ok-true-clause-session
 returns-in-Ok-true-clause-session g c =
     let e = c.in-Ok-true.ensures in
-    too_many _ _ _ _ _ e.0 _ _ _ _ _ _ _ _ _ (omega (
-      arith,
-      c.loop-test.false,
-      c.loop.auto.counter-end,
-    )) c.loop.invariant.so_far e.1
-    (some_bytes _ _ e.2 (where_true _ _ _ c.in-Ok-true.field-0-test e.3.0))
+    too_many (SoFar-read c.loop.invariant.so_far (record { came = e.1; written = refl; replied = refl; at_seat = refl; failed = refl }))
+    (omega (arith, c.loop-test.false, c.loop.auto.counter-end)) (some_bytes _ _ e.2 (where_true _ _ _ c.in-Ok-true.field-0-test e.3.0))
     (not_rose _ _ (e.3.1 ∙ c.loop.invariant.reads)) (not_rose _ _ c.loop.invariant.writes)
 
 pub returns-in-Ok-false-clause-session : goal.returns-in-Ok-false-clause-session
 returns-in-Ok-false-clause-session g c =
     let e = c.in-Ok-false.ensures in
     let none = where_false _ _ _ c.in-Ok-false.field-0-test e.3.0 in
-    ends_at_end _ _ _ _ _ e.0 _ _ _ _ _ _ _ _ _ _ (omega (arith, c.loop-test.false, c.loop.auto.counter-end))
-    c.loop.invariant.so_far e.1 (sym e.2 ∙ none.0) none.1 (not_rose _ _ (e.3.1 ∙ c.loop.invariant.reads)) (not_rose _ _ c.loop.invariant.writes)
+    ends_at_end (SoFar-read c.loop.invariant.so_far (record { came = e.1; written = refl; replied = refl; at_seat = refl; failed = refl }))
+    _ (omega (arith, c.loop-test.false, c.loop.auto.counter-end)) (sym e.2 ∙ none.0) none.1
+    (not_rose _ _ (e.3.1 ∙ c.loop.invariant.reads)) (not_rose _ _ c.loop.invariant.writes)
 
 pub returns-clause-session : goal.returns-clause-session
 returns-clause-session g c =
     let e = c.in-Err-has_byte.ensures in
-    read_fails _ _ _ _ _ e.0 _ _ _ _ _ _ _ _ _ (omega (arith, c.loop-test.false, c.loop.auto.counter-end))
-    c.loop.invariant.so_far e.1 (nothing_is_one_line _ (sym e.2 ∙ e.3.0))
+    read_fails (SoFar-read c.loop.invariant.so_far (record { came = e.1; written = refl; replied = refl; at_seat = refl; failed = refl }))
+    (omega (arith, c.loop-test.false, c.loop.auto.counter-end)) (nothing_is_one_line _ (sym e.2 ∙ e.3.0))
     (inl (rose _ _ _ c.requires.counts.0 c.loop.invariant.reads e.3.1.0)) (not_rose _ _ c.loop.invariant.writes)
-
-pub returns-in-Err-clause-seat : goal.returns-in-Err-clause-seat
-returns-in-Err-clause-seat g c = c.loop.invariant.seat
-
-pub returns-in-Ok-Nothing-clause-seat : goal.returns-in-Ok-Nothing-clause-seat
-returns-in-Ok-Nothing-clause-seat g c = c.loop.invariant.seat
-
-pub returns-in-Ok-true-clause-seat : goal.returns-in-Ok-true-clause-seat
-returns-in-Ok-true-clause-seat g c = c.loop.invariant.seat
-
-pub returns-in-Ok-false-clause-seat : goal.returns-in-Ok-false-clause-seat
-returns-in-Ok-false-clause-seat g c = c.loop.invariant.seat
 
 pub returns-in-Err-answer_line-2-clause-seat : goal.returns-in-Err-answer_line-2-clause-seat
 returns-in-Err-answer_line-2-clause-seat g c = goes_on _ _ _ _ _ c.loop.invariant.seat c.in-Err-answer_line-2.ensures.seat
@@ -119,42 +109,3 @@ returns-in-Ok-clause-seat g c = goes_on _ _ _ _ _ c.loop.invariant.seat c.in-Ok.
 
 pub returns-in-Err-answer_line-clause-seat : goal.returns-in-Err-answer_line-clause-seat
 returns-in-Err-answer_line-clause-seat g c = goes_on _ _ _ _ _ c.loop.invariant.seat c.in-Err-answer_line.ensures.seat
-
-pub returns-clause-seat : goal.returns-clause-seat
-returns-clause-seat g c = c.loop.invariant.seat
-
-pub returns-in-Err-clause-stops : goal.returns-in-Err-clause-stops
-returns-in-Err-clause-stops g c = (read_stops _ _ _ _ _ c.loop.invariant.reads c.in-Err.ensures.2.2, none_failed _ _ _ c.loop.invariant.writes)
-
-pub returns-in-Ok-Nothing-clause-stops : goal.returns-in-Ok-Nothing-clause-stops
-returns-in-Ok-Nothing-clause-stops g c =
-    (none_failed _ _ _ (c.in-Ok-Nothing.ensures.2.1 ∙ c.loop.invariant.reads), none_failed _ _ _ c.loop.invariant.writes)
-
-pub returns-in-Err-answer_line-2-clause-stops : goal.returns-in-Err-answer_line-2-clause-stops
-returns-in-Err-answer_line-2-clause-stops g c = (
-  none_failed _ _ _ (c.in-Ok-Ended.ensures.2.1 ∙ c.loop.invariant.reads),
-  one_failed _ _ _ _ c.loop.invariant.writes c.in-Err-answer_line-2.ensures.failures,
-)
-
-pub returns-in-Ok-clause-stops : goal.returns-in-Ok-clause-stops
-returns-in-Ok-clause-stops g c = (
-  none_failed _ _ _ (c.in-Ok-Rest.ensures.2.1 ∙ c.loop.invariant.reads),
-  none_failed _ _ _ (c.in-Ok.ensures.failures ∙ c.loop.invariant.writes),
-)
-
-pub returns-in-Err-answer_line-clause-stops : goal.returns-in-Err-answer_line-clause-stops
-returns-in-Err-answer_line-clause-stops g c = (
-  none_failed _ _ _ (c.in-Ok-Rest.ensures.2.1 ∙ c.loop.invariant.reads),
-  one_failed _ _ _ _ c.loop.invariant.writes c.in-Err-answer_line.ensures.failures,
-)
-
-pub returns-in-Ok-true-clause-stops : goal.returns-in-Ok-true-clause-stops
-returns-in-Ok-true-clause-stops g c =
-    (none_failed _ _ _ (c.in-Ok-true.ensures.3.1 ∙ c.loop.invariant.reads), none_failed _ _ _ c.loop.invariant.writes)
-
-pub returns-in-Ok-false-clause-stops : goal.returns-in-Ok-false-clause-stops
-returns-in-Ok-false-clause-stops g c =
-    (none_failed _ _ _ (c.in-Ok-false.ensures.3.1 ∙ c.loop.invariant.reads), none_failed _ _ _ c.loop.invariant.writes)
-
-pub returns-clause-stops : goal.returns-clause-stops
-returns-clause-stops g c = (one_failed _ _ _ _ c.loop.invariant.reads c.in-Err-has_byte.ensures.3.1, none_failed _ _ _ c.loop.invariant.writes)

@@ -1,8 +1,9 @@
 use Rattle.std.proofs.Common.{◌≡◌}
-use Rattle.lines.specs.Counting.{failures_of, inner_of}
+use Rattle.lines.specs.Counting.{failures_of}
 use Rattle.lines.specs.Reading.{unread_of}
 use Rattle.session.specs.Learning.{GoesOn}
 use Rattle.session.specs.Exchanges.{seat_state}
+use Rattle.session.specs.Sessions.{state_of}
 use Rattle.session.proofs.LineLemmas.{SoFar}
 use Rattle.session.proofs.session_server.SessionServer.answer_lines.Given as goal
 
@@ -13,8 +14,9 @@ invariant-loop g l = record {
   reads : failures_of l.reader ≡ failures_of l.fn.reader;
   writes : failures_of l.writer ≡ failures_of l.fn.writer;
   so_far : SoFar l.self.form (g.T.Versions.words.number l.fn.seat)
-      (g.In.Read.remaining (inner_of l.fn.reader)) (g.In.Read.remaining (inner_of l.reader)) (unread_of l.lines)
-      (g.Out.Write.contents (inner_of l.fn.writer)) (g.Out.Write.contents (inner_of l.writer))
-      (seat_state (g.T.Versions.words.shown l.fn.seat) (g.O.Orders.asked l.fn.orders))
-      (seat_state (g.T.Versions.words.shown l.seat) (g.O.Orders.asked l.orders)) l.counter;
+      (state_of g.In.Read.remaining g.Out.Write.contents l.fn.reader l.fn.writer l.fn.replied
+      (seat_state (g.T.Versions.words.shown l.fn.seat) (g.O.Orders.asked l.fn.orders)))
+      (state_of g.In.Read.remaining g.Out.Write.contents l.reader l.writer l.replied
+      (seat_state (g.T.Versions.words.shown l.seat) (g.O.Orders.asked l.orders)))
+      (unread_of l.lines) l.counter;
 }

@@ -1,7 +1,7 @@
 use Rattle.std.proofs.Common.{◌∙◌, subst}
-use Rattle.session.specs.SeatSteps.{HoldsInSome}
+use Rattle.session.specs.SeatSteps.{HoldsInSomeHistory}
 use Rattle.session.proofs.MetLemmas.{profile_refused, profile_met_once}
-use Rattle.session.proofs.LearnLemmas.{learns_once, learns_unpinned}
+use Rattle.session.proofs.LearnLemmas.{learns_once}
 use Rattle.session.proofs.session_server.SessionServer.answer_once.Goals as goal
 
 pub returns-in-Err-clause-met : goal.returns-in-Err-clause-met
@@ -9,14 +9,9 @@ returns-in-Err-clause-met g c = profile_refused _ _ _ _ _ _ c.requires.idle c.in
 
 pub returns-clause-met : goal.returns-clause-met
 returns-clause-met g c =
-    let known = subst (λ n. HoldsInSome n (g.T.Versions.words.shown c.pin.new.seat).held) c.in_default.ensures.number
+    let known = subst (λ n. HoldsInSomeHistory n (g.T.Versions.words.shown c.pin.new.seat).held) c.in_default.ensures.number
     (g.T.Versions.words.known c.pin.new.seat, c.in_default.ensures.known) in
     profile_met_once _ _ _ _ _ _ _ _ _ c.in_default.ensures.pin known c.in-Some.ensures.lent c.release.ensures.release c.answer_from-reply.ensures
-
-pub returns-in-Err-clause-seat : goal.returns-in-Err-clause-seat
-returns-in-Err-clause-seat g c =
-    let e = c.in-Err.ensures in
-    record { fits = e.fits; number = e.number; learns = learns_unpinned _ _ _ _ c.in-Err.fault e.pin e.grows }
 
 pub returns-clause-seat : goal.returns-clause-seat
 returns-clause-seat g c =

@@ -4,7 +4,6 @@ use Rattle.session_texts.specs.declared.judging.LineFault.{LineFault}
 use Rattle.session.proofs.SideLemmas.{none_asked}
 use Rattle.session.proofs.ExchangeLemmas.{asks_known, bad_json_exchange, bad_request_exchange, load_exchange, memory_exchange}
 use Rattle.session.proofs.ExchangeLemmas.{order_exchange, seat_exchange, too_long_exchange, waits_for, waits_not, whole}
-use Rattle.session.proofs.LearnLemmas.{goes_on_same}
 use Rattle.session.proofs.session_server.SessionServer.exchange.Goals as goal
 
 pub returns-in-TooLong-clause-exchange : goal.returns-in-TooLong-clause-exchange
@@ -68,36 +67,3 @@ returns-clause-exchange g c = λ l shows.
     let asked = waits_for c.args.self.now.form.sets (view c.in-Ok.value) _ arm.field-0-1 arm.field-0-1-test
     (asks_known _ (view c.in-Ok.value) _ _ arm.field-0-is arm.ensures) in
     load_exchange _ _ _ _ _ deed.0 c.in-Whole.bytes.now l _ arm.feed.now (view c.in-Ok.value) here c.in-Ok.ensures.value asked deed.1 deed.2 deed.3
-
-pub returns-in-TooLong-clause-seat : goal.returns-in-TooLong-clause-seat
-returns-in-TooLong-clause-seat g c = goes_on_same _ _ _ c.requires.fits
-
-pub returns-in-NoRoom-clause-seat : goal.returns-in-NoRoom-clause-seat
-returns-in-NoRoom-clause-seat g c = goes_on_same _ _ _ c.requires.fits
-
-pub returns-in-Err-BadJson-clause-seat : goal.returns-in-Err-BadJson-clause-seat
-returns-in-Err-BadJson-clause-seat g c = goes_on_same _ _ _ c.requires.fits
-
-pub returns-in-Err-OutOfMemory-clause-seat : goal.returns-in-Err-OutOfMemory-clause-seat
-returns-in-Err-OutOfMemory-clause-seat g c = goes_on_same _ _ _ c.requires.fits
-
-pub returns-in-Err-BadRequest-clause-seat : goal.returns-in-Err-BadRequest-clause-seat
-returns-in-Err-BadRequest-clause-seat g c = goes_on_same _ _ _ c.requires.fits
-
-pub returns-in-Ok-Pin-clause-seat : goal.returns-in-Ok-Pin-clause-seat
-returns-in-Ok-Pin-clause-seat g c = c.pin.ensures.seat
-
-pub returns-in-Ok-Release-clause-seat : goal.returns-in-Ok-Release-clause-seat
-returns-in-Ok-Release-clause-seat g c = c.release.ensures.seat
-
-pub returns-in-Ok-Profile-clause-seat : goal.returns-in-Ok-Profile-clause-seat
-returns-in-Ok-Profile-clause-seat g c = c.answer_profile.ensures.seat
-
-pub returns-in-Ok-Load-default-false-clause-seat : goal.returns-in-Ok-Load-default-false-clause-seat
-returns-in-Ok-Load-default-false-clause-seat g c = goes_on_same _ _ _ c.requires.fits
-
-pub returns-clause-seat : goal.returns-clause-seat
-returns-clause-seat g c = c.load_feed.ensures.seat
-
-pub returns-in-Err-OutOfMemory-request_of-clause-seat : goal.returns-in-Err-OutOfMemory-request_of-clause-seat
-returns-in-Err-OutOfMemory-request_of-clause-seat g c = goes_on_same _ _ _ c.requires.fits

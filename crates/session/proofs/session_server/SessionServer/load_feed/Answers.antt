@@ -1,7 +1,6 @@
 use Rattle.std.proofs.Common.{◌∙◌, refl, sym, inl, inr}
 use Rattle.session.specs.Exchanges.{deed_of}
 use Rattle.session.proofs.LoadLemmas.{no_version_met, version_met}
-use Rattle.session.proofs.LearnLemmas.{goes_on_same}
 use Rattle.session.proofs.session_server.SessionServer.load_feed.Goals as goal
 
 pub returns-in-Ok-loaded_line-clause-met : goal.returns-in-Ok-loaded_line-clause-met
@@ -23,12 +22,3 @@ returns-in-Err-loaded_line-clause-met g c =
 
 pub returns-in-Err-clause-met : goal.returns-in-Err-clause-met
 returns-in-Err-clause-met g c = (deed_of _ _ _, refl, c.in-Err.ensures.asked, no_version_met _ _ _ _ _ c.order_fault.ensures)
-
-pub returns-in-Ok-loaded_line-clause-seat : goal.returns-in-Ok-loaded_line-clause-seat
-returns-in-Ok-loaded_line-clause-seat g c = c.take_notice.ensures.seat
-
-pub returns-in-Err-loaded_line-clause-seat : goal.returns-in-Err-loaded_line-clause-seat
-returns-in-Err-loaded_line-clause-seat g c = c.take_notice.ensures.seat
-
-pub returns-in-Err-clause-seat : goal.returns-in-Err-clause-seat
-returns-in-Err-clause-seat g c = goes_on_same _ _ _ c.requires.fits

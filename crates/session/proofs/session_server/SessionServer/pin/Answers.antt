@@ -1,9 +1,9 @@
 use Rattle.std.proofs.Common.{rules, ◌≡◌, ◌++◌, ◌∷◌, [], string_bytes, ◌∙◌, subst}
 use Rattle.std.specs.Arc.{arc_value}
-use Rattle.session.specs.SeatSteps.{HoldsInSome}
+use Rattle.session.specs.SeatSteps.{HoldsInSomeHistory}
 use Rattle.session_texts.specs.Replies.{pin_text}
 use Rattle.session.proofs.MetLemmas.{pin_met, pin_refused, pin_given_back}
-use Rattle.session.proofs.LearnLemmas.{learns_once, learns_pinned, learns_unpinned}
+use Rattle.session.proofs.LearnLemmas.{learns_once}
 use Rattle.session.proofs.session_server.SessionServer.pin.Goals as goal
 
 pub returns-in-Err-clause-met : goal.returns-in-Err-clause-met
@@ -13,25 +13,15 @@ pub returns-in-Ok-clause-met : goal.returns-in-Ok-clause-met
 returns-in-Ok-clause-met g c =
     let reply_made : string_bytes c.in-Ok.line ≡ pin_text (arc_value c.in-Some.edition.now.image).names.base
     c.in-Some.edition.now.version ++ 10 ∷ [] = search rules in
-    let known = subst (λ n. HoldsInSome n (g.T.Versions.words.shown c.pin.new.seat).held) c.in_default.ensures.number
+    let known = subst (λ n. HoldsInSomeHistory n (g.T.Versions.words.shown c.pin.new.seat).held) c.in_default.ensures.number
     (g.T.Versions.words.known c.pin.new.seat, c.in_default.ensures.known) in
     pin_met _ _ _ _ _ _ c.in_default.ensures.pin known c.in-Some.ensures.lent (c.made.ensures ∙ reply_made)
 
 pub returns-in-Err-reply_made-clause-met : goal.returns-in-Err-reply_made-clause-met
 returns-in-Err-reply_made-clause-met g c =
-    let known = subst (λ n. HoldsInSome n (g.T.Versions.words.shown c.pin.new.seat).held) c.in_default.ensures.number
+    let known = subst (λ n. HoldsInSomeHistory n (g.T.Versions.words.shown c.pin.new.seat).held) c.in_default.ensures.number
     (g.T.Versions.words.known c.pin.new.seat, c.in_default.ensures.known) in
     pin_given_back _ _ _ _ _ _ _ _ c.in_default.ensures.pin known c.in-Some.ensures.lent c.release.ensures.release c.refusal.ensures
-
-pub returns-in-Err-clause-seat : goal.returns-in-Err-clause-seat
-returns-in-Err-clause-seat g c =
-    let e = c.in-Err.ensures in
-    record { fits = e.fits; number = e.number; learns = learns_unpinned _ _ _ _ c.in-Err.fault e.pin e.grows }
-
-pub returns-in-Ok-clause-seat : goal.returns-in-Ok-clause-seat
-returns-in-Ok-clause-seat g c =
-    let e = c.in_default.ensures in
-    record { fits = e.fits; number = e.number; learns = learns_pinned _ _ _ _ _ e.pin e.grows e.known }
 
 pub returns-in-Err-reply_made-clause-seat : goal.returns-in-Err-reply_made-clause-seat
 returns-in-Err-reply_made-clause-seat g c =

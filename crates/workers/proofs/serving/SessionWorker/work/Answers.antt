@@ -23,7 +23,8 @@ loop-preserved g c =
     let words = sessions_of c.args.self.now.session_server.form g.C.Client.words g.C.Reader.Read.remaining g.C.Writer.Write.contents
     g.T.Versions.words in
     let was = c.loop.invariant in
-    let one = c.serve_client-streams in
+    let one = c.serve_client-session in
+    let noted = c.close_client in
     let asked = g.O.Orders.asked in
     record {
       next = tt;
@@ -31,19 +32,19 @@ loop-preserved g c =
       queue = c.in-Some-next.ensures.queue ∙ was.queue;
       route = one.ensures.route ∙ was.route;
       fits = one.ensures.fits;
-      served = serves_next words _ _ c.loop.served one.new.served c.in-Some-next.client one.result
+      served = serves_next words _ _ c.loop.served noted.new.served c.in-Some-next.client one.result
           (worker_state c.args.seat (asked c.args.orders)) (worker_state c.loop.seat (asked c.loop.orders)) (worker_state one.new.seat (asked one.new.orders))
-          was.served c.in-Some-next.ensures.taken one.ensures.served one.ensures.session;
+          was.served c.in-Some-next.ensures.taken noted.ensures one.ensures.session;
     }
 
 -- what was served may be closed
-pub close-requires-clause-closes : goal.close-requires-clause-closes
-close-requires-clause-closes g c =
+pub close_client-requires : goal.close_client-requires
+close_client-requires g c =
     let words = sessions_of c.args.self.now.session_server.form g.C.Client.words g.C.Reader.Read.remaining g.C.Writer.Write.contents
     g.T.Versions.words in
-    let one = c.serve_client-streams in
+    let one = c.serve_client-session in
     let asked = g.O.Orders.asked in
-    λ lifetimes outlive. may_close words c.loop.taker.taken c.loop.served c.in-Some-next.client one.result.0 one.result.1
+    λ lifetimes outlive. may_close words c.loop.taker.taken c.loop.served c.in-Some-next.client one.result
     (worker_state c.args.seat (asked c.args.orders)) (worker_state c.loop.seat (asked c.loop.orders)) (worker_state one.new.seat (asked one.new.orders))
     c.requires.ready.closes c.loop.invariant.served one.ensures.session
 
