@@ -111,6 +111,7 @@ module _ (rows : List Row) where
   AsksDepartures departures.Summary = DeparturesFlags true false false
   AsksDepartures departures.Json = DeparturesFlags false true false
   AsksDepartures departures.JsonPoints = DeparturesFlags false true true
+  AsksDepartures departures.JsonSummary = DeparturesFlags true true false
 
   abbrev pub HasCriterion : CriterionName → Type 0
   HasCriterion criterion = Spells rows (codes "criterion") (λ text. text ≡ name_text criterion)
@@ -175,6 +176,7 @@ module _ (rows : List Row) where
       × HasPlan (is_given rows (codes "strict")) r.plan
       × (r.progress ≡ is_given rows (codes "progress"))
       × (r.all_faults ≡ is_given rows (codes "all-faults"))
+      × (r.json ≡ is_given rows (codes "json"))
 
   -- a number of seconds that may be left out
   abbrev pub HasSeconds : Text → Option Seconds → Type 0

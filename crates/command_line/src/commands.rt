@@ -386,7 +386,7 @@ const OTHER_TASKS: [Task; 6] = [
         name: "build",
         about: "Builds the image of a GTFS feed, and prints its counts",
         notes: texts::BUILD,
-        arguments: &[&FOLDER, &OUT, &DAYS, &BUILD, &FAULTS, &WARNINGS],
+        arguments: &[&FOLDER, &OUT, &DAYS, &BUILD, &FAULTS, &JSON, &WARNINGS],
     },
     Task {
         name: "upgrade",

@@ -106,9 +106,8 @@ fixed:-18000, at most 86399 either way"
 }
 
 /// Options that may not stand together.
-const APART: [(&str, &str); 4] = [
+const APART: [(&str, &str); 3] = [
     ("summary", "no-journeys"),
-    ("json", "summary"),
     ("names", "legs"),
     ("json", "names"),
 ];

@@ -277,6 +277,7 @@ fn departures_form(matches: &ArgMatches<'_>) -> Option<DeparturesForm>
         (true, false, false) => Some(DeparturesForm::Summary),
         (false, true, false) => Some(DeparturesForm::Json),
         (false, true, true) => Some(DeparturesForm::JsonPoints),
+        (true, true, false) => Some(DeparturesForm::JsonSummary),
         _ => None,
     }
 }
@@ -318,6 +319,7 @@ fn build_request<'a>(matches: &ArgMatches<'a>) -> Option<BuildRequest<'a>>
         plan: plan_at(matches, is_given(matches, "strict"))?,
         progress: is_given(matches, "progress"),
         all_faults: is_given(matches, "all-faults"),
+        json: is_given(matches, "json"),
     })
 }
 

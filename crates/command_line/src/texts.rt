@@ -134,6 +134,8 @@ or if --until is after the day of its last; --no-warnings leaves it out.\n\
 Example: csa departures examples/base.csa --to C --after 08:00:00 --until 08:12:00 --by 10:00:00 \
 --criterion arrival\n\
 With --summary a line is: A points 1 first 08:00:00 last 08:00:00 least 1200 walk none\n\
+and with --json too: {\"first\":\"08:00:00\",\"from\":\"A\",\"last\":\"08:00:00\",\"least\":1200,\
+\"points\":1,\"walk\":null}\n\
 With --json it is: {\"from\":\"A\",\"points\":[{\"arr\":\"08:20:00\",\"dep\":\"08:00:00\",\
 \"journey\":\"ride 0 0 walk 1 1 0 ride 2 2\"}],\"walk\":null}\n\
 and at the end: {\"points\":2,\"read\":3,\"stops\":2}";
@@ -182,7 +184,9 @@ The counts lifted, flex and frequencies include trips that run on none of the da
 With --progress standard error has two lines for each file and each phase: when it begins, and when it is done, with\n\
 the file's bytes and lines or the phase's counts, and the seconds that it took. On a terminal one line is rewritten.\n\
 \n\
-Example: csa build examples/base base.csa --first 20240115 --days 1 --zone fixed:0 --progress";
+Example: csa build examples/base base.csa --first 20240115 --days 1 --zone fixed:0 --progress\n\
+With --json: {\"connections\":3,\"flex\":0,\"footpaths\":3,\"frequencies\":0,\"lifted\":0,\"runs\":2,\
+\"skipped\":0,\"stops\":3}";
 
 pub(crate) const SERVE: &str =
     "The image is version 1. The days and the zone are those of the feeds that are loaded. A warning says if the\n\

@@ -75,6 +75,8 @@ pub enum DeparturesForm {
     Json,
     /// A line of JSON for all of them, without journeys.
     JsonPoints,
+    /// The summary as a line of JSON.
+    JsonSummary,
 }
 
 /// The image; the stops to go to, to any of which journeys may lead, by their names; when, in seconds after the image's
@@ -205,6 +207,8 @@ pub struct BuildRequest<'a> {
     pub progress: bool,
     /// Whether all faults of a feed that is refused are reported, or the first alone.
     pub all_faults: bool,
+    /// Whether the counts are printed as JSON.
+    pub json: bool,
 }
 
 /// A feed that may be loaded by its name.

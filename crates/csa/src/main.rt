@@ -4,10 +4,10 @@
 mod source_sum;
 
 use crate::source_sum::SOURCES;
-use csa_program::{WatchedWriter, explain_no_words, print_sources, run};
+use csa_program::{ShownWriter, WatchedWriter, explain_no_words, print_sources, run};
 use std::env;
 use std::fs::File;
-use std::io::ErrorKind;
+use std::io::{ErrorKind, IsTerminal};
 use std::process::ExitCode;
 use std::rt::Env;
 
@@ -31,7 +31,9 @@ fn main(rt: HostRuntime) -> ExitCode {
         }
     };
     let mut input = rt.stdin();
-    let mut output = WatchedWriter::of(rt.stdout());
+    let stdout = rt.stdout();
+    let is_terminal = stdout.is_terminal();
+    let mut output = WatchedWriter::of(ShownWriter::of(stdout, is_terminal));
     let status = run(&rt, words.as_slice(), &mut input, &mut output, &mut errors);
     if status == 0 && asks_version(&words) {
         return ExitCode::from(print_sources(SOURCES, &mut output, &mut errors));

@@ -30,7 +30,7 @@ module _ (may_hold : List ℕ → Option (List ℕ) → Type 0) (disk : OutFiles
   pub table_over : (image : ImageValue) (opened after : Option (List ℕ)) → HoldsOfBytes may_hold request.image.now input (SpellsImage image)
       → opened ≡ before → EndsTable status → (status ≡ ACCEPTED → IsTablePrinted may_hold disk image request opened after)
       → (status ≡ REFUSED → IsTableRefused may_hold image request opened after)
-      → (status ≡ COMMAND_LINE → IsTableUnlisted may_hold request opened after)
+      → (status ≡ COMMAND_LINE → IsTableUnlisted may_hold image request opened after)
       → ((status ≡ INPUT_OUTPUT) ⊎ (status ≡ OUT_OF_MEMORY) → IsTableCutShort may_hold image request opened after)
       → (request.out.now ≢ codes "-" → status ≡ OUT_OF_MEMORY → after ≡ opened) → IsTableEnd may_hold disk input request status before after
   table_over image opened after held kept ends printed refused unlisted cut silent =
@@ -38,7 +38,7 @@ module _ (may_hold : List ℕ → Option (List ℕ) → Type 0) (disk : OutFiles
         ends = ends;
         printed = λ is. (image, held, printed is);
         refused = λ is. inr (image, held, refused is);
-        unlisted = unlisted;
+        unlisted = λ is. (image, held, unlisted is);
         cut = λ is. inr (inr (image, held, cut is));
         silent = silent;
       })

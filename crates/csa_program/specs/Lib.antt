@@ -4,4 +4,5 @@ pub mod Hosting
 pub mod Logging
 pub mod Running
 pub mod Serving
+pub mod Showing
 pub mod Watching

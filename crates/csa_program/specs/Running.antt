@@ -11,7 +11,7 @@ use Rattle.command_requests.specs.declared.requests.CommandRequest.{CommandReque
 use Rattle.command_requests.specs.declared.requests.CommandRequest.TheVariants as requests
 use Rattle.command_requests.specs.declared.requests.MatrixRequest.{MatrixRequest}
 use Rattle.command_requests.specs.declared.statuses.TheConstants.{ACCEPTED, COMMAND_LINE, INPUT_OUTPUT, OUT_OF_MEMORY, REFUSED}
-use Rattle.feed_commands.specs.Building.{IsReportLine}
+use Rattle.feed_commands.specs.Building.{IsReport}
 use Rattle.image_commands.specs.Commands.{PrintsAsked, PrintsDepartures, PrintsProfile}
 use Rattle.command_endings.specs.Ending.{IsBegun, IsOutcome, PrintsOnly}
 use Rattle.feed_commands.specs.Folders.{AreDaysOf, IsBuildRefusal, IsTablesRefusalOf}
@@ -32,7 +32,8 @@ pub record IsTableEnd (may_hold : List ℕ → Option (List ℕ) → Type 0) (di
       → ((line : List ℕ) × IsRefusedImage may_hold request.image.now input line × Appends before after line)
       ⊎ ((image : ImageValue) × HoldsOfBytes may_hold request.image.now input (SpellsImage image)
       × IsTableRefused may_hold image request before after)
-  pub unlisted : status ≡ COMMAND_LINE → IsTableUnlisted may_hold request before after
+  pub unlisted : status ≡ COMMAND_LINE → (image : ImageValue) × HoldsOfBytes may_hold request.image.now input (SpellsImage image)
+      × IsTableUnlisted may_hold image request before after
   -- a file or a line can't be read or written, or memory ran out
   pub cut : (status ≡ INPUT_OUTPUT) ⊎ (status ≡ OUT_OF_MEMORY)
       → (after ≡ before)
@@ -57,7 +58,7 @@ module _ {D : Type 0} (may_hold : List ℕ → Option (List ℕ) → Type 0) (gi
   IsEnd (requests.Stations request) =
       IsOutcome (PrintsOfFeed (IsTextOf gives request.folder.now request) (IsStopsRefusal gives request.folder.now))
   IsEnd (requests.Build request) =
-      IsOutcome (PrintsOfFeed (IsReportLine gives may_hold disk request) (IsBuildRefusal gives request.folder.now may_hold request.plan))
+      IsOutcome (PrintsOfFeed (IsReport gives may_hold disk request) (IsBuildRefusal gives request.folder.now may_hold request.plan))
   IsEnd (requests.Stops request) = IsOutcome (PrintsOver may_hold request.image.now input (λ i. PrintsAsked may_hold disk i (images.Stops request)))
   IsEnd (requests.Upgrade request) = IsOutcome (PrintsOver may_hold request.image.now input (λ i. PrintsAsked may_hold disk i (images.Upgrade request)))
   IsEnd (requests.Serve request) = λ status before after. Unit {0}

@@ -1,7 +1,9 @@
 //! The body of the program `csa`: words, a reader and two writers in, an exit status out.
 #![tactic(auto)]
 
-ghost use Rattle.std.specs.Prelude.{Result, map};
+ghost use Rattle.std.specs.Prelude.{◌≡◌, ◌⊎◌, ◌++◌, Result, codes, map};
+ghost use Rattle.std.specs.Io.KnownBytes.{Appends};
+ghost use Rattle.command_requests.specs.declared.statuses.TheConstants.{ACCEPTED, INPUT_OUTPUT};
 ghost use Rattle.command_line.specs.declared.reading.NoCommand.{NoCommand};
 ghost use Rattle.command_requests.specs.declared.requests.CommandRequest.{CommandRequest};
 ghost use Rattle.image_commands.specs.Commands.{PrintsAsked, PrintsDepartures, PrintsProfile, path_of};
@@ -21,12 +23,14 @@ mod logging;
 mod machine;
 mod requests;
 mod serve;
+mod showing;
 mod sockets;
 mod watching;
 
 pub use crate::asking::Asks;
 pub use crate::explaining::Explains;
 pub use crate::machine::Machine;
+pub use crate::showing::ShownWriter;
 pub use crate::watching::{Watched, WatchedWriter};
 use command_endings::status;
 use command_line::{NoCommand, wants_warnings};
@@ -81,7 +85,11 @@ const NO_MEMORY: &str = "csa: out of memory";
 
 /// Prints the checksum of the program's sources, below its version. The status is 0, or 3 if the line can't be written:
 /// `errors` says why, as for a command. It takes no memory.
-pub fn print_sources<O: Watched, E: Write>(sources: &str, output: &mut O, errors: &mut E) -> u8 {
+pub fn print_sources<O: Watched, E: Write>(sources: &str, output: &mut O, errors: &mut E) -> u8
+    ensures status { (result ≡ ACCEPTED) ⊎ (result ≡ INPUT_OUTPUT) }
+    ensures printed { result ≡ ACCEPTED → Appends (O.Write.contents output.old) (O.Write.contents output.new)
+        (codes "sources " ++ sources.now ++ codes "\n") }
+{
     let status = match write!(output, "sources {sources}\n") {
         Ok(()) => status::ACCEPTED,
         Err(_) => status::INPUT_OUTPUT,

@@ -1,5 +1,5 @@
-mod Commas
 mod Least
+mod LinesIfSome
 mod Sought
 mod Stops
 mod Summed

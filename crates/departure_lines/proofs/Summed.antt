@@ -1,38 +1,35 @@
--- A summary that was added to a text.
-use Rattle.std.proofs.Common.{◌≡◌, ◌<◌, ◌-◌, ℕ, List, [], ◌++◌, Option, length, map, get_or, refl, sym, ◌∙◌, ap, arith}
-use Rattle.std.proofs.lemmas.List.{append-nil}
+-- A summary of the points of a stop.
+use Rattle.std.proofs.Common.{◌≡◌, ◌<◌, ◌-◌, ℕ, List, Option, length, map, get_or, refl, sym, ◌∙◌, ap, arith}
 use Rattle.std.proofs.lemmas.Option.{slice_get_read}
 use Rattle.bags.specs.declared.point.Point.{Point}
+use Rattle.criteria.specs.Laws.{Rules}
 use Rattle.criteria.specs.declared.figures.Figures.{Figures}
-use Rattle.departure_lines.specs.Lines.{AddsSummary, IsLeast, sum_line, travel}
+use Rattle.image_layout.specs.Image.{ImageValue}
+use Rattle.profile_scan.specs.SetQuery.{SetQueryValue}
+use Rattle.answer_pictures.specs.Naming.{stop_bytes}
+use Rattle.text_pieces.specs.declared.form.Form.{Form}
+use Rattle.departure_lines.specs.Lines.{IsLeast, IsSummary, IsSummaryOf, travel}
+use Rattle.departure_lines.specs.Showing.{IsInForm, summary_form}
+use Rattle.departure_lines.specs.declared.stop_words.StopSummary.{StopSummary}
 
-module _ {V : Type 0} (figures : V → Figures) (name : List ℕ) (points : List (Point V)) (walk : Option ℕ) where
-  -- a stop without departures has none
-  pub no_summary : (old : List ℕ) → length points ≡ 0 → AddsSummary figures name points walk old old
-  no_summary old none = record {
-    text = [];
-    added = sym (append-nil old);
-    is = record { none = λ _. refl; some = λ lt. absurd (omega (arith, none, lt)) };
-  }
+pub summed : {V : Type 0} (figures : V → Figures) (points : List (Point V)) (walk : Option ℕ) (first last : Point V) (from to least : ℕ)
+    → 0 < length points → first ≡ get_or points 0 first → last ≡ get_or points (length points - 1) last
+    → IsLeast (map (travel figures) points) least → from ≡ first.departure → to ≡ last.departure
+    → IsSummaryOf figures points walk (record { points = length points; first = from; last = to; least = least; walk = walk })
+summed figures points walk first last from to least some begins ends is from_is to_is =
+    let made : ℕ → ℕ → StopSummary = λ a b. record { points = length points; first = a; last = b; least = least; walk = walk } in
+    record {
+      first = first;
+      last = last;
+      begins = slice_get_read points (length points) 0 first refl some begins;
+      ends = slice_get_read points (length points) (length points - 1) last refl (omega (arith, some)) ends;
+      least_is = is;
+      is = ap (λ n. made n to) from_is ∙ ap (λ n. made first.departure n) to_is;
+    }
 
-  pub summary_added : (first last : Point V) (from to least : ℕ) (old new : List ℕ) → 0 < length points → first ≡ get_or points 0 first
-      → last ≡ get_or points (length points - 1) last → IsLeast (map (travel figures) points) least
-      → from ≡ first.departure → to ≡ last.departure → new ≡ old ++ sum_line name (length points) from to least walk
-      → AddsSummary figures name points walk old new
-  summary_added first last from to least old new some begins ends is from_is to_is added = record {
-    text = sum_line name (length points) first.departure last.departure least walk;
-    added = added ∙ ap (λ n. old ++ sum_line name (length points) n to least walk) from_is
-        ∙ ap (λ n. old ++ sum_line name (length points) first.departure n least walk) to_is;
-    is = record {
-      none = λ none. absurd (omega (arith, none, some));
-      some = λ _. record {
-        first = first;
-        last = last;
-        least = least;
-        begins = slice_get_read points (length points) 0 first refl some begins;
-        ends = slice_get_read points (length points) (length points - 1) last refl (omega (arith, some)) ends;
-        least_is = is;
-        text_is = refl;
-      };
-    };
-  }
+-- a summary is in the form of summaries
+pub summary_in_form : {V : Type 0} (figures : V → Figures) (rules : Rules V) (form : Form) (image : ImageValue) (b : SetQueryValue) (stop : ℕ)
+    (points : List (Point V)) (walk : Option ℕ) (text : List ℕ) → IsSummary figures form (stop_bytes image.names stop) points walk text
+    → IsInForm figures rules (summary_form form) image b stop points walk text
+summary_in_form figures rules Form.Lines image b stop points walk text is = is
+summary_in_form figures rules Form.Json image b stop points walk text is = is

@@ -1,10 +1,14 @@
 -- The lines of the best departures from a stop.
-use Rattle.std.specs.Prelude.{◌≡◌, ◌-◌, ◌<◌, ◌≤◌, ℕ, List, [], ◌++◌, Option, Some, Contains, codes, decimal, length, map, slice_get}
+use Rattle.std.specs.Prelude.{◌≡◌, ◌-◌, ◌≤◌, ℕ, List, [], ◌++◌, Option, None, Some, MatchOption, Contains, codes, decimal, length, map}
+use Rattle.std.specs.Prelude.{slice_get}
 use Rattle.bags.specs.declared.point.Point.{Point}
 use Rattle.criteria.specs.declared.figures.Figures.{Figures}
 use Rattle.timetable.specs.Clocks.{clock_bytes}
 use Rattle.journeys.specs.declared.answering.Departure.{Departure}
+use Rattle.text_pieces.specs.declared.form.Form.{Form}
+use Rattle.departure_lines.specs.Json.{sum_json}
 use Rattle.departure_lines.specs.Words.{departure_line, numbered_text, values_text, walk_word}
+use Rattle.departure_lines.specs.declared.stop_words.StopSummary.{StopSummary}
 
 -- the line of a best departure from a stop, after the stop_id
 unfoldable pub line_from : {V : Type 0} → (V → Figures) → List ℕ → Departure V → List ℕ
@@ -23,35 +27,36 @@ pub record IsLeast (numbers : List ℕ) (least : ℕ) : Type 0 where
   pub reached : Contains numbers least
   pub none_less : (n : ℕ) → Contains numbers n → least ≤ n
 
-unfoldable pub sum_words : List ℕ → ℕ → ℕ → ℕ → List ℕ
-sum_words name count first last =
-    name ++ (codes " points " ++ decimal count) ++ (codes " first " ++ clock_bytes first) ++ (codes " last " ++ clock_bytes last)
+unfoldable pub sum_words : List ℕ → StopSummary → List ℕ
+sum_words name summary =
+    name ++ (codes " points " ++ decimal summary.points) ++ (codes " first " ++ clock_bytes summary.first) ++ (codes " last " ++ clock_bytes summary.last)
 
-unfoldable pub sum_line : List ℕ → ℕ → ℕ → ℕ → ℕ → Option ℕ → List ℕ
-sum_line name count first last least walk =
-    sum_words name count first last ++ (codes " least " ++ decimal least) ++ walk_word walk ++ codes "\n"
+unfoldable pub sum_line : List ℕ → StopSummary → List ℕ
+sum_line name summary = sum_words name summary ++ (codes " least " ++ decimal summary.least) ++ walk_word summary.walk ++ codes "\n"
 
--- the line of a stop: the number of its departures, the first, the last, the least seconds of travel, and those of the direct footpath
-pub record IsSummed {V : Type 0} (figures : V → Figures) (name : List ℕ) (points : List (Point V)) (walk : Option ℕ) (text : List ℕ) : Type 0 where
+-- the text of a summary, if there is one, as a line or as an object of JSON on one line
+abbrev pub summary_text : Form → List ℕ → Option StopSummary → List ℕ
+summary_text form name None = []
+summary_text Form.Lines name (Some summary) = sum_line name summary
+summary_text Form.Json name (Some summary) = sum_json name summary
+
+-- what the points of a stop come to: how many there are, the first, the last, the least seconds of travel, and those of the direct footpath
+pub record IsSummaryOf {V : Type 0} (figures : V → Figures) (points : List (Point V)) (walk : Option ℕ) (summary : StopSummary) : Type 0 where
   pub first : Point V
   pub last : Point V
-  pub least : ℕ
   pub begins : slice_get points 0 ≡ Some first
   pub ends : slice_get points (length points - 1) ≡ Some last
-  pub least_is : IsLeast (map (travel figures) points) least
-  pub text_is : text ≡ sum_line name (length points) first.departure last.departure least walk
+  pub least_is : IsLeast (map (travel figures) points) summary.least
+  pub is : summary ≡ record summary { points = length points; first = first.departure; last = last.departure; walk = walk }
 
--- a stop without departures has no line
-pub record IsSummary {V : Type 0} (figures : V → Figures) (name : List ℕ) (points : List (Point V)) (walk : Option ℕ) (text : List ℕ) : Type 0 where
-  pub none : length points ≡ 0 → text ≡ []
-  pub some : 0 < length points → IsSummed figures name points walk text
+-- a stop without departures has no summary
+abbrev pub SumsUp : {V : Type 0} → (V → Figures) → List (Point V) → Option ℕ → Option StopSummary → Type 0
+SumsUp figures points walk summary = MatchOption summary (length points ≡ 0) (IsSummaryOf figures points walk)
 
--- such a text was added
-pub record AddsSummary {V : Type 0} (figures : V → Figures) (name : List ℕ) (points : List (Point V)) (walk : Option ℕ)
-    (old new : List ℕ) : Type 0 where
-  pub text : List ℕ
-  pub added : new ≡ old ++ text
-  pub is : IsSummary figures name points walk text
+-- the text is that of the summary
+abbrev pub IsSummary : {V : Type 0} → (V → Figures) → Form → List ℕ → List (Point V) → Option ℕ → List ℕ → Type 0
+IsSummary figures form name points walk text =
+    (summary : Option StopSummary) × SumsUp figures points walk summary × (text ≡ summary_text form name summary)
 
 -- the last line: how many stops have a line, how many points, and how many connections were read
 unfoldable pub counts_line : ℕ → ℕ → ℕ → List ℕ

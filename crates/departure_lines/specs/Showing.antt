@@ -8,6 +8,7 @@ use Rattle.timetable.specs.TimetableValue.{TimetableValue}
 use Rattle.timetable.specs.declared.network.Footpath.{Footpath}
 use Rattle.image_layout.specs.Image.{ImageValue}
 use Rattle.answer_pictures.specs.Naming.{stop_bytes}
+use Rattle.text_pieces.specs.declared.form.Form.{Form}
 use Rattle.profile_scan.specs.SetQuery.{SetQueryValue, IsAnswerBetween, IsDirectWalk, secs_of}
 use Rattle.profile_scan.specs.Origins.{from_stop}
 use Rattle.profile_scan.specs.Window.{window_of}
@@ -29,13 +30,18 @@ pub record HasJourneys {V : Type 0} (rules : Rules V) (t : TimetableValue) (b : 
   pub attained : (departure : Departure V) → Contains departures departure → AttainsBetween rules t b (point_of departure) departure.journey
   pub holds : said departures
 
+abbrev pub summary_form : Form → LineForm
+summary_form Form.Lines = LineForm.Summary
+summary_form Form.Json = LineForm.JsonSummary
+
 -- the text of a stop's points, in a form
 abbrev pub IsInForm : {V : Type 0} → (V → Figures) → Rules V → LineForm → ImageValue → SetQueryValue → ℕ → List (Point V) → Option ℕ → List ℕ → Type 0
 IsInForm figures rules LineForm.Journeys image b stop points walk text =
     HasJourneys rules image.timetable (from_stop b stop) points
     (λ departures. text ≡ flat_map (line_from figures (stop_bytes image.names stop)) departures)
 IsInForm figures rules LineForm.Points image b stop points walk text = text ≡ flat_map (point_line figures (stop_bytes image.names stop)) points
-IsInForm figures rules LineForm.Summary image b stop points walk text = IsSummary figures (stop_bytes image.names stop) points walk text
+IsInForm figures rules LineForm.Summary image b stop points walk text = IsSummary figures Form.Lines (stop_bytes image.names stop) points walk text
+IsInForm figures rules LineForm.JsonSummary image b stop points walk text = IsSummary figures Form.Json (stop_bytes image.names stop) points walk text
 IsInForm figures rules LineForm.Json image b stop points walk text =
     HasJourneys rules image.timetable (from_stop b stop) points
     (λ departures. text ≡ json_if_some (stop_bytes image.names stop) (map (journey_json figures) departures) walk)
@@ -91,6 +97,7 @@ pub record AddsStops {V : Type 0} (figures : V → Figures) (rules : Rules V) (f
 abbrev pub last_line : LineForm → ℕ → ℕ → ℕ → List ℕ
 last_line LineForm.Json stops points read = counts_json_line stops points read
 last_line LineForm.JsonPoints stops points read = counts_json_line stops points read
+last_line LineForm.JsonSummary stops points read = counts_json_line stops points read
 last_line LineForm.Journeys stops points read = counts_line stops points read
 last_line LineForm.Points stops points read = counts_line stops points read
 last_line LineForm.Summary stops points read = counts_line stops points read

@@ -10,6 +10,8 @@ pub enum LineForm {
     /// A line for all of them, with their number, the first, the last, the least seconds of travel, and the
     /// seconds of the direct footpath.
     Summary,
+    /// The same as a line of JSON.
+    JsonSummary,
     /// A line of JSON for all of them, with their journeys and the seconds of the direct footpath.
     Json,
     /// The same line of JSON without journeys.

@@ -1,20 +1,18 @@
 //! A stop's best departures as JSON.
 
-ghost use Rattle.std.specs.Prelude.{◌≡◌, ◌++◌, IfOk, OnOk, map, string_bytes};
-ghost use Rattle.serde_json.specs.Data.{string};
-ghost use Rattle.serde_json.specs.Written.{compact_text};
-ghost use Rattle.departure_lines.specs.Json.{comma_before, counts_json, counts_json_line, journey_json};
-ghost use Rattle.departure_lines.specs.Json.{journey_member};
-ghost use Rattle.departure_lines.specs.Json.{json_head, json_if_some, json_tail, point_json, times_json};
-ghost use Rattle.departure_lines.specs.Json.{walk_json, with_commas};
+ghost use Rattle.std.specs.Prelude.{◌≡◌, ◌++◌, OnOk, map, string_bytes};
+ghost use Rattle.text_pieces.specs.Json.{with_commas};
+ghost use Rattle.departure_lines.specs.Json.{counts_json, counts_json_line, journey_json, journey_member};
+ghost use Rattle.departure_lines.specs.Json.{json_head, json_if_some, json_tail, point_json, sum_head, sum_json};
+ghost use Rattle.departure_lines.specs.Json.{times_json, walk_json};
 
 use crate::listing::append_number;
+use crate::stop_words::StopSummary;
 use bags::Point;
 use criteria::{Figures, ShowsFigures};
 use journeys::{Departure, journey_string};
-use serde_json::Value;
 use std::alloc::{AllocError, Global};
-use text_pieces::{put_clock, put_number, put_text};
+use text_pieces::{put_clock, put_comma, put_number, put_quoted, put_text};
 
 /// Adds the line of the stop called `name`, if it has departures, with their journeys and the seconds of the
 /// direct footpath.
@@ -22,12 +20,12 @@ pub fn append_json<C: ShowsFigures>(
     lines: &mut String,
     alloc: Global,
     criterion: &C,
-    name: String,
+    name: &str,
     departures: &[Departure<C::V>],
     walk: Option<u32>,
 ) -> Result<(), AllocError>
     ensures { OnOk result (string_bytes lines.new ≡ string_bytes lines.old
-        ++ json_if_some (string_bytes name) (map (journey_json C.figures) departures.now) walk) }
+        ++ json_if_some name.now (map (journey_json C.figures) departures.now) walk) }
 {
     if departures.len() == 0 {
         return Ok(());
@@ -43,12 +41,12 @@ pub fn append_json_points<C: ShowsFigures>(
     lines: &mut String,
     alloc: Global,
     criterion: &C,
-    name: String,
+    name: &str,
     points: &[Point<C::V>],
     walk: Option<u32>,
 ) -> Result<(), AllocError>
     ensures { OnOk result (string_bytes lines.new ≡ string_bytes lines.old
-        ++ json_if_some (string_bytes name) (map (point_json C.figures) points.now) walk) }
+        ++ json_if_some name.now (map (point_json C.figures) points.now) walk) }
 {
     if points.len() == 0 {
         return Ok(());
@@ -59,23 +57,44 @@ pub fn append_json_points<C: ShowsFigures>(
     Ok(())
 }
 
-// Adds what comes before the points.
-fn append_head(lines: &mut String, alloc: Global, name: String) -> Result<(), AllocError>
-    ensures { OnOk result (string_bytes lines.new ≡ string_bytes lines.old ++ json_head (string_bytes name)) }
+/// Adds the line of the stop called `name` with what its departures come to.
+pub fn append_sum_json(
+    lines: &mut String,
+    alloc: Global,
+    name: &str,
+    summary: StopSummary,
+) -> Result<(), AllocError>
+    ensures { OnOk result (string_bytes lines.new ≡ string_bytes lines.old ++ sum_json name.now summary) }
 {
-    let quoted = quoted(alloc, name)?;
-    put_text(lines, "{\"from\":")?;
-    put_text(lines, quoted.as_str())?;
-    put_text(lines, ",\"points\":[")?;
+    append_sum_head(lines, alloc, name, summary)?;
+    put_number(lines, "\",\"least\":", u64::from(summary.least))?;
+    put_number(lines, ",\"points\":", summary.points as u64)?;
+    append_walk(lines, summary.walk)?;
+    put_text(lines, "}\n")?;
     Ok(())
 }
 
-// A text as JSON.
-fn quoted(alloc: Global, text: String) -> Result<String, AllocError>
-    ensures { IfOk result (λ quoted. string_bytes quoted ≡ compact_text (string (string_bytes text))) }
+fn append_sum_head(
+    lines: &mut String,
+    alloc: Global,
+    name: &str,
+    summary: StopSummary,
+) -> Result<(), AllocError>
+    ensures { OnOk result (string_bytes lines.new ≡ string_bytes lines.old ++ sum_head name.now summary) }
 {
-    let value = Value::String(text);
-    value.to_string(alloc)
+    put_clock(lines, "{\"first\":\"", summary.first)?;
+    put_quoted(lines, alloc, "\",\"from\":", name)?;
+    put_clock(lines, ",\"last\":\"", summary.last)?;
+    Ok(())
+}
+
+// Adds what comes before the points.
+fn append_head(lines: &mut String, alloc: Global, name: &str) -> Result<(), AllocError>
+    ensures { OnOk result (string_bytes lines.new ≡ string_bytes lines.old ++ json_head name.now) }
+{
+    put_quoted(lines, alloc, "{\"from\":", name)?;
+    put_text(lines, ",\"points\":[")?;
+    Ok(())
 }
 
 // Adds what comes after the points.
@@ -126,16 +145,6 @@ fn append_points<C: ShowsFigures>(
         append_point(lines, criterion, &points[index])?;
     }
     Ok(())
-}
-
-// Adds a comma, unless this is the first place.
-fn put_comma(lines: &mut String, index: usize) -> Result<(), AllocError>
-    ensures { OnOk result (string_bytes lines.new ≡ string_bytes lines.old ++ comma_before index) }
-{
-    if index == 0 {
-        return Ok(());
-    }
-    put_text(lines, ",")
 }
 
 fn append_journey<C: ShowsFigures>(

@@ -7,18 +7,19 @@ ghost use Rattle.journeys.specs.Extracted.{AttainsBetween};
 ghost use Rattle.departure_lines.specs.declared.form.LineForm.{LineForm};
 ghost use Rattle.profile_scan.specs.Everywhere.{AnswerToAny, asked_to_any, criterion_to_any, walk_to_any};
 ghost use Rattle.profile_scan.specs.Origins.{from_stop};
-ghost use Rattle.departure_lines.specs.Showing.{AddsStops, ShowsStop, is_shown, one_if_some};
+ghost use Rattle.departure_lines.specs.Showing.{AddsStops, ShowsStop, is_shown, one_if_some, summary_form};
 
 use crate::form::LineForm;
 use crate::stop_json::{append_json, append_json_points};
 use crate::stop_lists::WantedStops;
-use crate::stop_words::{append_lines, append_points, append_summary};
+use crate::stop_words::{append_lines, append_points, append_summary, summary_of};
 use answer_pictures::stop_name;
 use criteria::ShowsFigures;
 use image_verifier::Verified;
 use journeys::{Departure, departures_from};
 use profile_scan::{InPlace, ProfilesToAny};
 use std::alloc::{AllocError, Global};
+use text_pieces::Form;
 
 /// The answers from every stop of an image to any of several, and what is needed to print them.
 #[derive(Clone, Copy)]
@@ -133,9 +134,10 @@ fn append_stop<C: ShowsFigures>(
     match form {
         LineForm::Journeys => append_journeys(lines, shown, stop),
         LineForm::Points => append_bare(lines, shown, stop),
-        LineForm::Summary => append_summed(lines, shown, stop),
+        LineForm::Summary => append_summed(lines, shown, Form::Lines, stop),
         LineForm::Json => append_as_json(lines, shown, stop),
         LineForm::JsonPoints => append_bare_json(lines, shown, stop),
+        LineForm::JsonSummary => append_summed(lines, shown, Form::Json, stop),
     }
 }
 
@@ -185,19 +187,20 @@ fn append_bare<C: ShowsFigures>(
 fn append_summed<C: ShowsFigures>(
     lines: &mut String,
     shown: &AnswersToPrint<'_, C>,
+    form: Form,
     stop: u32,
 ) -> Result<usize, AllocError>
     requires stop { stop < shown.now.image.now.timetable.stops }
     requires differ { Contains (asked_to_any shown.now.profiles.now).targets stop → ⊥ }
     requires same { criterion_to_any shown.now.profiles.now ≡ shown.now.criterion.now }
     requires answered { AnswerToAny C.rules shown.now.image.now.timetable shown.now.profiles.now }
-    ensures { IfOk result (ShowsStop C.figures (C.rules shown.now.criterion.now) LineForm.Summary shown.now.image.now
+    ensures { IfOk result (ShowsStop C.figures (C.rules shown.now.criterion.now) (summary_form form) shown.now.image.now
         (asked_to_any shown.now.profiles.now) stop (string_bytes lines.old) (string_bytes lines.new)) }
 {
     let name = stop_name(shown.alloc, shown.image, stop)?;
     let points = shown.profiles.points(stop);
-    let walk = direct_secs(shown, stop);
-    append_summary(lines, shown.criterion, name.as_str(), points, walk)?;
+    let summary = summary_of(shown.criterion, points, direct_secs(shown, stop));
+    append_summary(lines, shown.alloc, form, name.as_str(), summary)?;
     Ok(points.len())
 }
 
@@ -216,7 +219,14 @@ fn append_as_json<C: ShowsFigures>(
     let name = stop_name(shown.alloc, shown.image, stop)?;
     let departures = journeys_from(shown, stop)?;
     let walk = direct_secs(shown, stop);
-    append_json(lines, shown.alloc, shown.criterion, name, &departures, walk)?;
+    append_json(
+        lines,
+        shown.alloc,
+        shown.criterion,
+        name.as_str(),
+        &departures,
+        walk,
+    )?;
     Ok(departures.len())
 }
 
@@ -236,7 +246,14 @@ fn append_bare_json<C: ShowsFigures>(
     let name = stop_name(shown.alloc, shown.image, stop)?;
     let points = shown.profiles.points(stop);
     let walk = direct_secs(shown, stop);
-    append_json_points(lines, shown.alloc, shown.criterion, name, points, walk)?;
+    append_json_points(
+        lines,
+        shown.alloc,
+        shown.criterion,
+        name.as_str(),
+        points,
+        walk,
+    )?;
     Ok(points.len())
 }
 

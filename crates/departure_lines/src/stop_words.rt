@@ -2,15 +2,16 @@
 
 ghost use Rattle.std.specs.Prelude.{◌≡◌, ◌<◌, ◌++◌, OnOk, length, map, string_bytes};
 ghost use Rattle.std.specs.List.{flat_map};
-ghost use Rattle.departure_lines.specs.Lines.{AddsSummary, IsLeast, counts_line, line_from, point_line, sum_words};
-ghost use Rattle.departure_lines.specs.Lines.{travel};
+ghost use Rattle.departure_lines.specs.Lines.{IsLeast, SumsUp, counts_line, line_from, point_line, sum_line};
+ghost use Rattle.departure_lines.specs.Lines.{sum_words, summary_text, travel};
 
 use crate::listing::{append_by_numbers, append_direct, append_values};
+use crate::stop_json::append_sum_json;
 use bags::Point;
 use criteria::ShowsFigures;
 use journeys::Departure;
 use std::alloc::{AllocError, Global};
-use text_pieces::{put_clock, put_number, put_text};
+use text_pieces::{Form, put_clock, put_number, put_text};
 
 /// Adds the line of each departure from the stop called `name`, with its journey.
 pub fn append_lines<C: ShowsFigures>(
@@ -77,43 +78,74 @@ fn append_point_line<C: ShowsFigures>(
     Ok(())
 }
 
-/// Adds one line for all departures, if there are any.
-pub fn append_summary<C: ShowsFigures>(
-    lines: &mut String,
+/// What the best departures from a stop come to.
+#[derive(Clone, Copy)]
+pub struct StopSummary {
+    pub points: usize,
+    pub first: u32,
+    pub last: u32,
+    /// The least seconds from a departure to its arrival.
+    pub least: u32,
+    /// The seconds of the direct footpath, if there is one.
+    pub walk: Option<u32>,
+}
+
+/// What the best departures from a stop come to, if there are any.
+pub fn summary_of<C: ShowsFigures>(
     criterion: &C,
-    name: &str,
     points: &[Point<C::V>],
     walk: Option<u32>,
-) -> Result<(), AllocError>
-    ensures { OnOk result (AddsSummary C.figures name.now points.now walk (string_bytes lines.old)
-        (string_bytes lines.new)) }
+) -> Option<StopSummary>
+    ensures { SumsUp C.figures points.now walk result }
 {
     if points.len() == 0 {
-        return Ok(());
+        return None;
     }
-    let least = least_travel(criterion, points);
-    let first = points[0].departure;
-    let last = points[points.len() - 1].departure;
-    append_sum_words(lines, name, points.len(), first, last)?;
-    put_number(lines, " least ", u64::from(least))?;
-    append_direct(lines, walk)?;
+    Some(StopSummary {
+        points: points.len(),
+        first: points[0].departure,
+        last: points[points.len() - 1].departure,
+        least: least_travel(criterion, points),
+        walk,
+    })
+}
+
+/// Adds one line for all departures, or one of JSON, if there are any.
+pub fn append_summary(
+    lines: &mut String,
+    alloc: Global,
+    form: Form,
+    name: &str,
+    summary: Option<StopSummary>,
+) -> Result<(), AllocError>
+    ensures { OnOk result (string_bytes lines.new ≡ string_bytes lines.old ++ summary_text form name.now summary) }
+{
+    let Some(summary) = summary else {
+        return Ok(());
+    };
+    match form {
+        Form::Lines => append_sum_line(lines, name, summary),
+        Form::Json => append_sum_json(lines, alloc, name, summary),
+    }
+}
+
+fn append_sum_line(lines: &mut String, name: &str, summary: StopSummary) -> Result<(), AllocError>
+    ensures { OnOk result (string_bytes lines.new ≡ string_bytes lines.old ++ sum_line name.now summary) }
+{
+    append_sum_words(lines, name, summary)?;
+    put_number(lines, " least ", u64::from(summary.least))?;
+    append_direct(lines, summary.walk)?;
     put_text(lines, "\n")?;
     Ok(())
 }
 
-fn append_sum_words(
-    lines: &mut String,
-    name: &str,
-    count: usize,
-    first: u32,
-    last: u32,
-) -> Result<(), AllocError>
-    ensures { OnOk result (string_bytes lines.new ≡ string_bytes lines.old ++ sum_words name.now count first last) }
+fn append_sum_words(lines: &mut String, name: &str, summary: StopSummary) -> Result<(), AllocError>
+    ensures { OnOk result (string_bytes lines.new ≡ string_bytes lines.old ++ sum_words name.now summary) }
 {
     put_text(lines, name)?;
-    put_number(lines, " points ", count as u64)?;
-    put_clock(lines, " first ", first)?;
-    put_clock(lines, " last ", last)?;
+    put_number(lines, " points ", summary.points as u64)?;
+    put_clock(lines, " first ", summary.first)?;
+    put_clock(lines, " last ", summary.last)?;
     Ok(())
 }
 

@@ -75,7 +75,7 @@ fn append_last(
         ++ last_line form counts.stops counts.points read) }
 {
     match form {
-        LineForm::Json | LineForm::JsonPoints => {
+        LineForm::Json | LineForm::JsonPoints | LineForm::JsonSummary => {
             append_json_counts(lines, counts.stops, counts.points, read)
         }
         LineForm::Journeys | LineForm::Points | LineForm::Summary => {

@@ -23,9 +23,9 @@ use Rattle.gtfs_tables.specs.declared.tables.Tables.{Tables}
 use Rattle.timetable.specs.NamesValue.{NamesValue}
 use Rattle.timetable.specs.TimetableValue.{TimetableValue}
 use Rattle.feed_commands.specs.Building.{IfRefused}
-use Rattle.feed_commands.specs.Folders.{AreTablesOf, HoldsOfRead, IsBuildRefusal, IsBuiltFrom, MayBeOf, failed_as}
-use Rattle.feed_commands.specs.declared.build.Failure.{Failure}
-use Rattle.feed_commands.specs.declared.build.Failure.TheVariants.{Refused, Unreadable, Unwritten, OutOfMemory}
+use Rattle.feed_commands.specs.Folders.{AreTablesOf, HoldsOfRead, IsBuildRefusal, IsBuiltFrom, MayBeOf, MayFailAs, failed_as}
+use Rattle.feed_commands.specs.declared.build.BuildFailure.{BuildFailure}
+use Rattle.feed_commands.specs.declared.build.BuildFailure.TheVariants.{Refused, Unreadable, Unwritten, OutOfMemory}
 
 -- if nothing was read at first, then all that was read was read since
 read_since : (content : Content) (ts : List Table) {began then : List ℕ} {old new : List FileRead} → then ≡ began → old ≡ []
@@ -50,7 +50,7 @@ of_read_weaker A B follows read =
     }
 
 -- a weaker statement holds of the fault for which a feed isn't built
-pub refused_weaker : (failure : Failure) (A B : LoadFault → Type 0) → ((fault : LoadFault) → A fault → B fault)
+pub refused_weaker : (failure : BuildFailure) (A B : LoadFault → Type 0) → ((fault : LoadFault) → A fault → B fault)
     → IfRefused failure A → IfRefused failure B
 refused_weaker (Refused fault) A B follows is = λ unless. follows fault (is unless)
 refused_weaker (Unreadable path) A B follows is = tt
@@ -111,7 +111,7 @@ module _ {D : Type 0} (gives : Gives D) (disk : D) (state : Option NodeState) (f
       }
 
   -- why a feed isn't built, if nothing was read at first
-  pub build_refused : {T : Type 0} {known : Holds} (zone_file : List ℕ → Option (List ℕ) → Type 0) (result : Result T Failure) (asked : PlanText)
+  pub build_refused : {T : Type 0} {known : Holds} (zone_file : List ℕ → Option (List ℕ) → Type 0) (result : Result T BuildFailure) (asked : PlanText)
       (plan : Plan) (names since : List (List ℕ)) → began ≡ folder → old ≡ [] → names ≡ [] → IsPlanAsked zone_file asked plan
       → ∥ All (MayBeRead (gives disk then state)) new ∥₁ → ∥ All (MayFail (gives disk then state)) since ∥₁
       → IfErr result (λ failure. IfRefused failure (λ fault. SomeWereRead (opened began ∷ old) (opened then ∷ new)

@@ -1,10 +1,10 @@
--- The image that `csa build` makes, and the line that it prints of it.
-use Rattle.std.specs.Prelude.{◌≡◌, List, ℕ, ◌++◌, Option, codes, decimal}
+-- The image that `csa build` makes, and what it prints of it.
+use Rattle.std.specs.Prelude.{◌≡◌, Bool, false, true, List, ℕ, ◌++◌, Option, codes, decimal}
 use Rattle.connections.specs.declared.report.Report.{Report}
 use Rattle.feed_loader.specs.Refused.{IsWantOfMemory}
 use Rattle.feed_loader.specs.declared.fault.LoadFault.{LoadFault}
-use Rattle.feed_commands.specs.declared.build.Failure.{Failure}
-use Rattle.feed_commands.specs.declared.build.Failure.TheVariants.{Refused, Unreadable, Unwritten, OutOfMemory}
+use Rattle.feed_commands.specs.declared.build.BuildFailure.{BuildFailure}
+use Rattle.feed_commands.specs.declared.build.BuildFailure.TheVariants.{Refused, Unreadable, Unwritten, OutOfMemory}
 use Rattle.command_requests.specs.declared.requests.BuildRequest.{BuildRequest}
 use Rattle.feed_files.specs.Files.{Gives}
 use Rattle.image_files.specs.Out.{OutFiles}
@@ -14,7 +14,7 @@ use Rattle.timetable.specs.TimetableValue.{TimetableValue}
 use Rattle.feed_commands.specs.Folders.{IsBuiltFrom}
 
 -- if a feed isn't built because of a fault other than want of memory, then this holds of the fault
-abbrev pub IfRefused : Failure → (LoadFault → Type 0) → Type 0
+abbrev pub IfRefused : BuildFailure → (LoadFault → Type 0) → Type 0
 IfRefused (Refused fault) Is = ¬ (IsWantOfMemory fault) → Is fault
 IfRefused (Unreadable path) Is = Unit {0}
 IfRefused (Unwritten path kind) Is = Unit {0}
@@ -35,9 +35,28 @@ changed_text report =
 unfoldable pub report_line : Report → List ℕ
 report_line report = made_text report ++ changed_text report ++ codes "\n"
 
--- the image of the folder's files was put at the path that was asked for, and the line has its counts
-abbrev pub IsReportLine : {D : Type 0} → Gives D → (List ℕ → Option (List ℕ) → Type 0) → OutFiles → BuildRequest → List ℕ → Type 0
-IsReportLine gives may_hold disk request line =
+-- the same as an object of JSON on one line, whose keys are the words of the line in the order of their bytes
+unfoldable pub json_head : Report → List ℕ
+json_head report =
+    (codes "{\"connections\":" ++ decimal report.connections) ++ (codes ",\"flex\":" ++ decimal report.flex)
+    ++ (codes ",\"footpaths\":" ++ decimal report.footpaths) ++ (codes ",\"frequencies\":" ++ decimal report.frequencies)
+
+unfoldable pub json_tail : Report → List ℕ
+json_tail report =
+    (codes ",\"lifted\":" ++ decimal report.lifted) ++ (codes ",\"runs\":" ++ decimal report.runs)
+    ++ (codes ",\"skipped\":" ++ decimal report.skipped) ++ (codes ",\"stops\":" ++ decimal report.stops) ++ codes "}\n"
+
+abbrev pub report_json : Report → List ℕ
+report_json report = json_head report ++ json_tail report
+
+-- the one that is asked for
+abbrev pub report_asked : Bool → Report → List ℕ
+report_asked true report = report_json report
+report_asked false report = report_line report
+
+-- the image of the folder's files was put at the path that was asked for, and the text has its counts
+abbrev pub IsReport : {D : Type 0} → Gives D → (List ℕ → Option (List ℕ) → Type 0) → OutFiles → BuildRequest → List ℕ → Type 0
+IsReport gives may_hold disk request text =
     (t : TimetableValue) × (names : NamesValue) × (report : Report)
     × IsBuiltFrom gives request.folder.now may_hold request.plan t names report × IsImagePut disk request.out.now t names
-    × (line ≡ report_line report)
+    × (text ≡ report_asked request.json report)

@@ -1,4 +1,5 @@
-//! `csa build FOLDER OUT --first DAY --days N --zone ZONE [--strict] [--progress] [--all-faults] [--no-warnings]`.
+//! `csa build FOLDER OUT --first DAY --days N --zone ZONE [--strict] [--progress] [--all-faults] [--json]
+//! [--no-warnings]`.
 
 ghost use Rattle.std.specs.Prelude.{◌≡◌, ◌≤◌, ◌++◌, IfErr, IfOk, OnOk, string_bytes};
 ghost use Rattle.connections.specs.declared.days.TheConstants.{MAX_DAYS};
@@ -6,7 +7,8 @@ ghost use Rattle.feed_files.specs.Reading.{Content};
 ghost use Rattle.feed_files.specs.Reads.{AreRead, Shows, SomeWereRead, all_tables};
 ghost use Rattle.feed_loader.specs.Refused.{IsLoadRefusal, IsLoaded};
 ghost use Rattle.image_files.specs.Writing.{IsImagePut};
-ghost use Rattle.feed_commands.specs.Building.{IfRefused, IsReportLine, changed_text, made_text, report_line};
+ghost use Rattle.feed_commands.specs.Building.{IfRefused, IsReport, changed_text, json_head, json_tail, made_text};
+ghost use Rattle.feed_commands.specs.Building.{report_asked, report_json, report_line};
 ghost use Rattle.command_endings.specs.Ending.{IsOutcome, PrintsOnly};
 ghost use Rattle.feed_commands.specs.Folders.{IsBuildRefusal, IsBuiltFrom, failed_as};
 ghost use Rattle.feed_commands.specs.Refusing.{PrintsOfFeed};
@@ -27,7 +29,7 @@ use std::time::Clock;
 use text_pieces::{put_number, put_text};
 
 /// Why no image is written.
-enum Failure<'a> {
+enum BuildFailure<'a> {
     /// The feed isn't loaded, or the text or the file of the zone is wrong.
     Refused(LoadFault),
     /// The zone's file, at this path, can't be read.
@@ -53,7 +55,7 @@ pub fn run<
     is_terminal: bool,
     warnings: bool,
 ) -> u8
-    ensures { IsOutcome (PrintsOfFeed (IsReportLine H.gives (H.may_hold rt.now) (H.files rt.now) request.entry)
+    ensures { IsOutcome (PrintsOfFeed (IsReport H.gives (H.may_hold rt.now) (H.files rt.now) request.entry)
         (IsBuildRefusal H.gives request.entry.folder.now (H.may_hold rt.now) request.entry.plan)) result
         (O.contents output.old) (O.contents output.new) }
 {
@@ -69,17 +71,17 @@ pub fn run<
             if warnings {
                 warn(rt, folder, &request.plan.zone, &built, errors);
             }
-            print_counts(alloc, &built.report, output)
+            print_counts(alloc, &built.report, request.json, output)
         }
-        Err(Failure::Refused(fault)) => {
+        Err(BuildFailure::Refused(fault)) => {
             let (all, strict) = (request.all_faults, request.plan.strict);
             explain_faults(rt, folder, &fault, errors, all, strict);
             explain_day(rt, &request.plan, &fault, errors);
             refuse_feed(alloc, output, fault)
         }
-        Err(Failure::Unreadable(path)) => report_unread_zone(rt, errors, path),
-        Err(Failure::Unwritten(path, kind)) => status::report_unwritten(errors, path, kind),
-        Err(Failure::OutOfMemory) => status::OUT_OF_MEMORY,
+        Err(BuildFailure::Unreadable(path)) => report_unread_zone(rt, errors, path),
+        Err(BuildFailure::Unwritten(path, kind)) => status::report_unwritten(errors, path, kind),
+        Err(BuildFailure::OutOfMemory) => status::OUT_OF_MEMORY,
     }
 }
 
@@ -89,7 +91,7 @@ fn build<'a, 'c, H: OutDisk + ImageDisk<Image = H::File> + Disk + AllocGlobal + 
     request: &BuildRequest<'a>,
     log: Option<&'c mut E>,
     is_terminal: bool,
-) -> Result<BuiltImage, Failure<'a>>
+) -> Result<BuiltImage, BuildFailure<'a>>
     ensures built { IfOk result (λ built. IsBuiltFrom H.gives request.now.folder.now (H.may_hold rt.now)
         request.now.plan
         built.image.timetable built.image.names built.report) }
@@ -100,9 +102,9 @@ fn build<'a, 'c, H: OutDisk + ImageDisk<Image = H::File> + Disk + AllocGlobal + 
 {
     let plan = match plan_of(rt, &request.plan) {
         Ok(plan) => plan,
-        Err(PlanFailure::Refused(fault)) => return Err(Failure::Refused(fault)),
-        Err(PlanFailure::Unreadable(path)) => return Err(Failure::Unreadable(path)),
-        Err(PlanFailure::OutOfMemory) => return Err(Failure::OutOfMemory),
+        Err(PlanFailure::Refused(fault)) => return Err(BuildFailure::Refused(fault)),
+        Err(PlanFailure::Unreadable(path)) => return Err(BuildFailure::Unreadable(path)),
+        Err(PlanFailure::OutOfMemory) => return Err(BuildFailure::OutOfMemory),
     };
     let progress = Progress::new(rt.alloc(), rt, log, is_terminal);
     let mut files = ReportedFiles::new(FolderFiles::new(rt, request.folder), progress);
@@ -117,7 +119,7 @@ fn build_reported<'a, H: OutDisk + AllocGlobal, F: FeedFiles, R: BuildReports>(
     out: &'a str,
     files: &mut ReportedFiles<F, R>,
     plan: Plan,
-) -> Result<BuiltImage, Failure<'a>>
+) -> Result<BuiltImage, BuildFailure<'a>>
     requires some { 1 ≤ plan.days }
     requires few { plan.days ≤ MAX_DAYS }
     ensures built { IfOk result (λ built. (content : Content)
@@ -132,11 +134,11 @@ fn build_reported<'a, H: OutDisk + AllocGlobal, F: FeedFiles, R: BuildReports>(
 {
     let (image, report) = match load_reported(rt.alloc(), files, &plan) {
         Ok(loaded) => loaded,
-        Err(fault) => return Err(Failure::Refused(fault)),
+        Err(fault) => return Err(BuildFailure::Refused(fault)),
     };
     files.report_writing(out);
     if let Err(error) = put_image(rt, out, image.words()) {
-        return Err(Failure::Unwritten(out, error.kind()));
+        return Err(BuildFailure::Unwritten(out, error.kind()));
     }
     files.report_written(out, image.words().len());
     Ok(BuiltImage {
@@ -146,19 +148,27 @@ fn build_reported<'a, H: OutDisk + AllocGlobal, F: FeedFiles, R: BuildReports>(
     })
 }
 
-// Prints the line of counts. Never returns `REFUSED`.
-fn print_counts<O: Write>(alloc: Global, report: &Report, output: &mut O) -> u8
-    ensures { IsOutcome (PrintsOnly (λ text. text ≡ report_line report.now)) result
+// Prints the counts. Never returns `REFUSED`.
+fn print_counts<O: Write>(alloc: Global, report: &Report, json: bool, output: &mut O) -> u8
+    ensures { IsOutcome (PrintsOnly (λ text. text ≡ report_asked json report.now)) result
         (O.contents output.old) (O.contents output.new) }
 {
-    match counts(alloc, report) {
-        Ok(line) => status::write_text(output, line.as_str(), status::ACCEPTED),
+    match text_of(alloc, report, json) {
+        Ok(text) => status::write_text(output, text.as_str(), status::ACCEPTED),
         Err(_) => status::OUT_OF_MEMORY,
     }
 }
 
-// The line of counts.
-fn counts(alloc: Global, report: &Report) -> Result<String, AllocError>
+fn text_of(alloc: Global, report: &Report, json: bool) -> Result<String, AllocError>
+    ensures { IfOk result (λ text. string_bytes text ≡ report_asked json report.now) }
+{
+    match json {
+        true => json_of(alloc, report),
+        false => line_of(alloc, report),
+    }
+}
+
+fn line_of(alloc: Global, report: &Report) -> Result<String, AllocError>
     ensures { IfOk result (λ line. string_bytes line ≡ report_line report.now) }
 {
     let mut line = String::new(alloc);
@@ -188,5 +198,35 @@ fn append_changed(line: &mut String, report: &Report) -> Result<(), AllocError>
     put_number(line, " flex ", report.flex as u64)?;
     put_number(line, " frequencies ", report.frequencies as u64)?;
     put_number(line, " skipped ", report.skipped as u64)?;
+    Ok(())
+}
+
+fn json_of(alloc: Global, report: &Report) -> Result<String, AllocError>
+    ensures { IfOk result (λ json. string_bytes json ≡ report_json report.now) }
+{
+    let mut json = String::new(alloc);
+    append_json_head(&mut json, report)?;
+    append_json_tail(&mut json, report)?;
+    Ok(json)
+}
+
+fn append_json_head(json: &mut String, report: &Report) -> Result<(), AllocError>
+    ensures { OnOk result (string_bytes json.new ≡ string_bytes json.old ++ json_head report.now) }
+{
+    put_number(json, "{\"connections\":", report.connections as u64)?;
+    put_number(json, ",\"flex\":", report.flex as u64)?;
+    put_number(json, ",\"footpaths\":", report.footpaths as u64)?;
+    put_number(json, ",\"frequencies\":", report.frequencies as u64)?;
+    Ok(())
+}
+
+fn append_json_tail(json: &mut String, report: &Report) -> Result<(), AllocError>
+    ensures { OnOk result (string_bytes json.new ≡ string_bytes json.old ++ json_tail report.now) }
+{
+    put_number(json, ",\"lifted\":", report.lifted as u64)?;
+    put_number(json, ",\"runs\":", report.runs as u64)?;
+    put_number(json, ",\"skipped\":", report.skipped as u64)?;
+    put_number(json, ",\"stops\":", report.stops as u64)?;
+    put_text(json, "}\n")?;
     Ok(())
 }

@@ -12,7 +12,7 @@ use Rattle.gtfs_rows.specs.declared.values.Day.{Day}
 use Rattle.gtfs_tables.specs.declared.tables.Feed.{Feed}
 use Rattle.service_days.specs.Services.{adds, exception_of, is_added, is_not_after, is_same_day, weekday_on}
 use Rattle.feed_days.specs.Service.{HoldsOfNone, IsSpan, SpansDays, give_once, give_weekly, gives_once, gives_weekly, has_service}
-use Rattle.feed_days.specs.declared.span.Span.{Span}
+use Rattle.feed_days.specs.declared.span.DaySpan.{DaySpan}
 use Rattle.feed_days.proofs.Order.{after_first, before_last, first_day, last_day, not_after_itself, number_by_not_after, same_parts}
 use Rattle.feed_days.proofs.Spans.{HoldsFrom, HoldsTo, IsOfCivil, either, none_if, span_same}
 
@@ -97,14 +97,14 @@ ends row day own other =
     ]
 
 -- a row more
-pub weekly_more : (rows : List CalendarRow) (i : ℕ) (row : CalendarRow) (found : Option Span) → i < length rows → row ≡ get_or rows i row
+pub weekly_more : (rows : List CalendarRow) (i : ℕ) (row : CalendarRow) (found : Option DaySpan) → i < length rows → row ≡ get_or rows i row
     → SpansDays (λ d. give_weekly (take i rows) d || gives_weekly row d) found → SpansDays (give_weekly (take (i + 1) rows)) found
 weekly_more rows i row found lt is =
     span_same (λ d. give_weekly (take i rows) d || gives_weekly row d) (give_weekly (take (i + 1) rows))
     (λ d. ap (λ (r : CalendarRow). give_weekly (take i rows) d || gives_weekly r d) is
     ∙ sym (list_any_more (λ (r : CalendarRow). gives_weekly r d) rows i row lt)) found
 
-pub once_more : (rows : List CalendarDateRow) (i : ℕ) (row : CalendarDateRow) (found : Option Span) → i < length rows → row ≡ get_or rows i row
+pub once_more : (rows : List CalendarDateRow) (i : ℕ) (row : CalendarDateRow) (found : Option DaySpan) → i < length rows → row ≡ get_or rows i row
     → SpansDays (λ d. give_once (take i rows) d || gives_once row d) found → SpansDays (give_once (take (i + 1) rows)) found
 once_more rows i row found lt is =
     span_same (λ d. give_once (take i rows) d || gives_once row d) (give_once (take (i + 1) rows))

@@ -6,7 +6,7 @@ use Rattle.gtfs_rows.specs.Values.{is_civil}
 use Rattle.gtfs_rows.specs.declared.values.Day.{Day}
 use Rattle.service_days.specs.Services.{is_not_after}
 use Rattle.feed_days.specs.Service.{day_number, HoldsOfNone, IsFirst, IsLast, IsSpan, SpansDays}
-use Rattle.feed_days.specs.declared.span.Span.{Span}
+use Rattle.feed_days.specs.declared.span.DaySpan.{DaySpan}
 use Rattle.feed_days.proofs.Order.{not_after_by_number, not_after_joined, not_after_turned, same_number}
 
 -- tests that hold of the same days have the same span
@@ -22,7 +22,7 @@ last_same p q same last is = record {
   most = λ d holds. is.most d (same d ∙ holds);
 }
 
-pub span_same : (p q : Day → Bool) → ((d : Day) → p d ≡ q d) → (found : Option Span) → SpansDays p found → SpansDays q found
+pub span_same : (p q : Day → Bool) → ((d : Day) → p d ≡ q d) → (found : Option DaySpan) → SpansDays p found → SpansDays q found
 span_same p q same None none = λ d. sym (same d) ∙ none d
 span_same p q same (Some span) is = record { first = first_same p q same span.first is.first; last = last_same p q same span.last is.last }
 
@@ -80,7 +80,7 @@ last_of_two p q f g h one other second first =
     ]
 
 -- the days of two spans
-pub both_spans : (p q : Day → Bool) (a b joined : Span) → IsSpan p a → IsSpan q b
+pub both_spans : (p q : Day → Bool) (a b joined : DaySpan) → IsSpan p a → IsSpan q b
     → (is_not_after a.first b.first ≡ true → joined.first ≡ a.first) → (is_not_after a.first b.first ≡ false → joined.first ≡ b.first)
     → (is_not_after a.last b.last ≡ true → joined.last ≡ b.last) → (is_not_after a.last b.last ≡ false → joined.last ≡ a.last)
     → IsSpan (λ d. p d || q d) joined

@@ -6,8 +6,8 @@ use Rattle.gtfs_tables.specs.declared.tables.Feed.{Feed}
 use Rattle.timetable.specs.Clocks.{two_digits}
 use Rattle.service_days.specs.Days.{day_after}
 use Rattle.connections.specs.Days.{days_from}
-use Rattle.feed_days.specs.declared.form.Form.{Form}
-use Rattle.feed_days.specs.declared.span.Span.{Span}
+use Rattle.text_pieces.specs.declared.form.Form.{Form}
+use Rattle.feed_days.specs.declared.span.DaySpan.{DaySpan}
 use Rattle.feed_days.specs.Service.{HoldsOfNone, IsSpan, day_number, has_service, trips_on}
 
 -- a day as YYYYMMDD
@@ -47,15 +47,15 @@ days_after day zero = day
 days_after day (suc n) = day_after (days_after day n)
 
 -- how many days there are from the first to the last, both included
-abbrev pub days_of : Span → ℕ
+abbrev pub days_of : DaySpan → ℕ
 days_of span = day_number span.last + 1 - day_number span.first
 
 -- the days that are listed: the first 366, or all if there are fewer
-unfoldable pub listed_days : Span → List Day
+unfoldable pub listed_days : DaySpan → List Day
 listed_days span = days_from span.first (min 366 (days_of span))
 
 -- the first day that isn't, if there are more days
-unfoldable pub first_unlisted : Span → Option Day
+unfoldable pub first_unlisted : DaySpan → Option Day
 first_unlisted span = if nat_lt 366 (days_of span) then Some (days_after span.first 366) else None
 
 abbrev pub unlisted_text : Form → Option Day → List ℕ
@@ -64,7 +64,7 @@ unlisted_text Form.Lines (Some day) = dated_text (codes "unlisted ") day (codes 
 unlisted_text Form.Json (Some day) = dated_text (codes ",\"unlisted\":\"") day (codes "\"")
 
 -- the text of a span: the first and the last day, each day with its trips, and the first day that isn't listed
-unfoldable pub span_text : Form → Feed → Span → List ℕ
+unfoldable pub span_text : Form → Feed → DaySpan → List ℕ
 span_text form feed span =
     ((first_text form span.first ++ last_text form span.last) ++ flat_map (day_text form feed) (listed_days span))
     ++ unlisted_text form (first_unlisted span)
@@ -77,7 +77,7 @@ none_text Form.Json = codes "{\"first\":null,\"last\":null"
 -- this is the text of a feed: for the span of its service days, or for none if it has no service
 abbrev pub IsDaysText : Form → Feed → List ℕ → Type 0
 IsDaysText form feed text =
-    ((span : Span) × IsSpan (has_service feed) span × (text ≡ span_text form feed span))
+    ((span : DaySpan) × IsSpan (has_service feed) span × (text ≡ span_text form feed span))
     ⊎ (HoldsOfNone (has_service feed) × (text ≡ none_text form))
 
 -- these are the lines of a feed

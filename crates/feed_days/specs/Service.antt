@@ -9,7 +9,7 @@ use Rattle.gtfs_rows.specs.declared.rows.CalendarDateRow.{CalendarDateRow}
 use Rattle.gtfs_tables.specs.declared.tables.Feed.{Feed}
 use Rattle.service_days.specs.Services.{adds, exception_of, is_not_after, runs_in, week_of, weekday_on}
 use Rattle.connections.specs.Runs.{runs_on}
-use Rattle.feed_days.specs.declared.span.Span.{Span}
+use Rattle.feed_days.specs.declared.span.DaySpan.{DaySpan}
 
 -- the row of calendar.txt gives service on the day: a civil day on one of its weekdays, from its start to its end
 abbrev pub gives_weekly : CalendarRow → Day → Bool
@@ -44,12 +44,12 @@ pub record IsLast (test : Day → Bool) (last : Day) : Type 0 where
   pub most : (day : Day) → test day ≡ true → is_not_after day last ≡ true
 
 -- the first and the last day for which the test holds
-pub record IsSpan (test : Day → Bool) (span : Span) : Type 0 where
+pub record IsSpan (test : Day → Bool) (span : DaySpan) : Type 0 where
   pub first : IsFirst test span.first
   pub last : IsLast test span.last
 
 -- the first and the last day for which the test holds, or none if it holds for no day
-abbrev pub SpansDays : (Day → Bool) → Option Span → Type 0
+abbrev pub SpansDays : (Day → Bool) → Option DaySpan → Type 0
 SpansDays test found = MatchOption found (HoldsOfNone test) (IsSpan test)
 
 -- how many trips run on a day; a trip that frequencies.txt repeats counts once

@@ -5,11 +5,10 @@
 
 mod counting;
 mod dates;
-mod form;
 mod listing;
 mod putting;
 mod span;
 
 pub use counting::trips_on_days;
 pub use listing::{MOST_DAYS, days_json, days_text};
-pub use span::{Span, span_of};
+pub use span::{DaySpan, span_of};

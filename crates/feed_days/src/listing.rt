@@ -9,13 +9,12 @@ ghost use Rattle.feed_days.specs.Days.{last_text, listed_days, none_text, span_t
 ghost use Rattle.feed_days.specs.Days.{trips_text, unlisted_text};
 
 use crate::counting::trips_on_days;
-use crate::form::Form;
 use crate::putting::{put_date, put_dated};
-use crate::span::{Span, span_of};
+use crate::span::{DaySpan, span_of};
 use gtfs_tables::{Day, Feed};
 use service_days::day_after;
 use std::alloc::{AllocError, Global};
-use text_pieces::{put_number, put_text};
+use text_pieces::{Form, put_number, put_text};
 
 /// How many days are listed at most.
 pub const MOST_DAYS: u32 = 366;
@@ -66,7 +65,7 @@ fn append_span(
     alloc: Global,
     form: Form,
     feed: &Feed,
-    span: Span,
+    span: DaySpan,
 ) -> Result<(), AllocError>
     requires first { is_civil span.first ≡ true }
     requires last { is_civil span.last ≡ true }
@@ -101,7 +100,7 @@ fn append_last(lines: &mut String, form: Form, day: Day) -> Result<(), AllocErro
 }
 
 // Lists the days, and returns the first one that isn't listed, if there is one.
-fn list_days(days: &mut Vec<Day>, span: Span) -> Result<Option<Day>, AllocError>
+fn list_days(days: &mut Vec<Day>, span: DaySpan) -> Result<Option<Day>, AllocError>
     requires none { days.old.items ≡ [] }
     requires first { is_civil span.first ≡ true }
     requires last { is_civil span.last ≡ true }

@@ -13,7 +13,7 @@ use gtfs_tables::{CalendarDateRow, CalendarRow, Day, Exception, Feed};
 
 /// A first and a last day.
 #[derive(Clone, Copy, Debug, PartialEq, Eq)]
-pub struct Span {
+pub struct DaySpan {
     pub first: Day,
     pub last: Day,
 }
@@ -21,7 +21,7 @@ pub struct Span {
 /// Returns the first and the last day on which a row of the feed gives service, or none if no row does. A row of
 /// `calendar.txt` gives service on its weekdays from its start to its end, a row of `calendar_dates.txt` on the day
 /// that it adds. Days that are removed from a service make no difference.
-pub fn span_of(feed: &Feed) -> Option<Span>
+pub fn span_of(feed: &Feed) -> Option<DaySpan>
     ensures { SpansDays (has_service feed.now) result }
 {
     joined(
@@ -31,7 +31,7 @@ pub fn span_of(feed: &Feed) -> Option<Span>
 }
 
 // Returns the first and the last day on which any of the rows gives service.
-fn weekly_span(rows: &[CalendarRow]) -> Option<Span>
+fn weekly_span(rows: &[CalendarRow]) -> Option<DaySpan>
     ensures { SpansDays (give_weekly rows.now) result }
 {
     let mut span = None;
@@ -42,7 +42,7 @@ fn weekly_span(rows: &[CalendarRow]) -> Option<Span>
 }
 
 // Returns the first and the last day that any of the rows adds.
-fn added_span(rows: &[CalendarDateRow]) -> Option<Span>
+fn added_span(rows: &[CalendarDateRow]) -> Option<DaySpan>
     ensures { SpansDays (give_once rows.now) result }
 {
     let mut span = None;
@@ -53,13 +53,13 @@ fn added_span(rows: &[CalendarDateRow]) -> Option<Span>
 }
 
 // Returns the span from the first to the last day of two spans.
-fn joined(one: Option<Span>, other: Option<Span>) -> Option<Span>
+fn joined(one: Option<DaySpan>, other: Option<DaySpan>) -> Option<DaySpan>
     ensures { (p q : CivilDay → Bool) → SpansDays p one → SpansDays q other → SpansDays (λ d. p d || q d) result }
 {
     match (one, other) {
         (None, span) => span,
         (span, None) => span,
-        (Some(one), Some(other)) => Some(Span {
+        (Some(one), Some(other)) => Some(DaySpan {
             first: earlier(one.first, other.first),
             last: later(one.last, other.last),
         }),
@@ -67,13 +67,13 @@ fn joined(one: Option<Span>, other: Option<Span>) -> Option<Span>
 }
 
 // Returns the day that a row adds, as a span, if it adds a civil day.
-fn added_day(row: &CalendarDateRow) -> Option<Span>
+fn added_day(row: &CalendarDateRow) -> Option<DaySpan>
     ensures { SpansDays (gives_once row.now) result }
 {
     if !adds_day(row) {
         return None;
     }
-    Some(Span {
+    Some(DaySpan {
         first: row.day,
         last: row.day,
     })
@@ -87,7 +87,7 @@ fn adds_day(row: &CalendarDateRow) -> bool
 }
 
 // Returns the first and the last day on which a row gives service.
-fn row_span(row: &CalendarRow) -> Option<Span>
+fn row_span(row: &CalendarRow) -> Option<DaySpan>
     ensures { SpansDays (gives_weekly row.now) result }
 {
     if !has_weekday(row) {
@@ -95,7 +95,7 @@ fn row_span(row: &CalendarRow) -> Option<Span>
     }
     let first = first_of(row)?;
     let last = last_of(row)?;
-    Some(Span { first, last })
+    Some(DaySpan { first, last })
 }
 
 // Returns the first day on which a row gives service. If the row has a weekday, that is one of its first seven

@@ -1,4 +1,3 @@
-pub mod Commas
 mod Counted
 mod Found
 mod Groups

@@ -5,7 +5,8 @@ use Rattle.std.specs.List.{flat_map, list_any, range_with_len, slice_get, slice_
 use Rattle.gtfs_rows.specs.declared.rows.StopRow.{StopRow}
 use Rattle.feed_stations.specs.Finding.{AreMarks, IsFoundAt}
 use Rattle.feed_stations.specs.Grouping.{AreGroups}
-use Rattle.feed_stations.specs.Json.{row_json, with_commas}
+use Rattle.text_pieces.specs.Json.{with_commas}
+use Rattle.feed_stations.specs.Json.{row_json}
 use Rattle.feed_stations.specs.Listing.{is_listed_row, row_line}
 use Rattle.feed_stations.specs.declared.stop_table.StopTable.{StopTable}
 

@@ -13,7 +13,6 @@ mod texts;
 
 pub use finding::is_in;
 pub use homes::homes_in;
-pub use json::put_comma;
 pub use labels::{StopLabel, labels_in};
 pub use stop_table::StopTable;
 pub use texts::{json_text, lines_text};

@@ -4,15 +4,15 @@ ghost use Rattle.std.specs.Prelude.{◌≡◌, ◌++◌, IfOk, OnOk, map, string
 ghost use Rattle.std.specs.List.{flat_map, list_any};
 ghost use Rattle.feed_stations.specs.Choosing.{AreLines, IsChoice, IsJson, is_chosen, is_marked_at, is_shown_at};
 ghost use Rattle.feed_stations.specs.Choosing.{json_at, line_at, stops_of};
-ghost use Rattle.feed_stations.specs.Json.{with_commas};
+ghost use Rattle.text_pieces.specs.Json.{with_commas};
 
 use crate::finding::found_each;
 use crate::grouping::grouped;
-use crate::json::{append_json, put_comma};
+use crate::json::append_json;
 use crate::listing::append_line;
 use crate::stop_table::StopTable;
 use std::alloc::{AllocError, Global};
-use text_pieces::put_text;
+use text_pieces::{put_comma, put_text};
 
 /// The stops of each row, and the rows that are listed.
 #[derive(Drop)]

@@ -14,7 +14,7 @@ use Rattle.command_requests.specs.declared.statuses.TheConstants.{ACCEPTED, COMM
 use Rattle.command_endings.specs.Ending.{Ends, IsBegun}
 use Rattle.timetable.specs.declared.query.QueryFault.TheVariants.{BadWindow}
 use Rattle.image_files.specs.Texts.{IsTextAt}
-use Rattle.image_commands.specs.Matrices.{AreBadTimes, AreListedIn, AreNoSources, AreOfList, AreSources, EndsTable, EndsUnlisted, IsBadWindow, IsCutShort}
+use Rattle.image_commands.specs.Matrices.{AreBadTimes, AreListedIn, AreNoSources, AreOfList, AreSources, EndsTable, EndsUnlisted, IsCutShort}
 use Rattle.image_commands.specs.Matrices.{IsShownInPart, IsTableOf, IsUnasked, IsUnlisted, IsUnlistedIn}
 use Rattle.image_commands.specs.Refusing.{refusal_line}
 use Rattle.image_commands.specs.declared.refusal.CommandRefusal.TheVariants.{Query}
@@ -83,20 +83,6 @@ sources_are_within may_hold image request table of =
     subst (λ (i : ImageValue). AreWithin i table.sources.now) (sym of.image_is)
     (sources_within may_hold request.from image table.sources.now of.sources)
 
--- the window of a table is that of its request
-bad_times_of : (after until by a u b : ℕ) (before now : Option (List ℕ)) → a ≡ after → u ≡ until → b ≡ by → IsBadWindow a u b before now
-    → IsBadWindow after until by before now
-bad_times_of after until by a u b before now same-a same-u same-b bad =
-    subst (λ (x : ℕ). IsBadWindow x until by before now) same-a
-    (subst (λ (x : ℕ). IsBadWindow a x by before now) same-u
-    (subst (λ (x : ℕ). IsBadWindow a u x before now) same-b bad))
-
-pub bad_window_of : (may_hold : List ℕ → Option (List ℕ) → Type 0) (image : ImageValue) (request : MatrixRequest) (table : TravelTable)
-    (before now : Option (List ℕ)) → IsTableOf may_hold image request table
-    → IsBadWindow table.after table.until table.by before now → IsBadWindow request.after request.until request.by before now
-bad_window_of may_hold image request table before now of bad =
-    bad_times_of _ _ _ _ _ _ before now of.times.0 of.times.1 of.times.2 bad
-
 -- a command whose lists aren't known ends otherwise than with 0
 ends_not_accepted : (status : ℕ) → EndsUnlisted status → status ≢ ACCEPTED
 ends_not_accepted status (inl (inl is)) e = omega (arith, is, e)
@@ -119,17 +105,18 @@ ends_asked status (inr (inl is)) e = omega (arith, is, e)
 ends_asked status (inr (inr (inl is))) e = omega (arith, is, e)
 ends_asked status (inr (inr (inr is))) e = omega (arith, is, e)
 
-pub unasked_sources : (may_hold : List ℕ → Option (List ℕ) → Type 0) (request : MatrixRequest) (image : ImageValue) (status : ℕ) (from : Option (Bor (List ℕ)))
+pub unasked_sources : (may_hold : List ℕ → Option (List ℕ) → Type 0) (request : MatrixRequest) (image : ImageValue) (status : ℕ)
+    (from : Option (Bor (List ℕ))) (targets : List (Vec ℕ)) → AreOfList may_hold request.to.now image targets
     → request.from ≡ from → AreNoSources may_hold from image status → IsUnasked may_hold request image status
-unasked_sources may_hold request image status None same is = record {
+unasked_sources may_hold request image status None targets listed same is = record {
   ends = inl (inr (inr is));
   unknown = λ e. absurd (omega (arith, is, e));
   bad = λ e. absurd (omega (arith, is, e));
 }
-unasked_sources may_hold request image status (Some path) same why = record {
+unasked_sources may_hold request image status (Some path) targets listed same why = record {
   ends = why.ends;
-  unknown = λ is. inr (path, same, why.unknown is);
-  bad = λ is. inr (path, same, why.bad is);
+  unknown = λ is. inr (targets, path, listed, same, why.unknown is);
+  bad = λ is. inr (targets, path, listed, same, why.bad is);
 }
 
 -- the sets of a text that was read, or why there are none

@@ -33,6 +33,7 @@ form_of DeparturesForm.Points = LineForm.Points
 form_of DeparturesForm.Summary = LineForm.Summary
 form_of DeparturesForm.Json = LineForm.Json
 form_of DeparturesForm.JsonPoints = LineForm.JsonPoints
+form_of DeparturesForm.JsonSummary = LineForm.JsonSummary
 
 -- the text shows the departures from the stops that are wanted, under the criterion of this name
 abbrev pub AreShownBy : CriterionName → DeparturesForm → ImageValue → SetQueryValue → WantedStops → List ℕ → Type 0
@@ -96,11 +97,15 @@ list_status Unreadable = INPUT_OUTPUT
 list_status NotText = INPUT_OUTPUT
 list_status OutOfMemory = OUT_OF_MEMORY
 
+-- the request asks this question of the image, and it can be asked
+abbrev pub AsksOfAll : ImageValue → DeparturesRequest → SetQueryValue → Type 0
+AsksOfAll image request b =
+    IsAskableBetween image.timetable.stops b × AsksBetween image.names [] (targets_asked request) (window_asked request) b
+
 -- the text shows the departures to the stops that are asked for, and which can be asked, from the stops that are wanted
 abbrev pub AreAllShown : (List ℕ → Option (List ℕ) → Type 0) → ImageValue → DeparturesRequest → List ℕ → Type 0
 AreAllShown may_hold image request printed =
-    (b : SetQueryValue) × (wanted : WantedStops) × IsAskableBetween image.timetable.stops b
-    × AsksBetween image.names [] (targets_asked request) (window_asked request) b × IsWantedFrom may_hold request.from image.names wanted
+    (b : SetQueryValue) × (wanted : WantedStops) × AsksOfAll image request b × IsWantedFrom may_hold request.from image.names wanted
     × AreShownBy request.criterion request.form image b wanted printed
 
 -- the request can't be asked of the image: it has a fault, and this is its line
@@ -108,6 +113,8 @@ abbrev pub IsBadQueryOfAll : ImageValue → DeparturesRequest → List ℕ → T
 IsBadQueryOfAll image request line =
     (fault : QueryFault) × IsFaultBetween image [] (targets_asked request) (window_asked request) fault × (line ≡ refusal_line (Query fault))
 
--- the request has such a fault; or a file is given that has a line that is no stop_id, and nothing is printed
+-- the request has such a fault; or it has none, but a file is given that has a line that is no stop_id, and nothing is printed
 abbrev pub IsNoneAsked : (List ℕ → Option (List ℕ) → Type 0) → ImageValue → DeparturesRequest → List ℕ → Type 0
-IsNoneAsked may_hold image request line = IsBadQueryOfAll image request line ⊎ (HasUnknownFrom may_hold request.from image.names × (line ≡ []))
+IsNoneAsked may_hold image request line =
+    IsBadQueryOfAll image request line
+    ⊎ ((b : SetQueryValue) × AsksOfAll image request b × HasUnknownFrom may_hold request.from image.names × (line ≡ []))

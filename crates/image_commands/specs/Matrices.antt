@@ -83,17 +83,18 @@ abbrev pub AreNoSources : (List ℕ → Option (List ℕ) → Type 0) → Option
 AreNoSources may_hold None image status = status ≡ OUT_OF_MEMORY
 AreNoSources may_hold (Some path) image status = IsUnlisted may_hold path.now image status
 
--- Is holds of the list of the targets, or of that of the sources, if a file is given
-abbrev pub HoldsOfList : (List ℕ → Option (List ℕ) → Type 0) → MatrixRequest → (List ℕ → Type 0) → Type 0
-HoldsOfList may_hold request Is =
+-- Is holds of the list of the targets; or this list names some, and Is holds of that of the sources, if a file is given
+abbrev pub HoldsOfList : (List ℕ → Option (List ℕ) → Type 0) → MatrixRequest → ImageValue → (List ℕ → Type 0) → Type 0
+HoldsOfList may_hold request image Is =
     HoldsOfText may_hold request.to.now Is
-    ⊎ ((path : Bor (List ℕ)) × (request.from ≡ Some path) × HoldsOfText may_hold path.now Is)
+    ⊎ ((targets : List (Vec ℕ)) × (path : Bor (List ℕ)) × AreOfList may_hold request.to.now image targets × (request.from ≡ Some path)
+    × HoldsOfText may_hold path.now Is)
 
 -- why it isn't known which stops a request means, by the status
 pub record IsUnasked (may_hold : List ℕ → Option (List ℕ) → Type 0) (request : MatrixRequest) (image : ImageValue) (status : ℕ) : Type 0 where
   pub ends : EndsUnlisted status
-  pub unknown : status ≡ REFUSED → HoldsOfList may_hold request (HasUnknown image)
-  pub bad : status ≡ COMMAND_LINE → HoldsOfList may_hold request IsNoList
+  pub unknown : status ≡ REFUSED → HoldsOfList may_hold request image (HasUnknown image)
+  pub bad : status ≡ COMMAND_LINE → HoldsOfList may_hold request image IsNoList
 
 -- a table is the one that is asked for
 pub record IsTableOf (may_hold : List ℕ → Option (List ℕ) → Type 0) (image : ImageValue) (request : MatrixRequest) (table : TravelTable) : Type 0 where
@@ -138,12 +139,12 @@ IsTablePrinted may_hold disk image request before after =
 -- a table is refused for its times, whose line was printed; or for a line of a list that has what is no stop_id, and then nothing was printed
 abbrev pub IsTableRefused : (List ℕ → Option (List ℕ) → Type 0) → ImageValue → MatrixRequest → Option (List ℕ) → Option (List ℕ) → Type 0
 IsTableRefused may_hold image request before after =
-    IsBadWindow request.after request.until request.by before after
-    ⊎ (HoldsOfList may_hold request (HasUnknown image) × (after ≡ before))
+    ((table : TravelTable) × IsTableOf may_hold image request table × IsBadWindow table.after table.until table.by before after)
+    ⊎ (HoldsOfList may_hold request image (HasUnknown image) × (after ≡ before))
 
 -- a table can't be asked for because of a list, and nothing was printed
-abbrev pub IsTableUnlisted : (List ℕ → Option (List ℕ) → Type 0) → MatrixRequest → Option (List ℕ) → Option (List ℕ) → Type 0
-IsTableUnlisted may_hold request before after = HoldsOfList may_hold request IsNoList × (after ≡ before)
+abbrev pub IsTableUnlisted : (List ℕ → Option (List ℕ) → Type 0) → ImageValue → MatrixRequest → Option (List ℕ) → Option (List ℕ) → Type 0
+IsTableUnlisted may_hold image request before after = HoldsOfList may_hold request image IsNoList × (after ≡ before)
 
 -- what was printed of a table if a file or a line can't be written, or memory ran out: nothing, a first part of the line for bad times, or of what is
 -- printed of the table

@@ -1,13 +1,11 @@
 -- The stops that `csa stops` prints, as lines and as JSON.
 use Rattle.std.specs.Prelude.{◌≡◌, ◌⊎◌, Bool, true, false, ℕ, List, [], ◌∷◌, ◌++◌, codes, decimal, map}
 use Rattle.std.specs.List.{AllZip, flat_map, range_with_len}
-use Rattle.serde_json.specs.Data.{string}
-use Rattle.serde_json.specs.Written.{compact_text}
 use Rattle.timetable.specs.NamesValue.{NamesValue}
 use Rattle.image_layout.specs.Image.{ImageValue}
 use Rattle.answer_pictures.specs.Naming.{stop_bytes}
 use Rattle.feed_stations.specs.Finding.{IsIn}
-use Rattle.feed_stations.specs.Json.{with_commas}
+use Rattle.text_pieces.specs.Json.{quoted_text, with_commas}
 use Rattle.command_requests.specs.declared.requests.StopsRequest.{StopsRequest}
 
 -- each stop below `stops`, with its number and its name
@@ -31,7 +29,7 @@ stop_line names stop = decimal stop ++ (codes " " ++ stop_bytes names stop) ++ c
 -- the same as an object of JSON
 unfoldable pub stop_json : NamesValue → ℕ → List ℕ
 stop_json names stop =
-    codes "{\"id\":" ++ compact_text (string (stop_bytes names stop)) ++ (codes ",\"number\":" ++ decimal stop) ++ codes "}"
+    quoted_text (codes "{\"id\":") (stop_bytes names stop) ++ (codes ",\"number\":" ++ decimal stop) ++ codes "}"
 
 -- the text of some stops, as an array of JSON on one line, or as lines
 abbrev pub stops_text : Bool → NamesValue → List ℕ → List ℕ

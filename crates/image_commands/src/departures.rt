@@ -1,17 +1,16 @@
 //! `csa departures IMAGE --to STOP_ID.. --after .. --until .. --by .. --criterion NAME [--from FILE]
-//! [--summary | [--json] [--no-journeys]]`.
+//! [--summary | --no-journeys] [--json]`.
 
 ghost use Rattle.std.specs.Prelude.{◌≡◌, ℕ, [], IfOk, MatchResult, string_bytes};
 ghost use Rattle.profile_scan.specs.SetQuery.{IsAskableBetween, question};
 ghost use Rattle.profile_scan.specs.Destinations.{question_to_any};
-ghost use Rattle.station_answers.specs.Naming.{AsksBetween, IsNoQuestion};
+ghost use Rattle.station_answers.specs.Naming.{IsNoQuestion};
 ghost use Rattle.command_requests.specs.declared.statuses.TheConstants.{REFUSED};
 ghost use Rattle.departure_lines.specs.declared.form.LineForm.{LineForm};
 ghost use Rattle.image_commands.specs.declared.wanted_stops.NoList.TheVariants.{UnknownStop};
 ghost use Rattle.image_commands.specs.Commands.{PrintsDepartures};
 ghost use Rattle.command_endings.specs.Ending.{EndsUndone, IsOutcome, PrintsOnly};
-ghost use Rattle.image_commands.specs.Departing.{AreShownBy};
-ghost use Rattle.image_commands.specs.Departing.{form_of, list_status, targets_asked, window_asked};
+ghost use Rattle.image_commands.specs.Departing.{AreShownBy, AsksOfAll, form_of, list_status, targets_asked, window_asked};
 
 use crate::question::{explain_ends, window_reason};
 use crate::refusal::{CommandRefusal, print_refusal};
@@ -142,9 +141,7 @@ fn destinations_asked(
     request: &DeparturesRequest<'_>,
 ) -> Result<Destinations, NoQuestion>
     ensures { MatchResult result
-        (λ destinations. IsAskableBetween image.now.timetable.stops (question_to_any destinations)
-        × AsksBetween image.now.names [] (targets_asked request.now) (window_asked request.now)
-        (question_to_any destinations))
+        (λ destinations. AsksOfAll image.now request.now (question_to_any destinations))
         (IsNoQuestion image.now [] (targets_asked request.now) (window_asked request.now)) }
 {
     let window = Window {
@@ -212,5 +209,6 @@ fn form_of(form: DeparturesForm) -> LineForm
         DeparturesForm::Summary => LineForm::Summary,
         DeparturesForm::Json => LineForm::Json,
         DeparturesForm::JsonPoints => LineForm::JsonPoints,
+        DeparturesForm::JsonSummary => LineForm::JsonSummary,
     }
 }

@@ -70,7 +70,7 @@ pub fn run<
         request.entry (O.contents output.old) (O.contents output.new) }
     ensures refused { result ≡ REFUSED → IsTableRefused (H.may_hold rt.now) image.now request.entry
         (O.contents output.old) (O.contents output.new) }
-    ensures unlisted { result ≡ COMMAND_LINE → IsTableUnlisted (H.may_hold rt.now) request.entry
+    ensures unlisted { result ≡ COMMAND_LINE → IsTableUnlisted (H.may_hold rt.now) image.now request.entry
         (O.contents output.old) (O.contents output.new) }
     ensures cut { (result ≡ INPUT_OUTPUT) ⊎ (result ≡ OUT_OF_MEMORY) → IsTableCutShort (H.may_hold rt.now) image.now
         request.entry (O.contents output.old) (O.contents output.new) }

@@ -2,10 +2,8 @@
 
 ghost use Rattle.std.specs.Prelude.{◌≡◌, ◌+◌, ◌++◌, ℕ, List, true, false, decimal, map, IfOk, OnOk, string_bytes};
 ghost use Rattle.std.specs.List.{flat_map};
-ghost use Rattle.serde_json.specs.Data.{string};
-ghost use Rattle.serde_json.specs.Written.{compact_text};
 ghost use Rattle.answer_pictures.specs.Naming.{stop_bytes};
-ghost use Rattle.feed_stations.specs.Json.{with_commas};
+ghost use Rattle.text_pieces.specs.Json.{with_commas};
 ghost use Rattle.image_commands.specs.StopLines.{AreFound, AreStopsAsked, IsFound, stop_json, stop_line, stops_text};
 ghost use Rattle.command_endings.specs.Ending.{IsOutcome, PrintsOnly};
 
@@ -13,12 +11,11 @@ use answer_pictures::stop_name;
 use command_endings::status;
 use command_requests::StopsRequest;
 use feed_messages::{explain, quoted};
-use feed_stations::{is_in, put_comma};
+use feed_stations::is_in;
 use image_verifier::Verified;
-use serde_json::Value;
 use std::alloc::{AllocError, Global};
 use std::io::Write;
-use text_pieces::{put_number, put_text, put_word};
+use text_pieces::{put_comma, put_number, put_quoted, put_text, put_word};
 
 /// Prints the number and the name of each stop whose name contains the text, in order. If there is none, says so in
 /// `errors`. Never returns `REFUSED`.
@@ -196,18 +193,9 @@ fn append_object(
 ) -> Result<(), AllocError>
     ensures { OnOk result (string_bytes json.new ≡ string_bytes json.old ++ stop_json image.now.names stop) }
 {
-    let quoted = quoted_name(alloc, image, stop)?;
-    put_text(json, "{\"id\":")?;
-    put_text(json, quoted.as_str())?;
+    let name = stop_name(alloc, image, stop)?;
+    put_quoted(json, alloc, "{\"id\":", name.as_str())?;
     put_number(json, ",\"number\":", stop as u64)?;
     put_text(json, "}")?;
     Ok(())
-}
-
-// The name of a stop as JSON.
-fn quoted_name(alloc: Global, image: &Verified, stop: u32) -> Result<String, AllocError>
-    ensures { IfOk result (λ quoted. string_bytes quoted ≡ compact_text (string (stop_bytes image.now.names stop))) }
-{
-    let value = Value::String(stop_name(alloc, image, stop)?);
-    value.to_string(alloc)
 }

@@ -15,8 +15,8 @@ pub struct DepartureRange {
 /// The seconds of a day.
 const DAY: u32 = 86_400;
 
-/// Warns if no connection departs in the window of departures that is asked for, or if it ends after the last day on
-/// which one does.
+/// Warns if all connections of the image depart before the window that is asked for, or all after it, or if the window
+/// ends after the day of the last one.
 pub fn warn_of_window<E: Write>(image: &Verified, asked: DepartureRange, errors: &mut E) {
     match departures_of(image) {
         Some(all) => warn_beyond(asked, all, errors),
@@ -50,8 +50,7 @@ fn end_of_day(time: u32) -> u32 {
     (time / DAY).saturating_add(1).saturating_mul(DAY)
 }
 
-/// How the window that is asked for relates to all departures; `None` if some connections depart in it, and none can be
-/// missing at its end.
+/// Where the window that is asked for lies, if it is before or after all departures, or ends after the day of the last.
 fn reason_of(asked: DepartureRange, all: DepartureRange) -> Option<&'static str> {
     if asked.last < all.first || all.last < asked.first {
         Some("is outside")

@@ -8,7 +8,7 @@ use Rattle.std.proofs.lemmas.Bool.{cases_Bool, cases_eq, eq-eqb, eqb-true, trueâ
 use Rattle.std.proofs.lemmas.List.Sorted.{sum_by-IsPermutation}
 use Rattle.std.proofs.lemmas.List.Sums.{sum_by-cons}
 use Rattle.image_facts.specs.Days.{HasDays, day_text, trips_on}
-use Rattle.image_facts.specs.declared.form.Form.{Form}
+use Rattle.text_pieces.specs.declared.form.Form.{Form}
 use Rattle.image_facts.specs.Entries.{is_last_of, rest_text}
 
 -- each of them once, where equal ones are side by side

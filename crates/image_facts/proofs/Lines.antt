@@ -8,7 +8,7 @@ use mathlib.Core.List.{append-nil}
 use Rattle.timetable.specs.NamesValue.{TripNameValue}
 use Rattle.image_facts.specs.Days.{day_text}
 use Rattle.image_facts.specs.Entries.{is_last_of, rest_text}
-use Rattle.image_facts.specs.declared.form.Form.{Form}
+use Rattle.text_pieces.specs.declared.form.Form.{Form}
 
 -- its day ends
 pub last_entry : (form : Form) (counted day : ℕ) (rest old new : List ℕ) → is_last_of day rest ≡ true

@@ -6,7 +6,7 @@ use Rattle.jiff_core.specs.Calendar.{IsEpochDay}
 use Rattle.jiff_core.specs.Date.{epoch_day}
 use Rattle.jiff_core.specs.declared.civil.date.Date.{Date}
 use Rattle.timetable.specs.Clocks.{clock_bytes, two_digits}
-use Rattle.image_facts.specs.declared.form.Form.{Form}
+use Rattle.text_pieces.specs.declared.form.Form.{Form}
 
 -- the day of UTC that has an instant, which is 0 for 1970-01-01, and the second of that day
 abbrev pub utc_day : ℤ → ℤ

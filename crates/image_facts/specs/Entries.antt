@@ -1,7 +1,7 @@
 -- The lines, or the members of an object of JSON, that are still to come for a list of days, when some entries of its first day were counted already.
 use Rattle.std.specs.Prelude.{ℕ, List, [], ◌∷◌, ◌++◌, ◌+◌, ◌==◌, Bool, true, not, if◌then◌else◌}
 use Rattle.image_facts.specs.Days.{day_text}
-use Rattle.image_facts.specs.declared.form.Form.{Form}
+use Rattle.text_pieces.specs.declared.form.Form.{Form}
 
 -- the list goes on with another day, or ends
 abbrev pub is_last_of : ℕ → List ℕ → Bool

@@ -4,7 +4,7 @@ use Rattle.image_layout.specs.Image.{ImageValue}
 use Rattle.image_layout.specs.Spelling.{image_in, text}
 use Rattle.image_facts.specs.Base.{HasBase}
 use Rattle.image_facts.specs.Days.{HasDays, trip_days}
-use Rattle.image_facts.specs.declared.form.Form.{Form}
+use Rattle.text_pieces.specs.declared.form.Form.{Form}
 
 -- a word, which ends in a space, and a number
 unfoldable pub number_line : List ℕ → ℕ → List ℕ

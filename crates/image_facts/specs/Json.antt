@@ -6,7 +6,7 @@ use Rattle.image_layout.specs.Spelling.{text}
 use Rattle.image_facts.specs.Base.{IsUtc}
 use Rattle.image_facts.specs.Days.{HasDays, trip_days}
 use Rattle.image_facts.specs.Facts.{file_bytes}
-use Rattle.image_facts.specs.declared.form.Form.{Form}
+use Rattle.text_pieces.specs.declared.form.Form.{Form}
 
 -- the base in seconds, the bytes of the file, and how many connections and footpaths there are
 unfoldable pub sizes_json : ImageValue → List ℕ

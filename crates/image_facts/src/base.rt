@@ -5,12 +5,11 @@ ghost use Rattle.timetable.specs.Clocks.{clock_bytes};
 ghost use Rattle.image_facts.specs.Base.{HasBase, IsUtc, base_line, date_text, moment_text, no_utc_text, sign_text};
 ghost use Rattle.image_facts.specs.Base.{utc_day, utc_second, utc_text, year_text};
 
-use crate::form::Form;
 use crate::putting::put_signed;
 use jiff_core::civil::Date;
 use std::alloc::AllocError;
 use std::fmt::Write as _;
-use text_pieces::{put_text, put_two};
+use text_pieces::{Form, put_text, put_two};
 use timetable::Clock;
 
 /// The seconds of a day of UTC.

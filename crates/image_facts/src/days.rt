@@ -5,9 +5,8 @@ ghost use Rattle.std.specs.List.Sorted.{IsNonDecreasing};
 ghost use Rattle.image_facts.specs.Days.{HasDays, day_line, day_member, day_text};
 ghost use Rattle.image_facts.specs.Entries.{is_last_of, rest_text};
 
-use crate::form::Form;
 use std::alloc::AllocError;
-use text_pieces::{put_number, put_text};
+use text_pieces::{Form, put_number, put_text};
 
 /// Adds a line or a member for each day of a sorted list, the earliest first, with the number of its entries.
 pub fn append_days(lines: &mut String, form: Form, days: &[u32]) -> Result<(), AllocError>

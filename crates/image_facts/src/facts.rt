@@ -8,11 +8,11 @@ ghost use Rattle.image_facts.specs.Facts.{AreFacts, counts_text, file_bytes, fil
 
 use crate::base::append_base;
 use crate::days::append_days;
-use crate::form::Form;
 use crate::putting::put_line;
 use image_layout::Header;
 use image_verifier::Verified;
 use std::alloc::{AllocError, Global};
+use text_pieces::Form;
 
 /// The lines of an image: its layout, its bytes, its base as a number and as a date and a time of
 /// UTC, how many stops, trips, connections and footpaths it has, the bytes of its names, and how

@@ -6,11 +6,10 @@ ghost use Rattle.image_facts.specs.Json.{IsFactsJson, names_json, sizes_json};
 use crate::base::append_utc;
 use crate::days::append_days;
 use crate::facts::{byte_count, days_of, header_of};
-use crate::form::Form;
 use crate::putting::put_signed;
 use image_verifier::Verified;
 use std::alloc::{AllocError, Global};
-use text_pieces::{put_number, put_text};
+use text_pieces::{Form, put_number, put_text};
 
 /// What an image has, as an object of JSON on one line, whose keys are the words of the lines.
 pub fn json_of(alloc: Global, image: &Verified) -> Result<String, AllocError>

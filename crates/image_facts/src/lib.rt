@@ -4,7 +4,6 @@
 mod base;
 mod days;
 mod facts;
-mod form;
 mod json;
 mod putting;
 

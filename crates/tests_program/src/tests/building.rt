@@ -38,6 +38,11 @@ tells csa: wrote built.csa: bytes 196 seconds #
 ends 0
 holds built.csa
 
+# The counts as JSON.
+run build base_feed built.csa --first 20240115 --days 1 --zone fixed:0 --json
+answers {\"connections\":3,\"flex\":0,\"footpaths\":3,\"frequencies\":0,\"lifted\":0,\"runs\":2,\"skipped\":0,\
+\"stops\":3}
+
 # A day begins an hour earlier in the east.
 run build base_feed built.csa --first 20240115 --days 1 --zone fixed:3600 --no-warnings
 answers stops 3 runs 2 connections 3 footpaths 3 lifted 0 flex 0 frequencies 0 skipped 0

@@ -2,7 +2,7 @@
 
 use crate::tests::running::{Machine, Plain};
 use crate::tests::transcript::try_transcripts;
-use csa_program::{WatchedWriter, explain_no_words, print_sources, run};
+use csa_program::{ShownWriter, WatchedWriter, explain_no_words, print_sources, run};
 use image_files::ImageDisk;
 use image_layout::{Words, sample_words};
 use std::alloc::Global;
@@ -212,6 +212,19 @@ fn the_sum_of_the_sources_is_printed(rt: HostRuntime) {
         kind: ErrorKind::BrokenPipe,
     };
     assert!(rt; is_reported_of_sources(alloc, &mut unread, 3, ""));
+}
+
+/// A terminal gets control characters by their codes; anything else gets them as they are.
+#[test]
+fn terminals_get_no_control_characters(rt: HostRuntime) -> io::Result<()> {
+    let text = "Z\u{fc}rich\t\u{1b}[2J \u{9b}H \u{7f}\n";
+    let mut held: Vec<u8> = Vec::new(rt.alloc());
+    ShownWriter::of(&mut held, true).write_all(text.as_bytes())?;
+    assert!(rt; held.as_slice() == "Z\u{fc}rich\t\\x1b[2J \\x9bH \\x7f\n".as_bytes());
+    held.clear();
+    ShownWriter::of(&mut held, false).write_all(text.as_bytes())?;
+    assert!(rt; held.as_slice() == text.as_bytes());
+    Ok(())
 }
 
 /// Standard error says why there are no words of a command line.

@@ -286,9 +286,14 @@ asks departures - --to C --after 07:00:00 --until 09:00:00 --by 10:00:00 --crite
 prints A points 2 first 08:00:00 last 08:00:00 least 1200 walk none
 prints B points 1 first 08:12:00 last 08:12:00 least 480 walk none
 answers stops 2 points 3 read 3
+asks departures - --to C --after 07:00:00 --until 09:00:00 --by 10:00:00 --criterion arrival+trips --summary --json
+prints {\"first\":\"08:00:00\",\"from\":\"A\",\"last\":\"08:00:00\",\"least\":1200,\"points\":2,\"walk\":null}
+prints {\"first\":\"08:12:00\",\"from\":\"B\",\"last\":\"08:12:00\",\"least\":480,\"points\":1,\"walk\":null}
+answers {\"points\":3,\"read\":3,\"stops\":2}
 asks departures - --to C --after 07:00:00 --until 09:00:00 --by 10:00:00 --criterion arrival --summary --no-journeys
 complains 64
-asks departures - --to C --after 07:00:00 --until 09:00:00 --by 10:00:00 --criterion arrival --summary --json
+asks departures - --to C --after 07:00:00 --until 09:00:00 --by 10:00:00 --criterion arrival --summary --json \
+--no-journeys
 complains 64
 
 # As JSON, one line for each stop.

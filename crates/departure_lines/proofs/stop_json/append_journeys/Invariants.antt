@@ -1,5 +1,6 @@
 use Rattle.std.proofs.Common.{◌≡◌, ◌++◌, map, take, string_bytes}
-use Rattle.departure_lines.specs.Json.{journey_json, with_commas}
+use Rattle.text_pieces.specs.Json.{with_commas}
+use Rattle.departure_lines.specs.Json.{journey_json}
 use Rattle.departure_lines.proofs.stop_json.append_journeys.Given as goal
 
 abbrev pub invariant-loop-index : goal.invariant-loop-index

@@ -17,9 +17,9 @@ returns g c =
     let texts = map (journey_json g.C.ShowsFigures.figures) departures in
     let text = json_if_some (stop_bytes shown.image.now.names c.args.stop) texts (secs_of (walk_to_any shown.profiles.now c.args.stop)) in
     let added = c.in_ok-append_json.ensures
-    ∙ ap (λ them. string_bytes c.args.lines.now ++ json_if_some (string_bytes c.in_ok-name.name) (map (journey_json g.C.ShowsFigures.figures) them)
+    ∙ ap (λ them. string_bytes c.args.lines.now ++ json_if_some c.as_str.result.now (map (journey_json g.C.ShowsFigures.figures) them)
     c.direct_secs-walk.result) c.deref.ensures.value
-    ∙ ap (λ name. string_bytes c.args.lines.now ++ json_if_some name texts c.direct_secs-walk.result) c.in_ok-name.ensures
+    ∙ ap (λ name. string_bytes c.args.lines.now ++ json_if_some name texts c.direct_secs-walk.result) (c.as_str.ensures.value ∙ c.in_ok-name.ensures)
     ∙ ap (λ walk. string_bytes c.args.lines.now ++ json_if_some (stop_bytes shown.image.now.names c.args.stop) texts walk) c.direct_secs-walk.ensures in
     journeys_shown g.C.Criterion.rules g.C.ShowsFigures.figures _ shown.image.now shown.profiles.now shown.criterion.now c.args.stop departures c.len.result
     text

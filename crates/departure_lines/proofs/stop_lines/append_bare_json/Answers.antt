@@ -16,5 +16,5 @@ returns g c =
     (string_bytes c.args.lines.now) (string_bytes c.append_json_points.new.lines)
     c.requires.stop c.requires.differ c.requires.same c.requires.answered c.points-points.ensures refl
     (c.in_ok-append_json_points.ensures
-    ∙ ap (λ name. string_bytes c.args.lines.now ++ json_if_some name texts c.direct_secs-walk.result) c.in_ok-name.ensures
+    ∙ ap (λ name. string_bytes c.args.lines.now ++ json_if_some name texts c.direct_secs-walk.result) (c.as_str.ensures.value ∙ c.in_ok-name.ensures)
     ∙ ap (λ walk. string_bytes c.args.lines.now ++ json_if_some (stop_bytes shown.image.now.names c.args.stop) texts walk) c.direct_secs-walk.ensures)

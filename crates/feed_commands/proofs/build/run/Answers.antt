@@ -2,11 +2,11 @@
 use Rattle.std.proofs.Common.{◌≡◌, inl, subst, sym}
 use Rattle.feed_loader.specs.Refused.{IsWantOfMemory}
 use Rattle.feed_loader.specs.declared.fault.LoadFault.{LoadFault}
-use Rattle.feed_commands.specs.Building.{IfRefused, IsReportLine, report_line}
+use Rattle.feed_commands.specs.Building.{IfRefused, IsReport, report_asked}
 use Rattle.command_endings.specs.Ending.{PrintsOnly}
 use Rattle.feed_commands.specs.Folders.{IsBuildRefusal}
 use Rattle.feed_commands.specs.Refusing.{PrintsOfFeed}
-use Rattle.feed_commands.specs.declared.build.Failure.{Failure}
+use Rattle.feed_commands.specs.declared.build.BuildFailure.{BuildFailure}
 use Rattle.command_endings.proofs.Outcomes.{outcome_of}
 use Rattle.feed_commands.proofs.Unloaded.{feed_refused}
 use Rattle.feed_commands.proofs.build.run.Goals as goal
@@ -19,8 +19,8 @@ returns-after-warnings g c =
     let request = c.args.request in
     let built = c.in-Ok.built in
     let done = c.in-Ok.ensures in
-    outcome_of (PrintsOnly (λ text. text ≡ report_line built.report))
-    (PrintsOfFeed (IsReportLine gives may_hold disk request) (IsBuildRefusal gives request.folder.now may_hold request.plan)) _ _ _
+    outcome_of (PrintsOnly (λ text. text ≡ report_asked request.json built.report))
+    (PrintsOfFeed (IsReport gives may_hold disk request) (IsBuildRefusal gives request.folder.now may_hold request.plan)) _ _ _
     (λ s text is. inl (is.0, (built.image.timetable, built.image.names, built.report, done.built, done.put, is.1))) c.print_counts.ensures
 
 pub returns-in-Err-Refused : goal.returns-in-Err-Refused
@@ -29,10 +29,10 @@ returns-in-Err-Refused g c =
     let may_hold = g.H.ImageDisk.may_hold c.args.rt.now in
     let request = c.args.request in
     let figures = c.in-Err-Refused in
-    let unbuilt = subst (λ (failure : Failure). IfRefused failure (IsBuildRefusal gives request.folder.now may_hold request.plan))
+    let unbuilt = subst (λ (failure : BuildFailure). IfRefused failure (IsBuildRefusal gives request.folder.now may_hold request.plan))
     figures.field-0-is figures.ensures.refused in
     let passed = subst (λ (fault : LoadFault). ¬ (IsWantOfMemory fault) → IsBuildRefusal gives request.folder.now may_hold request.plan fault)
     (sym figures.fault-is) unbuilt in
     let done = c.refuse_feed.ensures in
-    feed_refused (IsReportLine gives may_hold (g.H.OutDisk.files c.args.rt.now) request) (IsBuildRefusal gives request.folder.now may_hold request.plan)
+    feed_refused (IsReport gives may_hold (g.H.OutDisk.files c.args.rt.now) request) (IsBuildRefusal gives request.folder.now may_hold request.plan)
     _ _ _ _ passed done.status done.memory done.refused done.printed done.silent done.begun

@@ -1,7 +1,8 @@
 use Rattle.std.proofs.Common.{◌<◌, ℕ, get_or, length, sym, string_bytes, arith}
 use Rattle.std.proofs.lemmas.List.{append-nil, get_or_default}
-use Rattle.feed_stations.specs.Json.{stop_json, with_commas}
-use Rattle.feed_stations.proofs.Commas.{commas_all, commas_more}
+use Rattle.text_pieces.specs.Json.{with_commas}
+use Rattle.feed_stations.specs.Json.{stop_json}
+use Rattle.text_pieces.proofs.Commas.{commas_all, commas_more}
 use Rattle.feed_stations.proofs.json.append_each.Goals as goal
 
 pub loop-row_index-init : goal.loop-row_index-init

@@ -1,5 +1,6 @@
 use Rattle.std.proofs.Common.{◌≡◌, ◌++◌, map, take, string_bytes}
-use Rattle.feed_stations.specs.Json.{stop_json, with_commas}
+use Rattle.text_pieces.specs.Json.{with_commas}
+use Rattle.feed_stations.specs.Json.{stop_json}
 use Rattle.feed_stations.proofs.json.append_each.Given as goal
 
 abbrev pub invariant-loop-row_index : goal.invariant-loop-row_index

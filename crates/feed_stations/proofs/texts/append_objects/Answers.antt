@@ -1,8 +1,8 @@
 use Rattle.std.proofs.Common.{◌<◌, length, sym, string_bytes, arith}
 use Rattle.std.proofs.lemmas.List.{append-nil}
 use Rattle.feed_stations.specs.Choosing.{json_at}
-use Rattle.feed_stations.specs.Json.{with_commas}
-use Rattle.feed_stations.proofs.Commas.{commas_all, commas_more}
+use Rattle.text_pieces.specs.Json.{with_commas}
+use Rattle.text_pieces.proofs.Commas.{commas_all, commas_more}
 use Rattle.feed_stations.proofs.texts.append_objects.Goals as goal
 
 pub loop-at-init : goal.loop-at-init

@@ -1,6 +1,6 @@
 use Rattle.std.proofs.Common.{◌≡◌, ◌++◌, map, take, string_bytes}
 use Rattle.feed_stations.specs.Choosing.{json_at}
-use Rattle.feed_stations.specs.Json.{with_commas}
+use Rattle.text_pieces.specs.Json.{with_commas}
 use Rattle.feed_stations.proofs.texts.append_objects.Given as goal
 
 abbrev pub invariant-loop-at : goal.invariant-loop-at

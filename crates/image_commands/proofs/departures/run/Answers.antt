@@ -3,11 +3,12 @@ use Rattle.std.proofs.Common.{◌≡◌, ℕ, List, [], Option, None, Some, inl,
 use Rattle.std.specs.Borrow.{Bor}
 use Rattle.image_layout.specs.Image.{ImageValue}
 use Rattle.profile_scan.specs.Destinations.{question_to_any}
+use Rattle.profile_scan.specs.SetQuery.{SetQueryValue}
 use Rattle.station_answers.specs.Naming.{IsFaultBetween}
 use Rattle.command_requests.specs.declared.requests.DeparturesRequest.{DeparturesRequest}
 use Rattle.command_requests.specs.declared.statuses.TheConstants.{REFUSED}
 use Rattle.image_commands.specs.Commands.{PrintsDepartures}
-use Rattle.image_commands.specs.Departing.{AreAllShown, AreShownBy, HasUnknownFrom, IsNoListFrom, IsNoneAsked, targets_asked, window_asked}
+use Rattle.image_commands.specs.Departing.{AreAllShown, AreShownBy, AsksOfAll, HasUnknownFrom, IsNoListFrom, IsNoneAsked, targets_asked, window_asked}
 use Rattle.command_endings.specs.Ending.{EndsUndone, IsOutcome, Prints, PrintsOnly}
 use Rattle.image_commands.specs.Refusing.{refusal_line}
 use Rattle.image_commands.specs.declared.refusal.CommandRefusal.TheVariants.{Query}
@@ -24,16 +25,17 @@ module _ (may_hold : List ℕ → Option (List ℕ) → Type 0) (image : ImageVa
   has_unknown (Some path) number (text, at, is) = (text, at, (number, is))
 
   -- a list that names no stops is refused in silence, or can't be read
-  unlisted : (failure : NoList) (status : ℕ) (known : Option (List ℕ)) → IsNoListFrom may_hold request.from image.names failure
+  unlisted : (asked : (b : SetQueryValue) × AsksOfAll image request b) (failure : NoList) (status : ℕ) (known : Option (List ℕ))
+      → IsNoListFrom may_hold request.from image.names failure
       → EndsUndone status → (status ≡ REFUSED → (line : ℕ) × (failure ≡ UnknownStop line))
       → IsOutcome (PrintsDepartures may_hold image request) status known known
-  unlisted failure status known unknown (inl e) refused =
+  unlisted asked failure status known unknown (inl e) refused =
       let line = refused e in
       let first = subst (IsNoListFrom may_hold request.from image.names) line.1 unknown in
       refused_silently (AreAllShown may_hold image request) (IsNoneAsked may_hold image request) status known
-      (inr (has_unknown request.from line.0 first, refl)) e
-  unlisted failure status known unknown (inr (inl e)) refused = inr (inr (inl e, refl))
-  unlisted failure status known unknown (inr (inr e)) refused = inr (inr (inr e, refl))
+      (inr (asked.0, asked.1, has_unknown request.from line.0 first, refl)) e
+  unlisted asked failure status known unknown (inr (inl e)) refused = inr (inr (inl e, refl))
+  unlisted asked failure status known unknown (inr (inr e)) refused = inr (inr (inr e, refl))
 
 pub returns-else-status-eq-REFUSED : goal.returns-else-status-eq-REFUSED
 returns-else-status-eq-REFUSED g c =
@@ -55,9 +57,10 @@ returns-in-Ok-wanted_from g c =
     let asked = question_to_any c.in-Ok.destinations in
     outcome_of (PrintsOnly (AreShownBy request.criterion request.form image asked wanted))
     (Prints (AreAllShown may_hold image request) (IsNoneAsked may_hold image request)) _ _ _
-    (λ s text is. inl (is.0, (asked, wanted, c.in-Ok.ensures.0, c.in-Ok.ensures.1, c.in-Ok-wanted_from.ensures, is.1))) c.print_all.ensures
+    (λ s text is. inl (is.0, (asked, wanted, c.in-Ok.ensures, c.in-Ok-wanted_from.ensures, is.1))) c.print_all.ensures
 
 pub returns : goal.returns
 returns g c =
-    unlisted (g.H.ImageDisk.may_hold c.args.rt.now) c.args.image.now c.args.request.now c.in-Err.failure _ _ c.in-Err.ensures
+    unlisted (g.H.ImageDisk.may_hold c.args.rt.now) c.args.image.now c.args.request.now
+    (question_to_any c.in-Ok.destinations, c.in-Ok.ensures) c.in-Err.failure _ _ c.in-Err.ensures
     c.explain_list.ensures.status c.explain_list.ensures.refused

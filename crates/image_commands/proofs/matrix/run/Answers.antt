@@ -1,6 +1,6 @@
 use Rattle.std.proofs.Common.{◌∙◌, inl, inr, refl}
 use Rattle.image_commands.specs.Matrices.{IsTableOf}
-use Rattle.image_commands.proofs.MatrixLemmas.{bad_window_of, ends_asked, sources_are_within, table_asked, targets_are_within, unasked_table}
+use Rattle.image_commands.proofs.MatrixLemmas.{ends_asked, sources_are_within, table_asked, targets_are_within, unasked_table}
 use Rattle.image_commands.proofs.matrix.run.Given as given
 use Rattle.image_commands.proofs.matrix.run.Goals.{After-table_of-table}
 use Rattle.image_commands.proofs.matrix.run.Goals as goal
@@ -29,8 +29,7 @@ returns-in-Ok-clause-printed g c = λ is.
 
 pub returns-in-Ok-clause-refused : goal.returns-in-Ok-clause-refused
 returns-in-Ok-clause-refused g c = λ is.
-    inl (bad_window_of (g.H.ImageDisk.may_hold c.args.rt.now) c.args.image.now c.args.request c.table_of-table.result _ _
-    (asked g (goal.at.returns-in-Ok-clause-refused g c).After-table_of-table) (c.make_table.ensures.refused is))
+    inl (c.table_of-table.result, asked g (goal.at.returns-in-Ok-clause-refused g c).After-table_of-table, c.make_table.ensures.refused is)
 
 pub returns-in-Ok-clause-unlisted : goal.returns-in-Ok-clause-unlisted
 returns-in-Ok-clause-unlisted g c = λ is. absurd (ends_asked _ c.make_table.ensures.status is)

@@ -7,4 +7,4 @@ pub returns-in_err-sources-clause-status : goal.returns-in_err-sources-clause-st
 returns-in_err-sources-clause-status g c =
     let figures = err_from_is_err_and c.from_residual-in_err-sources.result c.from_residual-in_err-sources.ensures.1 in
     rw (figures.1, figures.2) (unasked_sources (g.H.ImageDisk.may_hold c.args.rt.now) c.args.request c.args.image.now
-    c.in_err-sources.field-0.0 c.args.request.from refl c.in_err-sources.ensures.status)
+    c.in_err-sources.field-0.0 c.args.request.from c.in_ok-targets.targets.items c.in_ok-targets.ensures refl c.in_err-sources.ensures.status)

@@ -1,7 +1,7 @@
 use Rattle.std.proofs.Common.{◌<◌, ℕ, get_or, length, sym, string_bytes, arith}
 use Rattle.std.proofs.lemmas.List.{append-nil, get_or_default}
-use Rattle.feed_stations.specs.Json.{with_commas}
-use Rattle.feed_stations.proofs.Commas.{commas_all, commas_more}
+use Rattle.text_pieces.specs.Json.{with_commas}
+use Rattle.text_pieces.proofs.Commas.{commas_all, commas_more}
 use Rattle.image_commands.specs.StopLines.{stop_json}
 use Rattle.image_commands.proofs.stops.append_objects.Goals as goal
 

@@ -1,5 +1,5 @@
 use Rattle.std.proofs.Common.{◌≡◌, ◌++◌, map, take, string_bytes}
-use Rattle.feed_stations.specs.Json.{with_commas}
+use Rattle.text_pieces.specs.Json.{with_commas}
 use Rattle.image_commands.specs.StopLines.{stop_json}
 use Rattle.image_commands.proofs.stops.append_objects.Given as goal
 

@@ -1,7 +1,7 @@
 use Rattle.std.proofs.Common.{◌≡◌, ◌++◌, refl, string_bytes, subst, w64, ℤ}
 use Rattle.std.proofs.lemmas.Int.{to_z-of_z}
 use Rattle.image_facts.specs.Base.{IsUtc, base_line}
-use Rattle.image_facts.specs.declared.form.Form.{Form}
+use Rattle.text_pieces.specs.declared.form.Form.{Form}
 use Rattle.text_pieces.proofs.Joined.{two}
 use Rattle.image_facts.proofs.base.append_base.Goals as goal
 

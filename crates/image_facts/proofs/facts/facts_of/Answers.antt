@@ -2,7 +2,7 @@ use Rattle.std.proofs.Common.{[], ◌++◌, ◌∙◌, FitsSigned, List, ap, rul
 use Rattle.std.proofs.lemmas.Int.{to_z-of_z}
 use Rattle.image_facts.specs.Base.{HasBase}
 use Rattle.image_facts.specs.Days.{HasDays, trip_days}
-use Rattle.image_facts.specs.declared.form.Form.{Form}
+use Rattle.text_pieces.specs.declared.form.Form.{Form}
 use Rattle.image_facts.specs.Facts.{counts_text, file_text}
 use Rattle.image_facts.proofs.Grouped.{in_any_order}
 use Rattle.text_pieces.proofs.Joined.{four}

@@ -3,7 +3,7 @@ use Rattle.std.proofs.lemmas.Int.{to_z-of_z}
 use Rattle.image_facts.specs.Base.{IsUtc}
 use Rattle.image_facts.specs.Days.{HasDays, trip_days}
 use Rattle.image_facts.specs.Json.{names_json, sizes_json}
-use Rattle.image_facts.specs.declared.form.Form.{Form}
+use Rattle.text_pieces.specs.declared.form.Form.{Form}
 use Rattle.image_facts.proofs.Grouped.{in_any_order}
 use Rattle.text_pieces.proofs.Joined.{five}
 use Rattle.image_facts.proofs.json.json_of.Goals as goal

@@ -1,10 +1,10 @@
 -- Texts with commas between them, one by one.
-use Rattle.std.proofs.Common.{◌≡◌, ◌<◌, ◌≤◌, ◌+◌, ℕ, List, [], ◌∷◌, ◌++◌, Option, length, map, take, get_or, codes}
-use Rattle.std.proofs.Common.{refl, sym, ◌∙◌, ap, append_assoc, arith}
+use Rattle.std.proofs.Common.{◌≡◌, ◌<◌, ◌≤◌, ◌+◌, ℕ, List, [], ◌∷◌, ◌++◌, length, map, take, get_or, codes}
+use Rattle.std.proofs.Common.{sym, ◌∙◌, ap, append_assoc, arith}
 use Rattle.std.specs.List.{flat_map}
 use Rattle.std.proofs.lemmas.Grind.{flat_map-append}
 use Rattle.std.proofs.lemmas.List.{append-nil, length-map, length-take-le, map-append, take_all, take_more}
-use Rattle.departure_lines.specs.Json.{comma_before, json_head, json_if_some, json_tail, with_commas}
+use Rattle.text_pieces.specs.Json.{comma_before, with_commas}
 
 -- one more text at the end
 commas_push : (xs : List (List ℕ)) (x : List ℕ) → with_commas (xs ++ x ∷ []) ≡ (with_commas xs ++ comma_before (length xs)) ++ x
@@ -44,9 +44,3 @@ commas_more {A} f xs i x old p q s lt there before comma last =
 pub commas_all : {A : Type 0} (f : A → List ℕ) (xs : List A) (i : ℕ) (old now : List ℕ) → length xs ≤ i
     → now ≡ old ++ with_commas (map f (take i xs)) → now ≡ old ++ with_commas (map f xs)
 commas_all f xs i old now past is = is ∙ ap (λ ys. old ++ with_commas (map f ys)) (take_all i xs past)
-
--- a line has a text, if there are points
-pub line_if_some : (name : List ℕ) (xs : List (List ℕ)) (walk : Option ℕ) → 0 < length xs
-    → (json_head name ++ with_commas xs) ++ json_tail walk ≡ json_if_some name xs walk
-line_if_some name [] walk lt = absurd (omega (arith, lt))
-line_if_some name (x ∷ xs) walk lt = refl

@@ -1,7 +1,7 @@
 use Rattle.std.proofs.Common.{[], ◌++◌, ◌∙◌, ap, string_bytes}
 use Rattle.feed_commands.specs.Building.{made_text, report_line}
 use Rattle.text_pieces.proofs.Joined.{three}
-use Rattle.feed_commands.proofs.build.counts.Goals as goal
+use Rattle.feed_commands.proofs.build.line_of.Goals as goal
 
 pub returns : goal.returns
 unfolding report_line

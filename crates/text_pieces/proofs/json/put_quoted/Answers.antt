@@ -1,10 +1,10 @@
 use Rattle.std.proofs.Common.{◌++◌, ◌∙◌, ap, string_bytes}
-use Rattle.feed_stations.specs.Json.{member_json}
+use Rattle.text_pieces.specs.Json.{quoted_text}
 use Rattle.text_pieces.proofs.Joined.{two}
-use Rattle.feed_stations.proofs.json.append_member.Goals as goal
+use Rattle.text_pieces.proofs.json.put_quoted.Goals as goal
 
 pub returns : goal.returns
-unfolding member_json
+unfolding quoted_text
 returns c =
     two (string_bytes c.args.out.now) (string_bytes c.put_text.new.out) (string_bytes c.put_text-2.new.out) _ _
     c.in_ok-put_text.ensures
