@@ -2,4 +2,4 @@
 
 /// The sum of all sources but this file, as `release/sources --program` prints it. `release/stamp` writes it, and
 /// `.ci/run` compares it with the sources.
-pub const SOURCES: &str = "594340eae377d93f39ce921086f5bce69636f24bbebc399cb6a12902440d04fc";
+pub const SOURCES: &str = "cf7436237f1fd653ecae600a1beba4a7b98fb5f1201817c77f4b568c8bda04e2";
