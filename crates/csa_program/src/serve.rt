@@ -12,7 +12,7 @@ ghost use Rattle.epochs.specs.ShelfSeats.{SeatsHanded};
 ghost use Rattle.workers.specs.Headline.{AreReadyAt, IsRunAt, server_input_of};
 ghost use Rattle.workers.specs.Sessions.{MayClose};
 ghost use Rattle.epochs.specs.ShelfWords.{shelf_loader, shelf_seats};
-ghost use Rattle.workers.specs.Words.{files_of, loads_of, outcomes_of, sessions_of};
+ghost use Rattle.workers.specs.Words.{loads_of, outcomes_of, sessions_of};
 ghost use Rattle.csa_program.specs.Acceptor.{AreAsMany, AreCountedOff};
 ghost use Rattle.csa_program.specs.Hosting.{AreHosted, AreSessionsOf};
 ghost use Rattle.std.specs.Option.{option_map};
@@ -359,10 +359,7 @@ fn serve_all<
         (K.words.came run_result.clients)) }
     ensures run { IfOk result (IsRunAt (sessions_of form C.words C.Reader.remaining C.Writer.contents shelf_seats)
         K.words (loads_of ⟦<Folders<'f, H> as Feeds>⟧.words
-        (outcomes_of (files_of
-        ⟦<FolderFiles<'f, H> as FeedFiles>⟧.holds ⟦<FolderFiles<'f, H> as FeedFiles>⟧.reads
-        ⟦<FolderFiles<'f, H> as FeedFiles>⟧.failures ⟦<FolderFiles<'f, H> as FeedFiles>⟧.failed)
-        shelf_loader shelf_seats.version))
+        (outcomes_of ⟦<FolderFiles<'f, H> as FeedFiles>⟧.words shelf_loader shelf_seats.version))
         (server_input_of clients made.0 made.2.items made.1 folders.now)) }
 {
     let (shelves, loader, seats) = made;

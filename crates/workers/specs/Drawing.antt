@@ -1,10 +1,11 @@
 -- A feed's files that are drawn for an order.
-use Rattle.std.specs.Prelude.{◌≡◌, List, Option, Result}
+use Rattle.std.specs.Prelude.{◌≡◌, List, [], Option, Result}
+use Rattle.feed_files.specs.Files.{FileWords}
 use Rattle.feed_loader.specs.declared.plan.Plan.{Plan}
 use Rattle.load_orders.specs.Keeping.{QueueId}
 use Rattle.load_orders.specs.declared.queue.Order.{Order}
 use Rattle.workers.specs.Loading.{FilesGoOn, IsOutcome, load_state}
-use Rattle.workers.specs.Words.{FileWords, OutcomeWords}
+use Rattle.workers.specs.Words.{OutcomeWords}
 use Rattle.workers.specs.declared.drawing.DrawnFiles.{DrawnFiles}
 use Rattle.workers.specs.declared.loading.LoadedVersion.{LoadedVersion}
 use Rattle.workers.specs.declared.refusal.LoadRefusal.{LoadRefusal}
@@ -16,7 +17,7 @@ IsDrawnAt queue taken drawn = (drawn.end.value.queue ≡ queue) × (drawn.end.va
 -- the files are as they were drawn, and no read of them failed
 pub record AreUnread {D N : Type 0} (words : FileWords D) (drawn : DrawnFiles D N) : Type 0 where
   pub as_drawn : drawn.files ≡ drawn.first.value
-  pub none_failed : words.failures drawn.files ≡ 0
+  pub none_failed : words.failed drawn.files ≡ []
 
 -- drawn files, and the loader's seat, are loaded by this plan: what comes of the files as they were drawn; when they were drawn stays as it was
 pub record AreLoadedBy {D T L N : Type 0} (words : OutcomeWords D T L N) (plan : Plan) (a : DrawnFiles D N × L)

@@ -1,13 +1,12 @@
 -- What comes of an order to load a feed.
-use Rattle.std.specs.Prelude.{◌≡◌, ◌≤◌, ◌+◌, ◌⊎◌, ℕ, List, Option, Some, None, Result, Ok, Err, MatchOption}
+use Rattle.std.specs.Prelude.{◌≡◌, ◌≤◌, ◌⊎◌, ℕ, List, Option, Some, None, Result, Ok, Err, MatchOption}
 use Rattle.image_layout.specs.Image.{ImageValue}
 use Rattle.connections.specs.declared.days.TheConstants.{MAX_DAYS}
 use Rattle.connections.specs.declared.report.Report.{Report}
-use Rattle.feed_files.specs.Files.{FileRead}
-use Rattle.feed_files.specs.Reading.{Content, Tells}
-use Rattle.feed_files.specs.Reads.{AllWereRead, AreRead, SomeWereRead}
-use Rattle.gtfs_rows.specs.declared.fault.Table.{Table}
-use Rattle.feed_loader.specs.Faults.{failed_by, failed_in, fault_number}
+use Rattle.feed_files.specs.Files.{FileWords}
+use Rattle.feed_files.specs.Reading.{Content}
+use Rattle.feed_files.specs.Reads.{AllWereRead, Shows, SomeWereRead}
+use Rattle.feed_loader.specs.Faults.{failed_by, fault_number}
 use Rattle.feed_loader.specs.Refused.{IsLoadRefusal, IsLoaded, IsWantOfMemory}
 use Rattle.feed_loader.specs.declared.fault.LoadFault.{LoadFault}
 use Rattle.feed_loader.specs.declared.plan.Plan.{Plan}
@@ -17,7 +16,7 @@ use Rattle.epochs.specs.Seats.{PublishStep, RefuseStep, CollectStep}
 use Rattle.epochs.specs.declared.collected.Collected.{Collected}
 use Rattle.epochs.specs.declared.faults.PublishFault.{PublishFault}
 use Rattle.epochs.specs.declared.seats.LoaderAnswer.{LoaderAnswer}
-use Rattle.workers.specs.Words.{FileWords, Holds, OutcomeWords}
+use Rattle.workers.specs.Words.{OutcomeWords}
 use Rattle.workers.specs.declared.loading.LoadedVersion.{LoadedVersion}
 use Rattle.workers.specs.declared.refusal.LoadRefusal.{LoadRefusal}
 
@@ -51,20 +50,16 @@ abbrev pub IsNotPublished : List LoaderAnswer → LoadRefusal → List LoaderAns
 IsNotPublished before (LoadRefusal.Load fault) after = after ≡ before
 IsNotPublished before (LoadRefusal.Publish fault) after = ((after ≡ before) × (fault ≡ PublishFault.OutOfMemory)) ⊎ RefuseStep before fault after
 
--- the files show this content: they are known to hold it, or the reads between two moments gave it
-abbrev pub ShowsContent : Holds → List FileRead → List FileRead → Content → Type 0
-ShowsContent holds old new content = Tells holds content ⊎ ((ts : List Table) × AreRead content ts old new)
-
 -- each file was read once, and what the files show has this image, with these counts
-pub record IsMadeOf (holds : Holds) (old new : List FileRead) (plan : Plan) (made : ImageValue × Report) : Type 0 where
-  pub all_read : AllWereRead old new
-  pub is_image : (content : Content) → ShowsContent holds old new content → IsImageOf content plan made.0 made.1
+pub record IsMadeOf {D : Type 0} (words : FileWords D) (old new : D) (plan : Plan) (made : ImageValue × Report) : Type 0 where
+  pub all_read : AllWereRead (words.reads old) (words.reads new)
+  pub is_image : (content : Content) → Shows words old new content → IsImageOf content plan made.0 made.1
 
 -- what a refusal says of the files: that what they show is refused so; or, if the publish was refused, that each was read once, and that what they
 -- show has an image
-abbrev pub IsRefusalOf : Holds → List FileRead → List FileRead → Plan → LoadRefusal → Type 0
-IsRefusalOf holds old new plan (LoadRefusal.Load fault) = (content : Content) → ShowsContent holds old new content → MayRefuse content plan fault
-IsRefusalOf holds old new plan (LoadRefusal.Publish fault) = (made : ImageValue × Report) × IsMadeOf holds old new plan made
+abbrev pub IsRefusalOf : {D : Type 0} → FileWords D → D → D → Plan → LoadRefusal → Type 0
+IsRefusalOf words old new plan (LoadRefusal.Load fault) = (content : Content) → Shows words old new content → MayRefuse content plan fault
+IsRefusalOf words old new plan (LoadRefusal.Publish fault) = (made : ImageValue × Report) × IsMadeOf words old new plan made
 
 -- what a load changes: the feed's files, and the loader's seat
 pub record LoadState (D L : Type 0) : Type 0 where
@@ -80,12 +75,12 @@ abbrev pub IsOutcome : {D T L N : Type 0} → OutcomeWords D T L N → Plan → 
     → Result (LoadedVersion × Option N) LoadRefusal → LoadState D L → Type 0
 IsOutcome words plan a (Ok loaded) b =
     (image : ImageValue)
-    × IsMadeOf (words.files.holds a.files) (words.files.reads a.files) (words.files.reads b.files) plan (image, loaded.0.report)
+    × IsMadeOf words.files a.files b.files plan (image, loaded.0.report)
     × IsPublished (words.loader.answers a.loader) image loaded.0.version (words.loader.answers b.loader)
     × MatchOption loaded.1 ⊥ (λ notice. words.version notice ≡ loaded.0.version)
 IsOutcome words plan a (Err refusal) b =
     SomeWereRead (words.files.reads a.files) (words.files.reads b.files)
-    × IsRefusalOf (words.files.holds a.files) (words.files.reads a.files) (words.files.reads b.files) plan refusal
+    × IsRefusalOf words.files a.files b.files plan refusal
     × IsNotPublished (words.loader.answers a.loader) refusal (words.loader.answers b.loader)
 
 -- the number under which a refusal is reported
@@ -115,5 +110,4 @@ reading (Err refusal) = reading_refused refusal
 -- file that the outcome names
 pub record FilesGoOn {D T : Type 0} (words : FileWords D) (a : D) (outcome : Result T LoadRefusal) (b : D) : Type 0 where
   pub holds : words.holds b ≡ words.holds a
-  pub failures : words.failures b ≡ words.failures a + failed_in (reading outcome)
   pub failed : words.failed b ≡ failed_by (words.failed a) (reading outcome)

@@ -2,7 +2,7 @@
 use Rattle.std.specs.Prelude.{ℕ, List, Option, Result, String}
 use Rattle.std.specs.Global.{Global}
 use Rattle.epochs.specs.Words.{LoaderWords, SeatWords}
-use Rattle.feed_files.specs.Files.{FileRead}
+use Rattle.feed_files.specs.Files.{FileWords}
 use Rattle.feed_loader.specs.declared.plan.Plan.{Plan}
 use Rattle.session.specs.declared.reply_form.ReplyForm.{ReplyForm}
 use Rattle.workers.specs.declared.clients.ConnFault.{ConnFault}
@@ -27,17 +27,6 @@ pub record FeedWords (F D : Type 0) : Type 1 where
   pub are_files : F → ℕ → D → Type 0
   pub is_plan : F → Plan → Type 0
 
--- what files are known to hold, by their names
-abbrev pub Holds : Type 0
-Holds = List ℕ → Option (Option (List ℕ))
-
--- a feed's files: what they are known to hold, what was read of them, how many reads failed, and of which files
-pub record FileWords (D : Type 0) : Type 1 where
-  pub holds : D → Holds
-  pub reads : D → List FileRead
-  pub failures : D → ℕ
-  pub failed : D → List (List ℕ)
-
 -- sessions: the form of their replies, their clients, what is to be read and what was written, if that is known, and the seats at which they are
 -- served
 pub record SessionWords (C R W T S N : Type 0) : Type 1 where
@@ -57,9 +46,6 @@ pub record OutcomeWords (D T L N : Type 0) : Type 1 where
 pub record LoadWords (F D T L N : Type 0) : Type 1 where
   pub feeds : FeedWords F D
   pub outcomes : OutcomeWords D T L N
-
-abbrev pub files_of : {D : Type 0} → (D → Holds) → (D → List FileRead) → (D → ℕ) → (D → List (List ℕ)) → FileWords D
-files_of holds reads failures failed = record { holds = holds; reads = reads; failures = failures; failed = failed }
 
 abbrev pub sessions_of : {C R W T S N : Type 0} → ReplyForm → ClientWords C R W → (R → Option (List ℕ)) → (W → Option (List ℕ)) → SeatWords T S N
     → SessionWords C R W T S N

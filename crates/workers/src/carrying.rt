@@ -9,7 +9,7 @@ ghost use Rattle.workers.specs.Learned.{LoaderGoesOn};
 ghost use Rattle.workers.specs.Lines.{outcome_line};
 ghost use Rattle.workers.specs.Loading.{load_answer};
 ghost use Rattle.workers.specs.Posts.{IsLoaderDone, loader_post_of};
-ghost use Rattle.workers.specs.Words.{files_of, loads_of, outcomes_of};
+ghost use Rattle.workers.specs.Words.{loads_of, outcomes_of};
 
 use crate::drawing::{DrawnFiles, UsedFiles};
 use crate::feeds::Feeds;
@@ -48,7 +48,7 @@ impl<'a, R: Wait, N: Drop, T: Versions<Notice = N> + Loads, F: Feeds> LoadContex
         requires none { (orders.taken ≡ []) × (orders.answered ≡ []) × (used ≡ []) }
         ensures { IsLoaderDone (loads_of F.words
             (outcomes_of
-            (files_of F.Files.holds F.Files.reads F.Files.failures F.Files.failed)
+            F.Files.words
             T.Loads.words T.Versions.words.version))
             (loader_post_of self.now.shelves.now seat self.now.feeds.now orders.queue) (loads_value result.0 result.2)
             result.1 }
@@ -78,7 +78,7 @@ impl<'a, R: Wait, N: Drop, T: Versions<Notice = N> + Loads, F: Feeds> LoadContex
         ensures seat { LoaderGoesOn T.Loads.words self.now.shelves.now seat.old seat.new }
         ensures carried { Handles (load_input_of (loads_of F.words
             (outcomes_of
-            (files_of F.Files.holds F.Files.reads F.Files.failures F.Files.failed)
+            F.Files.words
             T.Loads.words T.Versions.words.version))
             self.now.feeds.now orders.old.queue) order (loads_value orders.old used.old, seat.old)
             (loads_value orders.new used.new, seat.new) }
@@ -101,7 +101,7 @@ impl<'a, R: Wait, N: Drop, T: Versions<Notice = N> + Loads, F: Feeds> LoadContex
         ensures seat { LoaderGoesOn T.Loads.words self.now.shelves.now seat.old seat.new }
         ensures load { IsLoadOf (load_input_of (loads_of F.words
             (outcomes_of
-            (files_of F.Files.holds F.Files.reads F.Files.failures F.Files.failed)
+            F.Files.words
             T.Loads.words T.Versions.words.version))
             self.now.feeds.now orders.now.queue) (load_value index orders.now.taken result.1
             result.0) seat.old seat.new }
@@ -136,11 +136,11 @@ impl<'a, R: Wait, N: Drop, T: Versions<Notice = N> + Loads, F: Feeds> LoadContex
         seat: &mut T::Loader,
     ) -> Result<(LoadedVersion, Option<N>), LoadRefusal>
         requires loads { T.Loads.words.fits self.now.shelves.now seat.old }
-        requires unread { AreUnread (files_of F.Files.holds F.Files.reads F.Files.failures F.Files.failed) files.old }
+        requires unread { AreUnread F.Files.words files.old }
         ensures seat { LoaderGoesOn T.Loads.words self.now.shelves.now seat.old seat.new }
         ensures load { (plan : Plan) × F.words.is_plan self.now.feeds.now plan
             × AreLoadedBy (outcomes_of
-            (files_of F.Files.holds F.Files.reads F.Files.failures F.Files.failed)
+            F.Files.words
             T.Loads.words T.Versions.words.version)
             plan (files.old, seat.old) result (files.new, seat.new) }
     {

@@ -4,7 +4,7 @@ ghost use Rattle.std.specs.Prelude.{◌≤◌, length, MatchOption};
 ghost use Rattle.workers.specs.Drawing.{AreLoadedBy, AreUnread, IsDrawnAt};
 ghost use Rattle.workers.specs.Learned.{LoaderGoesOn};
 ghost use Rattle.workers.specs.Loading.{HasDays};
-ghost use Rattle.workers.specs.Words.{files_of, outcomes_of};
+ghost use Rattle.workers.specs.Words.{outcomes_of};
 
 use crate::feeds::Feeds;
 use crate::loading::{LoadedVersion, load_one};
@@ -37,7 +37,7 @@ impl<D: FeedFiles, N: Drop> DrawnFiles<D, N> {
         orders: &LoaderOrders<N>,
     ) -> Option<DrawnFiles<D, N>>
         ensures { MatchOption result (length (F.words.named feeds.now) ≤ index) (λ drawn. AreUnread
-            (files_of D.holds D.reads D.failures D.failed) drawn
+            D.words drawn
             × F.words.are_files feeds.now index drawn.first.value
             × IsDrawnAt orders.now.queue orders.now.taken drawn) }
     {
@@ -60,10 +60,10 @@ impl<D: FeedFiles, N: Drop> DrawnFiles<D, N> {
         loader: &mut T::Loader,
     ) -> Result<(LoadedVersion, Option<N>), LoadRefusal>
         requires loads { T.Loads.words.fits shelves.now loader.old }
-        requires unread { AreUnread (files_of D.holds D.reads D.failures D.failed) self.old }
+        requires unread { AreUnread D.words self.old }
         requires days { HasDays plan.now }
         ensures seat { LoaderGoesOn T.Loads.words shelves.now loader.old loader.new }
-        ensures load { AreLoadedBy (outcomes_of (files_of D.holds D.reads D.failures D.failed)
+        ensures load { AreLoadedBy (outcomes_of D.words
             T.Loads.words T.Versions.words.version)
             plan.now (self.old, loader.old) result (self.new, loader.new) }
     {

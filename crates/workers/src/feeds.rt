@@ -1,6 +1,6 @@
 //! The feeds that may be ordered.
 
-ghost use Rattle.std.specs.Prelude.{◌≡◌, ◌≤◌, length, IfOk, MatchOption, MatchResult};
+ghost use Rattle.std.specs.Prelude.{◌≡◌, ◌≤◌, [], length, IfOk, MatchOption, MatchResult};
 ghost use Rattle.feed_loader.specs.declared.plan.Plan.{Plan};
 ghost use Rattle.workers.specs.Loading.{HasDays};
 ghost use Rattle.workers.specs.Words.{FeedWords};
@@ -34,7 +34,7 @@ pub trait Feeds {
     /// The files of the feed at the index, of which no read has failed yet. None only where there is no such feed.
     fn files(&self, index: usize) -> Option<Self::Files>
         ensures { MatchOption result (length (words.named self.now) ≤ index)
-            (λ files. (Self.Files.failures files ≡ 0)
+            (λ files. (Self.Files.words.failed files ≡ [])
             × words.are_files self.now index files) };
 
     /// Called before the feed at the index is loaded. Returns the instant at which that is, for `finish`, or none.

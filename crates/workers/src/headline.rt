@@ -5,7 +5,7 @@ ghost use Rattle.workers.specs.Headline.{AllLoaded, AllServed, AreReadyAt, IsLef
 ghost use Rattle.workers.specs.Headline.{PinnedAreLeftAloneAt, server_input_of};
 ghost use Rattle.workers.specs.Sessions.{MayClose};
 ghost use Rattle.epochs.specs.ShelfWords.{shelf_loader, shelf_seats};
-ghost use Rattle.workers.specs.Words.{files_of, loads_of, outcomes_of, sessions_of};
+ghost use Rattle.workers.specs.Words.{loads_of, outcomes_of, sessions_of};
 
 use crate::clients::{Client, Clients};
 use crate::feeds::Feeds;
@@ -69,7 +69,7 @@ pub fn run_shelves<
     ensures served { IfOk result (AllServed (sessions_of form C.words C.Reader.remaining C.Writer.contents shelf_seats)
         K.words F.words (server_input_of clients shelves seats.items loader feeds.now)) }
     ensures loaded { IfOk result (AllLoaded (loads_of F.words
-        (outcomes_of (files_of F.Files.holds F.Files.reads F.Files.failures F.Files.failed) shelf_loader
+        (outcomes_of F.Files.words shelf_loader
         shelf_seats.version))
         (server_input_of clients shelves seats.items loader feeds.now)) }
     ensures pinned { PinnedAreLeftAloneAt shelves }

@@ -1,13 +1,13 @@
 //! A feed is loaded and published.
 
-ghost use Rattle.std.specs.Prelude.{◌≡◌, ◌<◌, ◌-◌, ◌^◌, IfOk, MatchOption, MatchResult};
+ghost use Rattle.std.specs.Prelude.{◌≡◌, IfOk, MatchOption, MatchResult};
 ghost use Rattle.std.specs.Arc.{arc_value};
 ghost use Rattle.feed_files.specs.Reads.{SomeWereRead};
 ghost use Rattle.epochs.specs.Seats.{RefuseStep};
 ghost use Rattle.workers.specs.Learned.{LoaderGoesOn};
 ghost use Rattle.workers.specs.Loading.{FilesGoOn, HasDays, IsEarly, IsMadeOf, IsOutcome, IsPublished, IsRefusalOf};
 ghost use Rattle.workers.specs.Loading.{load_state};
-ghost use Rattle.workers.specs.Words.{files_of, outcomes_of};
+ghost use Rattle.workers.specs.Words.{outcomes_of};
 
 use crate::refusal::LoadRefusal;
 use epochs::{Loads, PublishFault, Versions};
@@ -33,11 +33,10 @@ pub fn load_one<F: FeedFiles, N, T: Versions<Notice = N> + Loads>(
     loader: &mut T::Loader,
 ) -> Result<(LoadedVersion, Option<N>), LoadRefusal>
     requires loads { T.Loads.words.fits shelves.now loader.old }
-    requires failures { F.failures files.old < 2 ^ 64 - 1 }
     requires days { HasDays plan.now }
     ensures seat { LoaderGoesOn T.Loads.words shelves.now loader.old loader.new }
-    ensures files { FilesGoOn (files_of F.holds F.reads F.failures F.failed) files.old result files.new }
-    ensures outcome { IsOutcome (outcomes_of (files_of F.holds F.reads F.failures F.failed)
+    ensures files { FilesGoOn F.words files.old result files.new }
+    ensures outcome { IsOutcome (outcomes_of F.words
         T.Loads.words T.Versions.words.version)
         plan.now (load_state files.old loader.old) result (load_state files.new loader.new) }
 {
@@ -56,15 +55,12 @@ fn shared_image<F: FeedFiles>(
     files: &mut F,
     plan: &Plan,
 ) -> Result<(Arc<Verified, Global>, Report), LoadRefusal>
-    requires failures { F.failures files.old < 2 ^ 64 - 1 }
     requires days { HasDays plan.now }
-    ensures files { FilesGoOn (files_of F.holds F.reads F.failures F.failed) files.old result files.new }
-    ensures read { SomeWereRead (F.reads files.old) (F.reads files.new) }
+    ensures files { FilesGoOn F.words files.old result files.new }
+    ensures read { SomeWereRead (F.words.reads files.old) (F.words.reads files.new) }
     ensures made { MatchResult result
-        (λ made. IsMadeOf (F.holds files.old) (F.reads files.old) (F.reads files.new) plan.now
-        (arc_value made.0, made.1))
-        (λ refusal. IsEarly refusal
-        × IsRefusalOf (F.holds files.old) (F.reads files.old) (F.reads files.new) plan.now refusal) }
+        (λ made. IsMadeOf F.words files.old files.new plan.now (arc_value made.0, made.1))
+        (λ refusal. IsEarly refusal × IsRefusalOf F.words files.old files.new plan.now refusal) }
 {
     let (image, report) = match load(alloc, files, plan) {
         Ok(made) => made,

@@ -6,7 +6,7 @@ ghost use Rattle.workers.specs.Carrying.{loads_value};
 ghost use Rattle.workers.specs.Headline.{AreReady, IsRun, server_input_of};
 ghost use Rattle.workers.specs.Posts.{IsLoaderDone, IsWorked, loader_post_of, place_of, post_of};
 ghost use Rattle.workers.specs.Sessions.{IsReadyToServe, MayClose, share_of, worker_state};
-ghost use Rattle.workers.specs.Words.{files_of, loads_of, outcomes_of, sessions_of};
+ghost use Rattle.workers.specs.Words.{loads_of, outcomes_of, sessions_of};
 
 use crate::carrying::LoadContext;
 use crate::clients::{Client, Clients};
@@ -76,7 +76,7 @@ where
         seats.items }
     ensures { IfOk result (IsRun (sessions_of form C.words C.Reader.remaining C.Writer.contents T.Versions.words)
         K.words (loads_of F.words (outcomes_of
-        (files_of F.Files.holds F.Files.reads F.Files.failures F.Files.failed) T.Loads.words T.Versions.words.version))
+        F.Files.words T.Loads.words T.Versions.words.version))
         (server_input_of clients shelves.now seats.items loader feeds.now)) }
 {
     thread::scope(
@@ -97,7 +97,7 @@ where
             ensures { IfOk result (IsRun
                 (sessions_of form C.words C.Reader.remaining C.Writer.contents T.Versions.words)
                 K.words (loads_of F.words (outcomes_of
-                (files_of F.Files.holds F.Files.reads F.Files.failures F.Files.failed)
+                F.Files.words
                 T.Loads.words T.Versions.words.version))
                 (server_input_of clients shelves.entry.now seats.items loader feeds.entry.now)) }
         {
@@ -119,7 +119,7 @@ where
                         × (orders.taken ≡ []) × (orders.answered ≡ []) × (unused ≡ []) }
                     ensures { IsLoaderDone
                         (loads_of F.words (outcomes_of
-                        (files_of F.Files.holds F.Files.reads F.Files.failures F.Files.failed)
+                        F.Files.words
                         T.Loads.words T.Versions.words.version))
                         (loader_post_of shelves.entry.now loader_seat feeds.entry.now orders.queue)
                         (loads_value result.0 result.2) result.1 }

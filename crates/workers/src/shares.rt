@@ -5,7 +5,7 @@ ghost use Rattle.client_queue.specs.Ends.{nothing_put};
 ghost use Rattle.workers.specs.Carrying.{loads_value};
 ghost use Rattle.workers.specs.Posts.{AreBack, AreOut, IsLoaderDone, place_of, route_at};
 ghost use Rattle.workers.specs.Sessions.{AreAllServed, AreServedSince, IsReadyToJoin, worker_starts, work_of};
-ghost use Rattle.workers.specs.Words.{IsExhausted, files_of, loads_of, outcomes_of, sessions_of};
+ghost use Rattle.workers.specs.Words.{IsExhausted, loads_of, outcomes_of, sessions_of};
 
 use crate::clients::{Client, Clients};
 use crate::dealing::deal_all;
@@ -85,7 +85,7 @@ impl<C: Client + Drop, N: Drop, S, T: Versions<Seat = S, Notice = N>, F: Feeds> 
 > for WorkerPost<C, N, T, S, F> {
     ghost use Rattle.workers.specs.Posts.{IsWorked};
     ghost use Rattle.workers.specs.Sessions.{share_of};
-    ghost use Rattle.workers.specs.Words.{files_of, sessions_of};
+    ghost use Rattle.workers.specs.Words.{sessions_of};
 
     ghost kept_by = { λ post done. IsWorked
         (sessions_of post.place.form C.words C.Reader.remaining C.Writer.contents T.words) F.words post done.0.taker
@@ -141,10 +141,10 @@ impl<
 > Promise<(LoaderOrders<N>, L, UsedFiles<D, N>)> for LoaderPost<T, L, F, N> {
     ghost use Rattle.workers.specs.Carrying.{loads_value};
     ghost use Rattle.workers.specs.Posts.{IsLoaderDone};
-    ghost use Rattle.workers.specs.Words.{files_of, loads_of, outcomes_of};
+    ghost use Rattle.workers.specs.Words.{loads_of, outcomes_of};
 
     ghost kept_by = { λ post done. IsLoaderDone
-        (loads_of F.words (outcomes_of (files_of D.holds D.reads D.failures D.failed)
+        (loads_of F.words (outcomes_of D.words
         T.Loads.words T.Versions.words.version))
         post (loads_value done.0 done.2) done.1 };
 }
@@ -286,7 +286,7 @@ pub(crate) fn close_and_join<
     requires back { asks.out ≡ 0 }
     ensures all { IfSome result (λ done. IsPermutation asks.put done.0.taken) }
     ensures loaded { IfSome result (λ done. IsLoaderDone
-        (loads_of F.words (outcomes_of (files_of D.holds D.reads D.failures D.failed)
+        (loads_of F.words (outcomes_of D.words
         T.Loads.words T.Versions.words.version))
         loading.promise (loads_value done.0 done.2) done.1) }
 {

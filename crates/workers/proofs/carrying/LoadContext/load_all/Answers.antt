@@ -1,7 +1,7 @@
 use Rattle.std.proofs.Common.{◌∙◌, refl, subst, sym, ap, ◌++◌, ◌∷◌, []}
 use Rattle.load_orders.specs.Keeping.{QueueId}
 use Rattle.workers.specs.Carrying.{IsCarriedOut, load_input_of, handled_order_of, loads_value}
-use Rattle.workers.specs.Words.{files_of, loads_of, outcomes_of}
+use Rattle.workers.specs.Words.{loads_of, outcomes_of}
 use Rattle.workers.proofs.Carried.{carried_same, carries_also, carries_nothing, each_answered}
 use Rattle.workers.proofs.Learning.{loader_goes_on, loader_goes_same}
 use Rattle.workers.proofs.carrying.LoadContext.load_all.Goals as goal
@@ -10,7 +10,7 @@ use Rattle.workers.proofs.carrying.LoadContext.load_all.Goals as goal
 pub loop-init : goal.loop-init
 loop-init g c =
     let words = loads_of g.F.Feeds.words (outcomes_of
-    (files_of g.F.Files.FeedFiles.holds g.F.Files.FeedFiles.reads g.F.Files.FeedFiles.failures g.F.Files.FeedFiles.failed)
+    g.F.Files.FeedFiles.words
     g.T.Loads.words g.T.Versions.words.version) in
     let none = c.requires.none in
     record {
@@ -26,7 +26,7 @@ loop-init g c =
 pub next-requires-in-loop : goal.next-requires-in-loop
 next-requires-in-loop g c =
     let words = loads_of g.F.Feeds.words (outcomes_of
-    (files_of g.F.Files.FeedFiles.holds g.F.Files.FeedFiles.reads g.F.Files.FeedFiles.failures g.F.Files.FeedFiles.failed)
+    g.F.Files.FeedFiles.words
     g.T.Loads.words g.T.Versions.words.version) in
     each_answered (load_input_of words c.args.self.now.feeds.now c.args.orders.queue) c.args.seat (loads_value c.loop.orders c.loop.used) c.loop.seat
     c.loop.invariant.carried
@@ -35,7 +35,7 @@ next-requires-in-loop g c =
 pub loop-preserved : goal.loop-preserved
 loop-preserved g c =
     let words = loads_of g.F.Feeds.words (outcomes_of
-    (files_of g.F.Files.FeedFiles.holds g.F.Files.FeedFiles.reads g.F.Files.FeedFiles.failures g.F.Files.FeedFiles.failed)
+    g.F.Files.FeedFiles.words
     g.T.Loads.words g.T.Versions.words.version) in
     let feeds = c.args.self.now.feeds.now in
     let one = c.load_feed.ensures.carried in
@@ -58,7 +58,7 @@ loop-preserved g c =
 pub returns-in-None-next : goal.returns-in-None-next
 returns-in-None-next g c =
     let words = loads_of g.F.Feeds.words (outcomes_of
-    (files_of g.F.Files.FeedFiles.holds g.F.Files.FeedFiles.reads g.F.Files.FeedFiles.failures g.F.Files.FeedFiles.failed)
+    g.F.Files.FeedFiles.words
     g.T.Loads.words g.T.Versions.words.version) in
     let last = c.in-None-next.ensures in
     let at_queue = last.queue ∙ c.loop.invariant.queue in

@@ -1,7 +1,7 @@
 use Rattle.std.proofs.Common.{◌≡◌}
 use Rattle.workers.specs.Carrying.{AreCarried, load_input_of, loads_value}
 use Rattle.workers.specs.Learned.{LoaderGoesOn}
-use Rattle.workers.specs.Words.{files_of, loads_of, outcomes_of}
+use Rattle.workers.specs.Words.{loads_of, outcomes_of}
 use Rattle.workers.proofs.carrying.LoadContext.load_all.Given as goal
 
 abbrev pub invariant-loop : goal.invariant-loop
@@ -11,7 +11,7 @@ invariant-loop g l = record {
   queue : l.orders.queue ≡ l.fn.orders.queue;
   seat : LoaderGoesOn g.T.Loads.words l.self.shelves.now l.fn.seat l.seat;
   carried : AreCarried (load_input_of (loads_of g.F.Feeds.words (outcomes_of
-      (files_of g.F.Files.FeedFiles.holds g.F.Files.FeedFiles.reads g.F.Files.FeedFiles.failures g.F.Files.FeedFiles.failed)
+      g.F.Files.FeedFiles.words
       g.T.Loads.words g.T.Versions.words.version))
       l.self.feeds.now l.fn.orders.queue) l.fn.seat (loads_value l.orders l.used) l.seat;
 }

@@ -37,7 +37,7 @@ pub returns-in-Err-clause-session : goal.returns-in-Err-clause-session
 returns-in-Err-clause-session g c = record {
   served = record { fault = c.in-Err.field-0; opens = c.in-Err.ensures; end_is = refl; same = refl };
   number = refl;
-  learns = learns_same _ _;
+  learns = learns_same (g.T.Versions.words.known c.args.seat.now) (g.T.Versions.words.shown c.args.seat.now);
   profiles = tells_same (g.T.Versions.words.known c.args.seat.now) (g.T.Versions.words.shown c.args.seat.now);
   idle = λ none. none;
 }

@@ -44,7 +44,7 @@ close_client-requires g c =
     g.T.Versions.words in
     let one = c.serve_client-session in
     let asked = g.O.Orders.asked in
-    λ lifetimes outlive. may_close words c.loop.taker.taken c.loop.served c.in-Some-next.client one.result
+    may_close words c.loop.taker.taken c.loop.served c.in-Some-next.client one.result
     (worker_state c.args.seat (asked c.args.orders)) (worker_state c.loop.seat (asked c.loop.orders)) (worker_state one.new.seat (asked one.new.orders))
     c.requires.ready.closes c.loop.invariant.served one.ensures.session
 

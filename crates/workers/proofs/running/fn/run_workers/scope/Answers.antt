@@ -10,7 +10,7 @@ use Rattle.workers.specs.Carrying.{AreLoaded, load_input_of, loads_value}
 use Rattle.workers.specs.Ordering.{route_to}
 use Rattle.workers.specs.Posts.{place_of}
 use Rattle.workers.specs.Sessions.{AreServedSince, IsReadyToServe, MayClose, worker_starts, worker_state, work_of}
-use Rattle.workers.specs.Words.{files_of, loads_of, outcomes_of, sessions_of}
+use Rattle.workers.specs.Words.{loads_of, outcomes_of, sessions_of}
 use Rattle.workers.proofs.running.fn.run_workers.scope.Goals as goal
 
 -- the next seat is one of those that are left
@@ -132,7 +132,7 @@ returns-in-Some-close_and_join g c =
     let words = sessions_of c.captures.form g.C.Client.words g.C.Reader.Read.remaining g.C.Writer.Write.contents
     g.T.Versions.words in
     let loads = loads_of g.F.Feeds.words (outcomes_of
-    (files_of g.F.Files.FeedFiles.holds g.F.Files.FeedFiles.reads g.F.Files.FeedFiles.failures g.F.Files.FeedFiles.failed)
+    g.F.Files.FeedFiles.words
     g.T.Loads.words g.T.Versions.words.version) in
     let work = work_of run_result.served run_result.seats.items run_result.asked in
     let names = g.F.Feeds.words.named c.captures.feeds.now in
