@@ -10,6 +10,7 @@ mod links;
 mod names;
 mod order;
 pub mod outcome;
+mod reading;
 mod spreading;
 mod tables;
 mod times;
@@ -22,6 +23,10 @@ pub use gtfs_rows::{
 };
 pub use joining::join;
 pub use names::{StopIdTarget, end_fault, parent_fault, stop_fault};
+pub use reading::{
+    read_agency, read_calendar, read_calendar_dates, read_frequencies, read_stop_times, read_stops,
+    read_transfers, read_trips,
+};
 pub use spreading::spread;
 pub use tables::{Feed, Frequency, Stop, Tables, Transfer, TransferEnd, Trip};
 pub use trip_faults::time_faults;

@@ -3,9 +3,8 @@
 ghost use Rattle.std.specs.Prelude.{◌≡◌};
 
 use super::texts::{CENTRAL_EUROPE, Case, Reporter, file_of, try_cases, zone_of};
-use gtfs_rows::{
-    CalendarDateRow, CalendarRow, Day, Exception, FaultKind, IdHash, TableFault, TableFile,
-};
+use gtfs_rows::{CalendarDateRow, CalendarRow, Day, Exception, FaultKind, IdHash, TableFault};
+use gtfs_tables::read_calendar;
 use service_days::{DayFault, Services, Zone, active, day_after, day_start};
 use std::alloc::{AllocError, Global};
 use std::fmt::Write;
@@ -218,7 +217,7 @@ fn dates_of(alloc: Global, text: &str) -> Result<Vec<CalendarDateRow>, Fail> {
 fn services_of(alloc: Global, lines: &str) -> Result<Services, Fail> {
     let (weeks, dates) = lines.split_once('\n').unwrap_or((lines, "none"));
     let (_, weeks) = file_of(alloc, weeks)?;
-    let rows = read(TableFile::read(alloc, IdHash::of_key(0), weeks.as_bytes()))?;
+    let rows = read(read_calendar(alloc, weeks.as_bytes()))?;
     let dates = dates_of(alloc, dates)?;
     Ok(Services::new(alloc, IdHash::of_key(1), &rows, &dates)?)
 }

@@ -2,7 +2,8 @@
 
 use super::texts::fault_text;
 use csv::{ByteRecord, Reader, ReaderBuilder};
-use gtfs_rows::{IdHash, TableFault, TableFile, TransferRow};
+use gtfs_rows::{TableFault, TransferRow};
+use gtfs_tables::read_transfers;
 use std::alloc::{AllocError, Global};
 use std::fmt::Write;
 use std::process::Abort;
@@ -139,8 +140,7 @@ fn reported(
 
 fn try_table(rt: &impl Abort, alloc: Global, table: &str) -> Result<(), Fail> {
     let wanted = report_by_csv(alloc, table.as_bytes())?;
-    let read = TableFile::read(alloc, IdHash::of_key(0), table.as_bytes());
-    let given = reported(alloc, read)?;
+    let given = reported(alloc, read_transfers(alloc, table.as_bytes()))?;
     assert_eq!(rt; given.as_str(), wanted.as_str(), "{table}");
     Ok(())
 }

@@ -1,9 +1,10 @@
 //! Each file of a feed, read by itself: its rows as they are printed, or its fault.
 
 use super::texts::{Case, Reporter, add_rows, fault_text, file_of, lines_of, number, try_cases};
-use gtfs_rows::{
-    AgencyRow, CalendarDateRow, CalendarRow, FrequencyRow, IdHash, MAX_STOPS, MAX_TRIPS, StopRow,
-    StopTimes, TableFault, TableFile, TransferRow, TripRow, rows_up_to,
+use gtfs_rows::{IdHash, StopRow, StopTimes, TableFault, TripRow, rows_up_to};
+use gtfs_tables::{
+    read_agency, read_calendar, read_calendar_dates, read_frequencies, read_stop_times, read_stops,
+    read_transfers, read_trips,
 };
 use indexmap::IndexSet;
 use std::alloc::{AllocError, Global};
@@ -66,18 +67,15 @@ fn report_by_ids(
 
 // The rows of a file with these bytes, or its fault.
 pub(crate) fn report_of(alloc: Global, file: &str, bytes: &[u8]) -> Result<String, AllocError> {
-    let hash = IdHash::of_key(0);
     match file {
-        "agency.txt" => reported::<AgencyRow>(alloc, TableFile::read(alloc, hash, bytes)),
-        "stops.txt" => reported::<StopRow>(alloc, rows_up_to(MAX_STOPS, alloc, hash, bytes)),
-        "trips.txt" => reported::<TripRow>(alloc, rows_up_to(MAX_TRIPS, alloc, hash, bytes)),
-        "stop_times.txt" => report_by_ids(alloc, TableFile::read(alloc, hash, bytes)),
-        "calendar.txt" => reported::<CalendarRow>(alloc, TableFile::read(alloc, hash, bytes)),
-        "calendar_dates.txt" => {
-            reported::<CalendarDateRow>(alloc, TableFile::read(alloc, hash, bytes))
-        }
-        "transfers.txt" => reported::<TransferRow>(alloc, TableFile::read(alloc, hash, bytes)),
-        _ => reported::<FrequencyRow>(alloc, TableFile::read(alloc, hash, bytes)),
+        "agency.txt" => reported(alloc, read_agency(alloc, bytes)),
+        "stops.txt" => reported(alloc, read_stops(alloc, bytes)),
+        "trips.txt" => reported(alloc, read_trips(alloc, bytes)),
+        "stop_times.txt" => report_by_ids(alloc, read_stop_times(alloc, bytes)),
+        "calendar.txt" => reported(alloc, read_calendar(alloc, bytes)),
+        "calendar_dates.txt" => reported(alloc, read_calendar_dates(alloc, bytes)),
+        "transfers.txt" => reported(alloc, read_transfers(alloc, bytes)),
+        _ => reported(alloc, read_frequencies(alloc, bytes)),
     }
 }
 

@@ -1,8 +1,9 @@
 //! Whichever growth is refused, the fault is that memory ran out. A refused growth ends the test with `AllocError`.
 
-use gtfs_rows::{
-    AgencyRow, CalendarDateRow, CalendarRow, FaultKind, FrequencyRow, IdHash, MAX_STOPS, MAX_TRIPS,
-    StopRow, StopTimes, Table, TableFault, TableFile, TransferRow, TripRow, rows_up_to,
+use gtfs_rows::{FaultKind, StopTimes, Table, TableFault};
+use gtfs_tables::{
+    read_agency, read_calendar, read_calendar_dates, read_frequencies, read_stop_times, read_stops,
+    read_transfers, read_trips,
 };
 use std::alloc::AllocError;
 use std::process::Abort;
@@ -36,23 +37,20 @@ fn one_or_refused<T: Drop>(
 
 #[test]
 fn refused_growth_of_agencies(rt: HostRuntime) -> Result<(), Fail> {
-    let bytes = b"agency_timezone\nEtc/UTC\n";
-    let answer = TableFile::read(rt.alloc(), IdHash::of_key(0), bytes);
-    one_or_refused::<AgencyRow>(&rt, Table::Agency, answer)
+    let answer = read_agency(rt.alloc(), b"agency_timezone\nEtc/UTC\n");
+    one_or_refused(&rt, Table::Agency, answer)
 }
 
 #[test]
 fn refused_growth_of_stops(rt: HostRuntime) -> Result<(), Fail> {
-    let bytes = b"stop_id,parent_station\nA,S\n";
-    let answer = rows_up_to(MAX_STOPS, rt.alloc(), IdHash::of_key(0), bytes);
-    one_or_refused::<StopRow>(&rt, Table::Stops, answer)
+    let answer = read_stops(rt.alloc(), b"stop_id,parent_station\nA,S\n");
+    one_or_refused(&rt, Table::Stops, answer)
 }
 
 #[test]
 fn refused_growth_of_trips(rt: HostRuntime) -> Result<(), Fail> {
-    let bytes = b"trip_id,service_id\nT,S\n";
-    let answer = rows_up_to(MAX_TRIPS, rt.alloc(), IdHash::of_key(0), bytes);
-    one_or_refused::<TripRow>(&rt, Table::Trips, answer)
+    let answer = read_trips(rt.alloc(), b"trip_id,service_id\nT,S\n");
+    one_or_refused(&rt, Table::Trips, answer)
 }
 
 // Whether a row of one trip and one stop was read.
@@ -63,7 +61,7 @@ fn is_one(read: &StopTimes) -> bool {
 #[test]
 fn refused_growth_of_stop_times(rt: HostRuntime) -> Result<(), Fail> {
     let bytes = b"trip_id,arrival_time,departure_time,stop_id,stop_sequence\nT,,,A,1\n";
-    let answer = TableFile::read(rt.alloc(), IdHash::of_key(0), bytes);
+    let answer = read_stop_times(rt.alloc(), bytes);
     let read = read_or_refused(&rt, Table::StopTimes, answer)?;
     assert!(rt; is_one(&read));
     Ok(())
@@ -74,27 +72,24 @@ const CALENDAR: &[u8] =
 
 #[test]
 fn refused_growth_of_calendar(rt: HostRuntime) -> Result<(), Fail> {
-    let answer = TableFile::read(rt.alloc(), IdHash::of_key(0), CALENDAR);
-    one_or_refused::<CalendarRow>(&rt, Table::Calendar, answer)
+    one_or_refused(&rt, Table::Calendar, read_calendar(rt.alloc(), CALENDAR))
 }
 
 #[test]
 fn refused_growth_of_calendar_dates(rt: HostRuntime) -> Result<(), Fail> {
     let bytes = b"service_id,date,exception_type\nX,20240115,1\n";
-    let answer = TableFile::read(rt.alloc(), IdHash::of_key(0), bytes);
-    one_or_refused::<CalendarDateRow>(&rt, Table::CalendarDates, answer)
+    let answer = read_calendar_dates(rt.alloc(), bytes);
+    one_or_refused(&rt, Table::CalendarDates, answer)
 }
 
 #[test]
 fn refused_growth_of_transfers(rt: HostRuntime) -> Result<(), Fail> {
     let bytes = b"from_stop_id,to_stop_id,min_transfer_time\nA,B,1\n";
-    let answer = TableFile::read(rt.alloc(), IdHash::of_key(0), bytes);
-    one_or_refused::<TransferRow>(&rt, Table::Transfers, answer)
+    one_or_refused(&rt, Table::Transfers, read_transfers(rt.alloc(), bytes))
 }
 
 #[test]
 fn refused_growth_of_frequencies(rt: HostRuntime) -> Result<(), Fail> {
     let bytes = b"trip_id,start_time,end_time,headway_secs\nT,9:00:00,10:00:00,60\n";
-    let answer = TableFile::read(rt.alloc(), IdHash::of_key(0), bytes);
-    one_or_refused::<FrequencyRow>(&rt, Table::Frequencies, answer)
+    one_or_refused(&rt, Table::Frequencies, read_frequencies(rt.alloc(), bytes))
 }
