@@ -2,4 +2,4 @@
 
 /// The sum of all sources but this file, as `release/sources --program` prints it. `release/stamp` writes it, and
 /// `.ci/run` compares it with the sources.
-pub const SOURCES: &str = "39194a9c4af0fa3e736816753c9526d16e5d62c80b6961735969681e85bec8a7";
+pub const SOURCES: &str = "d9c1bd7a53e6b333d7873f98221895ec241454aad0c71bad499c4534608cba4c";

@@ -17,13 +17,12 @@ use Rattle.feed_loader.specs.declared.fault.LoadFault.{LoadFault}
 use Rattle.feed_loader.specs.declared.fault.LoadFault.TheVariants as faults
 use Rattle.feed_loader.specs.declared.plan.Plan.{Plan}
 use Rattle.feed_plans.specs.Zoning.{IsPlanAsked}
-use Rattle.gtfs_rows.specs.FaultNumber.{file_name}
 use Rattle.gtfs_rows.specs.declared.fault.Table.{Table}
 use Rattle.gtfs_tables.specs.declared.tables.Tables.{Tables}
 use Rattle.timetable.specs.NamesValue.{NamesValue}
 use Rattle.timetable.specs.TimetableValue.{TimetableValue}
 use Rattle.feed_commands.specs.Building.{IfRefused}
-use Rattle.feed_commands.specs.Folders.{AreTablesOf, HoldsOfRead, IsBuildRefusal, IsBuiltFrom, MayBeOf, MayFailAs, failed_as}
+use Rattle.feed_commands.specs.Folders.{AreTablesOf, HoldsOfRead, IsBuildRefusal, IsBuiltFrom, MayBeOf, failed_as}
 use Rattle.feed_commands.specs.declared.build.BuildFailure.{BuildFailure}
 use Rattle.feed_commands.specs.declared.build.BuildFailure.TheVariants.{Refused, Unreadable, Unwritten, OutOfMemory}
 
@@ -111,15 +110,15 @@ module _ {D : Type 0} (gives : Gives D) (disk : D) (state : Option NodeState) (f
       }
 
   -- why a feed isn't built, if nothing was read at first
-  pub build_refused : {T : Type 0} {known : Holds} (zone_file : List ℕ → Option (List ℕ) → Type 0) (result : Result T BuildFailure) (asked : PlanText)
+  pub build_refused : {T : Type 0} (known : Holds) (zone_file : List ℕ → Option (List ℕ) → Type 0) (result : Result T BuildFailure) (asked : PlanText)
       (plan : Plan) (names since : List (List ℕ)) → began ≡ folder → old ≡ [] → names ≡ [] → IsPlanAsked zone_file asked plan
       → ∥ All (MayBeRead (gives disk then state)) new ∥₁ → ∥ All (MayFail (gives disk then state)) since ∥₁
       → IfErr result (λ failure. IfRefused failure (λ fault. SomeWereRead (opened began ∷ old) (opened then ∷ new)
       × (since ≡ failed_as names fault) × ((content : Content)
       → Tells known content ⊎ ((ts : List Table) × AreRead content ts (opened began ∷ old) (opened then ∷ new)) → IsLoadRefusal content plan fault)))
       → IfErr result (λ failure. IfRefused failure (IsBuildRefusal gives folder zone_file asked))
-  build_refused zone_file (Ok built) asked plan names since same none whole planned given unread is = tt
-  build_refused zone_file (Err failure) asked plan names since same none whole planned given unread is =
+  build_refused known zone_file (Ok built) asked plan names since same none whole planned given unread is = tt
+  build_refused known zone_file (Err failure) asked plan names since same none whole planned given unread is =
       refused_weaker failure _ _ (λ fault read. inr (
         plan,
         planned,

@@ -1,5 +1,5 @@
 -- The image is that of the folder's files, and the fault is their first one.
-use Rattle.std.proofs.Common.{◌≡◌, [], rules}
+use Rattle.std.proofs.Common.{◌≡◌, [], None, rules}
 use Rattle.std.proofs.lemmas.Result.{IfOk-weaker}
 use Rattle.feed_commands.proofs.OfFolder.{build_refused, built_of}
 use Rattle.feed_commands.proofs.build.build.Goals as goal
@@ -24,6 +24,6 @@ returns-clause-refused g c =
     let unread : began.reads ≡ [] = search rules in
     let whole : began.failed ≡ [] = search rules in
     build_refused g.H.Disk.gives then.disk.now then.state asked.folder.now began.folder.now then.folder.now began.reads then.reads
-    (g.H.ImageDisk.may_hold c.args.rt.now) c.build_reported-built.result asked.plan c.in-Ok.plan began.failed then.failed
+    (λ name. None) (g.H.ImageDisk.may_hold c.args.rt.now) c.build_reported-built.result asked.plan c.in-Ok.plan began.failed then.failed
     same unread whole c.in-Ok.ensures.plan then.given then.unread
     c.build_reported-built.ensures.refused
