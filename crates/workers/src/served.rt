@@ -124,7 +124,7 @@ pub(crate) fn close_client<C: Client>(
     served: &mut Served<C::Reader, C::Writer>,
     session: (Option<Streams<C::Reader, C::Writer>>, SessionEnd),
 )
-    requires { IfSome session.0 (λ now. C.words.closes (inner_of now.reader) (inner_of now.writer) session.1) }
+    requires closes { IfSome session.0 (λ now. C.words.closes (inner_of now.reader) (inner_of now.writer) session.1) }
     ensures { served.new ≡ served.old ++ session ∷ [] }
 {
     served.add(&session);

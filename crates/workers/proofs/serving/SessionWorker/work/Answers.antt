@@ -38,13 +38,13 @@ loop-preserved g c =
     }
 
 -- what was served may be closed
-pub close_client-requires : goal.close_client-requires
-close_client-requires g c =
+pub close_client-requires-clause-closes : goal.close_client-requires-clause-closes
+close_client-requires-clause-closes g c =
     let words = sessions_of c.args.self.now.session_server.form g.C.Client.words g.C.Reader.Read.remaining g.C.Writer.Write.contents
     g.T.Versions.words in
     let one = c.serve_client-session in
     let asked = g.O.Orders.asked in
-    may_close words c.loop.taker.taken c.loop.served c.in-Some-next.client one.result
+    λ lifetimes outlive. may_close words c.loop.taker.taken c.loop.served c.in-Some-next.client one.result
     (worker_state c.args.seat (asked c.args.orders)) (worker_state c.loop.seat (asked c.loop.orders)) (worker_state one.new.seat (asked one.new.orders))
     c.requires.ready.closes c.loop.invariant.served one.ensures.session
 
