@@ -1,5 +1,4 @@
 mod Cuts
 mod Drawn
 mod Joined
-mod Named
 mod Spans

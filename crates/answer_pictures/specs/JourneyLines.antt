@@ -14,7 +14,7 @@ use Rattle.answer_pictures.specs.declared.lines.StretchKind.{StretchKind}
 use Rattle.answer_pictures.specs.declared.lines.StretchKind.TheVariants.{Ride, Walk, Change}
 use Rattle.answer_pictures.specs.LineValue.{HeadingValue, StretchValue, LineValue}
 use Rattle.answer_pictures.specs.Moments.{moment_text}
-use Rattle.answer_pictures.specs.Naming.{stop_bytes, trip_bytes}
+use Rattle.image_facts.specs.Naming.{stop_bytes, trip_bytes}
 
 -- a ride from its first connection to its last
 abbrev pub ride_part : NamesValue → Connection → Connection → StretchValue

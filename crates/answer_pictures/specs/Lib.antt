@@ -4,4 +4,3 @@ pub mod Style
 pub mod Moments
 pub mod Pictures
 pub mod JourneyLines
-pub mod Naming

@@ -6,9 +6,9 @@ ghost use Rattle.answer_pictures.specs.JourneyLines.{IsHeadingOf, asked_text, ow
 
 use crate::lines::Heading;
 use crate::moments::put_moment;
-use crate::naming::stop_name;
 use crate::putting::put_text;
 use criteria::CriterionName;
+use image_facts::stop_name;
 use image_verifier::Verified;
 use jiff_core::civil::Date;
 use std::alloc::{AllocError, Global};

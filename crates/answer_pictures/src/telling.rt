@@ -5,8 +5,8 @@ ghost use Rattle.answer_pictures.specs.JourneyLines.{IsLineOf, journey_parts, la
 ghost use Rattle.answer_pictures.specs.JourneyLines.{walk_parts, way_on_foot};
 
 use crate::lines::{JourneyLine, Stretch, StretchKind};
-use crate::naming::{connection_at, stop_name, trip_name};
 use criteria::Figures;
+use image_facts::{connection_at, stop_name, trip_name};
 use image_verifier::Verified;
 use std::alloc::{AllocError, Global};
 use std::fmt::Write as _;

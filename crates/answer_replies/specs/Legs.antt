@@ -7,7 +7,7 @@ use Rattle.timetable.specs.NamesValue.{NamesValue, TripNameValue}
 use Rattle.timetable.specs.declared.network.Connection.{Connection}
 use Rattle.timetable.specs.declared.network.Footpath.{Footpath}
 use Rattle.image_layout.specs.Image.{ImageValue}
-use Rattle.answer_pictures.specs.Naming.{stop_bytes, trip_bytes}
+use Rattle.image_facts.specs.Naming.{stop_bytes, trip_bytes}
 use Rattle.session_texts.specs.Legs.{ridden, ride_data, walk_data, walked}
 
 abbrev pub or_zero : Option ℕ → ℕ

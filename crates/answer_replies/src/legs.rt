@@ -7,7 +7,7 @@ ghost use Rattle.session_texts.specs.Telling.{legs_of};
 ghost use Rattle.answer_replies.specs.Legs.{day_of, legs_data, repeat_of, ride_between, ride_leg, ride_legs};
 ghost use Rattle.answer_replies.specs.Legs.{start_legs, walk_leg};
 
-use answer_pictures::{connection_at, stop_name, trip_name};
+use image_facts::{connection_at, stop_name, trip_name};
 use image_verifier::Verified;
 use session_texts::{JourneyLegs, RideLeg, WalkLeg};
 use std::alloc::{AllocError, Global};

@@ -69,11 +69,12 @@ pub enum DeparturesForm {
     Journeys,
     /// A line for each, without one.
     Points,
-    /// A line for all of them, with their number, the first, the last, and the least seconds of travel.
+    /// A line for all of them, with their number, the first, the last, the least seconds of travel, and the
+    /// seconds of the direct footpath.
     Summary,
-    /// A line of JSON for all of them, with their journeys.
+    /// A line of JSON for all of them, with their journeys and the seconds of the direct footpath.
     Json,
-    /// A line of JSON for all of them, without journeys.
+    /// The same line of JSON without journeys.
     JsonPoints,
     /// The summary as a line of JSON.
     JsonSummary,

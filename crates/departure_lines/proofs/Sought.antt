@@ -14,7 +14,7 @@ use Rattle.std.proofs.lemmas.Option.{get_or_from_slice_get, slice_get-get_or, sl
 use Rattle.reasoning.proofs.ListLemmas.{contains_at, not_in_nil, same_at, slice_get-front, slice_get-last}
 use Rattle.timetable.specs.Legal.{At}
 use Rattle.timetable.specs.NamesValue.{NamesValue}
-use Rattle.answer_pictures.specs.Naming.{bytes_or_none, stop_bytes}
+use Rattle.image_facts.specs.Naming.{bytes_or_none, stop_bytes}
 use Rattle.departure_lines.specs.Naming.{AreMarked, IsUnknownLine, is_set}
 use Rattle.journeys.specs.Questions.{IsNamed}
 use Rattle.departure_lines.specs.Sought.{AreFoundBelow, AreMarkedBelow, AreSought, IsFirstMissing, found_at, is_missing, now_found}

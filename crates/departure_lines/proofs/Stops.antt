@@ -1,7 +1,7 @@
 -- Stops shown one by one.
-use Rattle.std.proofs.Common.{◌≡◌, ◌<◌, ◌+◌, ◌&&◌, nat_eq, ℕ, zero, suc, Bool, true, false, not, List, [], ◌∷◌, ◌++◌, Contains, length}
-use Rattle.std.proofs.Common.{map, filter, refl, sym, ◌∙◌, ap, subst, inl, inr, append_assoc, arith}
-use Rattle.std.specs.List.{AllZip, flat_map, list_any, range_with_len}
+use Rattle.std.proofs.Common.{◌≡◌, ◌<◌, ◌+◌, ℕ, zero, suc, true, false, List, [], ◌∷◌, ◌++◌, Contains, length}
+use Rattle.std.proofs.Common.{map, filter, refl, sym, ◌∙◌, ap, subst, append_assoc, arith}
+use Rattle.std.specs.List.{AllZip, flat_map, range_with_len}
 use Rattle.std.proofs.lemmas.Grind.{flat_map-append}
 use Rattle.std.proofs.lemmas.List.{append-nil, length-map}
 use Rattle.std.proofs.lemmas.List.Elements.{filter-append}
@@ -19,10 +19,9 @@ use Rattle.timetable.specs.TimetableValue.{TimetableValue}
 use Rattle.journeys.specs.Answer.{point_of}
 use Rattle.journeys.specs.Extracted.{AttainsBetween}
 use Rattle.journeys.specs.declared.answering.Departure.{Departure}
-use Rattle.departure_lines.specs.Naming.{is_wanted}
 use Rattle.departure_lines.specs.Showing.{AddsStops, HasJourneys, IsInForm, IsShownFrom, ShowsStop}
 use Rattle.departure_lines.specs.Showing.{is_shown, one_if_some, shown_stops}
-use Rattle.departure_lines.specs.declared.form.LineForm.{LineForm}
+use Rattle.command_requests.specs.declared.requests.DeparturesForm.{DeparturesForm}
 use Rattle.departure_lines.specs.declared.stop_lines.StopCounts.{StopCounts}
 use Rattle.departure_lines.specs.declared.stop_lists.WantedStops.{WantedStops}
 
@@ -56,7 +55,7 @@ stop_left wanted targets n is =
     dropped : is_shown wanted targets n ≡ false → filter (is_shown wanted targets) (n ∷ []) ≡ []
     dropped h = rw h refl
 
-module _ {V : Type 0} (figures : V → Figures) (rules : Rules V) (form : LineForm) (image : ImageValue) (b : SetQueryValue) (wanted : WantedStops) where
+module _ {V : Type 0} (figures : V → Figures) (rules : Rules V) (form : DeparturesForm) (image : ImageValue) (b : SetQueryValue) (wanted : WantedStops) where
   pub none_added : (text : List ℕ) → AddsStops figures rules form image b wanted 0 text text (record { stops = 0; points = 0 })
   none_added text = record {
     text = [];
@@ -110,7 +109,7 @@ module _ {V : Type 0} (figures : V → Figures) (rules : Rules V) (form : LineFo
       regroup a b c = append_assoc a b c
 
 -- the text of a stop's points, without journeys
-pub points_shown : {K V : Type 0} {c : _} (rules_of : K → Rules V) (figures : V → Figures) (form : LineForm) (image : ImageValue)
+pub points_shown : {K V : Type 0} {c : _} (rules_of : K → Rules V) (figures : V → Figures) (form : DeparturesForm) (image : ImageValue)
     (profiles : ProfilesToAny K V c) (criterion : K) (stop : ℕ) (points : List (Point V)) (text old new : List ℕ)
     → stop < image.timetable.stops → (Contains (asked_to_any profiles).targets stop → ⊥) → criterion_to_any profiles ≡ criterion
     → AnswerToAny rules_of image.timetable profiles → points ≡ listed_to_any profiles stop
@@ -134,7 +133,7 @@ points_shown {K} {V} {c} rules_of figures form image profiles criterion stop poi
     }
 
 -- the text of a stop's departures, with journeys
-pub journeys_shown : {K V : Type 0} {c : _} (rules_of : K → Rules V) (figures : V → Figures) (form : LineForm) (image : ImageValue)
+pub journeys_shown : {K V : Type 0} {c : _} (rules_of : K → Rules V) (figures : V → Figures) (form : DeparturesForm) (image : ImageValue)
     (profiles : ProfilesToAny K V c) (criterion : K) (stop : ℕ) (departures : List (Departure V)) (count : ℕ)
     (text old new : List ℕ) → count ≡ length departures → stop < image.timetable.stops → (Contains (asked_to_any profiles).targets stop → ⊥)
     → criterion_to_any profiles ≡ criterion

@@ -1,12 +1,12 @@
 -- A summary of the points of a stop.
-use Rattle.std.proofs.Common.{◌≡◌, ◌<◌, ◌-◌, ℕ, List, Option, length, map, get_or, refl, sym, ◌∙◌, ap, arith}
+use Rattle.std.proofs.Common.{◌≡◌, ◌<◌, ◌-◌, ℕ, List, Option, length, map, get_or, refl, ◌∙◌, ap, arith}
 use Rattle.std.proofs.lemmas.Option.{slice_get_read}
 use Rattle.bags.specs.declared.point.Point.{Point}
 use Rattle.criteria.specs.Laws.{Rules}
 use Rattle.criteria.specs.declared.figures.Figures.{Figures}
 use Rattle.image_layout.specs.Image.{ImageValue}
 use Rattle.profile_scan.specs.SetQuery.{SetQueryValue}
-use Rattle.answer_pictures.specs.Naming.{stop_bytes}
+use Rattle.image_facts.specs.Naming.{stop_bytes}
 use Rattle.text_pieces.specs.declared.form.Form.{Form}
 use Rattle.departure_lines.specs.Lines.{IsLeast, IsSummary, IsSummaryOf, travel}
 use Rattle.departure_lines.specs.Showing.{IsInForm, summary_form}

@@ -7,7 +7,7 @@ use Rattle.bags.specs.declared.point.Point.{Point}
 use Rattle.timetable.specs.TimetableValue.{TimetableValue}
 use Rattle.timetable.specs.declared.network.Footpath.{Footpath}
 use Rattle.image_layout.specs.Image.{ImageValue}
-use Rattle.answer_pictures.specs.Naming.{stop_bytes}
+use Rattle.image_facts.specs.Naming.{stop_bytes}
 use Rattle.text_pieces.specs.declared.form.Form.{Form}
 use Rattle.profile_scan.specs.SetQuery.{SetQueryValue, IsAnswerBetween, IsDirectWalk, secs_of}
 use Rattle.profile_scan.specs.Origins.{from_stop}
@@ -18,7 +18,7 @@ use Rattle.journeys.specs.declared.answering.Departure.{Departure}
 use Rattle.departure_lines.specs.Json.{counts_json_line, journey_json, json_if_some, point_json}
 use Rattle.departure_lines.specs.Lines.{IsSummary, counts_line, line_from, point_line}
 use Rattle.departure_lines.specs.Naming.{is_wanted}
-use Rattle.departure_lines.specs.declared.form.LineForm.{LineForm}
+use Rattle.command_requests.specs.declared.requests.DeparturesForm.{DeparturesForm}
 use Rattle.departure_lines.specs.declared.stop_lines.StopCounts.{StopCounts}
 use Rattle.departure_lines.specs.declared.stop_lists.WantedStops.{WantedStops}
 
@@ -30,26 +30,26 @@ pub record HasJourneys {V : Type 0} (rules : Rules V) (t : TimetableValue) (b : 
   pub attained : (departure : Departure V) → Contains departures departure → AttainsBetween rules t b (point_of departure) departure.journey
   pub holds : said departures
 
-abbrev pub summary_form : Form → LineForm
-summary_form Form.Lines = LineForm.Summary
-summary_form Form.Json = LineForm.JsonSummary
+abbrev pub summary_form : Form → DeparturesForm
+summary_form Form.Lines = DeparturesForm.Summary
+summary_form Form.Json = DeparturesForm.JsonSummary
 
 -- the text of a stop's points, in a form
-abbrev pub IsInForm : {V : Type 0} → (V → Figures) → Rules V → LineForm → ImageValue → SetQueryValue → ℕ → List (Point V) → Option ℕ → List ℕ → Type 0
-IsInForm figures rules LineForm.Journeys image b stop points walk text =
+abbrev pub IsInForm : {V : Type 0} → (V → Figures) → Rules V → DeparturesForm → ImageValue → SetQueryValue → ℕ → List (Point V) → Option ℕ → List ℕ → Type 0
+IsInForm figures rules DeparturesForm.Journeys image b stop points walk text =
     HasJourneys rules image.timetable (from_stop b stop) points
     (λ departures. text ≡ flat_map (line_from figures (stop_bytes image.names stop)) departures)
-IsInForm figures rules LineForm.Points image b stop points walk text = text ≡ flat_map (point_line figures (stop_bytes image.names stop)) points
-IsInForm figures rules LineForm.Summary image b stop points walk text = IsSummary figures Form.Lines (stop_bytes image.names stop) points walk text
-IsInForm figures rules LineForm.JsonSummary image b stop points walk text = IsSummary figures Form.Json (stop_bytes image.names stop) points walk text
-IsInForm figures rules LineForm.Json image b stop points walk text =
+IsInForm figures rules DeparturesForm.Points image b stop points walk text = text ≡ flat_map (point_line figures (stop_bytes image.names stop)) points
+IsInForm figures rules DeparturesForm.Summary image b stop points walk text = IsSummary figures Form.Lines (stop_bytes image.names stop) points walk text
+IsInForm figures rules DeparturesForm.JsonSummary image b stop points walk text = IsSummary figures Form.Json (stop_bytes image.names stop) points walk text
+IsInForm figures rules DeparturesForm.Json image b stop points walk text =
     HasJourneys rules image.timetable (from_stop b stop) points
     (λ departures. text ≡ json_if_some (stop_bytes image.names stop) (map (journey_json figures) departures) walk)
-IsInForm figures rules LineForm.JsonPoints image b stop points walk text =
+IsInForm figures rules DeparturesForm.JsonPoints image b stop points walk text =
     text ≡ json_if_some (stop_bytes image.names stop) (map (point_json figures) points) walk
 
 -- the answer of the query from a stop has `count` points, and the text shows them
-pub record IsShownFrom {V : Type 0} (figures : V → Figures) (rules : Rules V) (form : LineForm) (image : ImageValue) (b : SetQueryValue)
+pub record IsShownFrom {V : Type 0} (figures : V → Figures) (rules : Rules V) (form : DeparturesForm) (image : ImageValue) (b : SetQueryValue)
     (stop count : ℕ) (text : List ℕ) : Type 0 where
   pub points : List (Point V)
   pub walk : Option Footpath
@@ -59,7 +59,7 @@ pub record IsShownFrom {V : Type 0} (figures : V → Figures) (rules : Rules V) 
   pub shown : IsInForm figures rules form image b stop points (secs_of walk) text
 
 -- such a text was added
-pub record ShowsStop {V : Type 0} (figures : V → Figures) (rules : Rules V) (form : LineForm) (image : ImageValue) (b : SetQueryValue)
+pub record ShowsStop {V : Type 0} (figures : V → Figures) (rules : Rules V) (form : DeparturesForm) (image : ImageValue) (b : SetQueryValue)
     (stop : ℕ) (old new : List ℕ) (count : ℕ) : Type 0 where
   pub text : List ℕ
   pub added : new ≡ old ++ text
@@ -78,7 +78,7 @@ abbrev pub one_if_some : ℕ → ℕ
 one_if_some points = min points 1
 
 -- the text shows the stops below n, one after the other: `stops` of them have points, and `points` points in all
-pub record AreListed {V : Type 0} (figures : V → Figures) (rules : Rules V) (form : LineForm) (image : ImageValue) (b : SetQueryValue)
+pub record AreListed {V : Type 0} (figures : V → Figures) (rules : Rules V) (form : DeparturesForm) (image : ImageValue) (b : SetQueryValue)
     (wanted : WantedStops) (n stops points : ℕ) (text : List ℕ) : Type 0 where
   pub parts : List (ℕ × List ℕ)
   pub each : AllZip (λ stop part. IsShownFrom figures rules form image b stop part.0 part.1) (shown_stops wanted b.targets n) parts
@@ -87,23 +87,23 @@ pub record AreListed {V : Type 0} (figures : V → Figures) (rules : Rules V) (f
   pub points_are : points ≡ sum_by (λ part. part.0) parts
 
 -- such a text was added
-pub record AddsStops {V : Type 0} (figures : V → Figures) (rules : Rules V) (form : LineForm) (image : ImageValue) (b : SetQueryValue)
+pub record AddsStops {V : Type 0} (figures : V → Figures) (rules : Rules V) (form : DeparturesForm) (image : ImageValue) (b : SetQueryValue)
     (wanted : WantedStops) (n : ℕ) (old new : List ℕ) (counts : StopCounts) : Type 0 where
   pub text : List ℕ
   pub added : new ≡ old ++ text
   pub listed : AreListed figures rules form image b wanted n counts.stops counts.points text
 
 -- the last line, in a form
-abbrev pub last_line : LineForm → ℕ → ℕ → ℕ → List ℕ
-last_line LineForm.Json stops points read = counts_json_line stops points read
-last_line LineForm.JsonPoints stops points read = counts_json_line stops points read
-last_line LineForm.JsonSummary stops points read = counts_json_line stops points read
-last_line LineForm.Journeys stops points read = counts_line stops points read
-last_line LineForm.Points stops points read = counts_line stops points read
-last_line LineForm.Summary stops points read = counts_line stops points read
+abbrev pub last_line : DeparturesForm → ℕ → ℕ → ℕ → List ℕ
+last_line DeparturesForm.Json stops points read = counts_json_line stops points read
+last_line DeparturesForm.JsonPoints stops points read = counts_json_line stops points read
+last_line DeparturesForm.JsonSummary stops points read = counts_json_line stops points read
+last_line DeparturesForm.Journeys stops points read = counts_line stops points read
+last_line DeparturesForm.Points stops points read = counts_line stops points read
+last_line DeparturesForm.Summary stops points read = counts_line stops points read
 
 -- all wanted stops except the targets are shown, and then the counts, with the number of connections of the window
-pub record AreShown {V : Type 0} (figures : V → Figures) (rules : Rules V) (form : LineForm) (image : ImageValue) (b : SetQueryValue)
+pub record AreShown {V : Type 0} (figures : V → Figures) (rules : Rules V) (form : DeparturesForm) (image : ImageValue) (b : SetQueryValue)
     (wanted : WantedStops) (printed : List ℕ) : Type 0 where
   pub stops : ℕ
   pub points : ℕ

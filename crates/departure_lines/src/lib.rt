@@ -2,7 +2,6 @@
 //! names.
 #![tactic(auto)]
 
-mod form;
 mod listed_names;
 mod listing;
 mod stop_json;
@@ -11,7 +10,6 @@ mod stop_lists;
 mod stop_words;
 mod whole;
 
-pub use form::LineForm;
 pub use listing::{append_by_numbers, append_direct, append_point, append_times};
 pub use stop_lists::{ListFault, WantedStops};
 pub use whole::departures_text;

@@ -7,7 +7,7 @@ ghost use Rattle.departure_lines.specs.Naming.{is_set};
 ghost use Rattle.departure_lines.specs.Sought.{AreFoundBelow, AreMarkedBelow, AreSought, IsFirstMissing, found_at};
 ghost use Rattle.departure_lines.specs.Sought.{is_missing, now_found};
 
-use answer_pictures::stop_name;
+use image_facts::stop_name;
 use image_verifier::Verified;
 use std::alloc::{AllocError, Global};
 use std::collections::BTreeMap;

@@ -4,17 +4,17 @@ ghost use Rattle.std.specs.Prelude.{◌≡◌, ◌<◌, ◌+◌, ℕ, List, true
 ghost use Rattle.profile_scan.specs.SetQuery.{IsAnswerBetween, secs_of};
 ghost use Rattle.journeys.specs.Answer.{point_of};
 ghost use Rattle.journeys.specs.Extracted.{AttainsBetween};
-ghost use Rattle.departure_lines.specs.declared.form.LineForm.{LineForm};
+ghost use Rattle.command_requests.specs.declared.requests.DeparturesForm.{DeparturesForm};
 ghost use Rattle.profile_scan.specs.Everywhere.{AnswerToAny, asked_to_any, criterion_to_any, walk_to_any};
 ghost use Rattle.profile_scan.specs.Origins.{from_stop};
 ghost use Rattle.departure_lines.specs.Showing.{AddsStops, ShowsStop, is_shown, one_if_some, summary_form};
 
-use crate::form::LineForm;
 use crate::stop_json::{append_json, append_json_points};
 use crate::stop_lists::WantedStops;
 use crate::stop_words::{append_lines, append_points, append_summary, summary_of};
-use answer_pictures::stop_name;
+use command_requests::DeparturesForm;
 use criteria::ShowsFigures;
+use image_facts::stop_name;
 use image_verifier::Verified;
 use journeys::{Departure, departures_from};
 use profile_scan::{InPlace, ProfilesToAny};
@@ -41,7 +41,7 @@ pub struct StopCounts {
 pub fn append_stops<C: ShowsFigures>(
     lines: &mut String,
     shown: &AnswersToPrint<'_, C>,
-    form: LineForm,
+    form: DeparturesForm,
     wanted: &WantedStops,
 ) -> Result<StopCounts, AllocError>
     requires same { criterion_to_any shown.now.profiles.now ≡ shown.now.criterion.now }
@@ -64,7 +64,7 @@ pub fn append_stops<C: ShowsFigures>(
 fn append_next<C: ShowsFigures>(
     lines: &mut String,
     shown: &AnswersToPrint<'_, C>,
-    form: LineForm,
+    form: DeparturesForm,
     wanted: &WantedStops,
     stop: u32,
     counts: StopCounts,
@@ -121,7 +121,7 @@ fn sum_of(count: usize, more: usize) -> Result<usize, AllocError>
 fn append_stop<C: ShowsFigures>(
     lines: &mut String,
     shown: &AnswersToPrint<'_, C>,
-    form: LineForm,
+    form: DeparturesForm,
     stop: u32,
 ) -> Result<usize, AllocError>
     requires stop { stop < shown.now.image.now.timetable.stops }
@@ -132,12 +132,12 @@ fn append_stop<C: ShowsFigures>(
         (asked_to_any shown.now.profiles.now) stop (string_bytes lines.old) (string_bytes lines.new)) }
 {
     match form {
-        LineForm::Journeys => append_journeys(lines, shown, stop),
-        LineForm::Points => append_bare(lines, shown, stop),
-        LineForm::Summary => append_summed(lines, shown, Form::Lines, stop),
-        LineForm::Json => append_as_json(lines, shown, stop),
-        LineForm::JsonPoints => append_bare_json(lines, shown, stop),
-        LineForm::JsonSummary => append_summed(lines, shown, Form::Json, stop),
+        DeparturesForm::Journeys => append_journeys(lines, shown, stop),
+        DeparturesForm::Points => append_bare(lines, shown, stop),
+        DeparturesForm::Summary => append_summed(lines, shown, Form::Lines, stop),
+        DeparturesForm::Json => append_as_json(lines, shown, stop),
+        DeparturesForm::JsonPoints => append_bare_json(lines, shown, stop),
+        DeparturesForm::JsonSummary => append_summed(lines, shown, Form::Json, stop),
     }
 }
 
@@ -150,7 +150,7 @@ fn append_journeys<C: ShowsFigures>(
     requires differ { Contains (asked_to_any shown.now.profiles.now).targets stop → ⊥ }
     requires same { criterion_to_any shown.now.profiles.now ≡ shown.now.criterion.now }
     requires answered { AnswerToAny C.rules shown.now.image.now.timetable shown.now.profiles.now }
-    ensures { IfOk result (ShowsStop C.figures (C.rules shown.now.criterion.now) LineForm.Journeys
+    ensures { IfOk result (ShowsStop C.figures (C.rules shown.now.criterion.now) DeparturesForm.Journeys
         shown.now.image.now
         (asked_to_any shown.now.profiles.now) stop (string_bytes lines.old) (string_bytes lines.new)) }
 {
@@ -175,8 +175,8 @@ fn append_bare<C: ShowsFigures>(
     requires differ { Contains (asked_to_any shown.now.profiles.now).targets stop → ⊥ }
     requires same { criterion_to_any shown.now.profiles.now ≡ shown.now.criterion.now }
     requires answered { AnswerToAny C.rules shown.now.image.now.timetable shown.now.profiles.now }
-    ensures { IfOk result (ShowsStop C.figures (C.rules shown.now.criterion.now) LineForm.Points shown.now.image.now
-        (asked_to_any shown.now.profiles.now) stop (string_bytes lines.old) (string_bytes lines.new)) }
+    ensures { IfOk result (ShowsStop C.figures (C.rules shown.now.criterion.now) DeparturesForm.Points
+        shown.now.image.now (asked_to_any shown.now.profiles.now) stop (string_bytes lines.old) (string_bytes lines.new)) }
 {
     let name = stop_name(shown.alloc, shown.image, stop)?;
     let points = shown.profiles.points(stop);
@@ -213,7 +213,7 @@ fn append_as_json<C: ShowsFigures>(
     requires differ { Contains (asked_to_any shown.now.profiles.now).targets stop → ⊥ }
     requires same { criterion_to_any shown.now.profiles.now ≡ shown.now.criterion.now }
     requires answered { AnswerToAny C.rules shown.now.image.now.timetable shown.now.profiles.now }
-    ensures { IfOk result (ShowsStop C.figures (C.rules shown.now.criterion.now) LineForm.Json shown.now.image.now
+    ensures { IfOk result (ShowsStop C.figures (C.rules shown.now.criterion.now) DeparturesForm.Json shown.now.image.now
         (asked_to_any shown.now.profiles.now) stop (string_bytes lines.old) (string_bytes lines.new)) }
 {
     let name = stop_name(shown.alloc, shown.image, stop)?;
@@ -239,7 +239,7 @@ fn append_bare_json<C: ShowsFigures>(
     requires differ { Contains (asked_to_any shown.now.profiles.now).targets stop → ⊥ }
     requires same { criterion_to_any shown.now.profiles.now ≡ shown.now.criterion.now }
     requires answered { AnswerToAny C.rules shown.now.image.now.timetable shown.now.profiles.now }
-    ensures { IfOk result (ShowsStop C.figures (C.rules shown.now.criterion.now) LineForm.JsonPoints
+    ensures { IfOk result (ShowsStop C.figures (C.rules shown.now.criterion.now) DeparturesForm.JsonPoints
         shown.now.image.now
         (asked_to_any shown.now.profiles.now) stop (string_bytes lines.old) (string_bytes lines.new)) }
 {

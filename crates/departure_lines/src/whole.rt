@@ -6,11 +6,11 @@ ghost use Rattle.profile_scan.specs.Destinations.{question_to_any};
 ghost use Rattle.profile_scan.specs.Window.{window_of};
 ghost use Rattle.departure_lines.specs.Showing.{AreShown, last_line};
 
-use crate::form::LineForm;
 use crate::stop_json::append_json_counts;
 use crate::stop_lines::{AnswersToPrint, StopCounts, append_stops};
 use crate::stop_lists::WantedStops;
 use crate::stop_words::append_counts;
+use command_requests::DeparturesForm;
 use criteria::ShowsFigures;
 use image_verifier::Verified;
 use journeys::window_len;
@@ -27,7 +27,7 @@ pub fn departures_text<C: ShowsFigures>(
     image: &Verified,
     criterion: &C,
     destinations: &Destinations,
-    form: LineForm,
+    form: DeparturesForm,
     wanted: &WantedStops,
 ) -> Result<String, AllocError>
     requires { IsAskableBetween image.now.timetable.stops (question_to_any destinations.now) }
@@ -67,7 +67,7 @@ fn window_size<S: ConnSource>(source: &S, destinations: &Destinations) -> usize
 // Adds the last line.
 fn append_last(
     lines: &mut String,
-    form: LineForm,
+    form: DeparturesForm,
     counts: StopCounts,
     read: usize,
 ) -> Result<(), AllocError>
@@ -75,10 +75,10 @@ fn append_last(
         ++ last_line form counts.stops counts.points read) }
 {
     match form {
-        LineForm::Json | LineForm::JsonPoints | LineForm::JsonSummary => {
+        DeparturesForm::Json | DeparturesForm::JsonPoints | DeparturesForm::JsonSummary => {
             append_json_counts(lines, counts.stops, counts.points, read)
         }
-        LineForm::Journeys | LineForm::Points | LineForm::Summary => {
+        DeparturesForm::Journeys | DeparturesForm::Points | DeparturesForm::Summary => {
             append_counts(lines, counts.stops, counts.points, read)
         }
     }

@@ -17,7 +17,6 @@ use Rattle.command_requests.specs.declared.requests.DeparturesRequest.{Departure
 use Rattle.command_requests.specs.declared.statuses.TheConstants.{INPUT_OUTPUT, OUT_OF_MEMORY, REFUSED}
 use Rattle.departure_lines.specs.Naming.{AreWanted, IsUnknownLine}
 use Rattle.departure_lines.specs.Showing.{AreShown}
-use Rattle.departure_lines.specs.declared.form.LineForm.{LineForm}
 use Rattle.departure_lines.specs.declared.stop_lists.WantedStops.{WantedStops}
 use Rattle.departure_lines.specs.declared.stop_lists.WantedStops.TheVariants.{All}
 use Rattle.image_files.specs.Texts.{HoldsOfText}
@@ -26,20 +25,11 @@ use Rattle.image_commands.specs.declared.refusal.CommandRefusal.TheVariants.{Que
 use Rattle.image_commands.specs.declared.wanted_stops.NoList.{NoList}
 use Rattle.image_commands.specs.declared.wanted_stops.NoList.TheVariants.{NotText, UnknownStop, Unreadable, OutOfMemory}
 
--- the form of lines for a form of the command line
-abbrev pub form_of : DeparturesForm → LineForm
-form_of DeparturesForm.Journeys = LineForm.Journeys
-form_of DeparturesForm.Points = LineForm.Points
-form_of DeparturesForm.Summary = LineForm.Summary
-form_of DeparturesForm.Json = LineForm.Json
-form_of DeparturesForm.JsonPoints = LineForm.JsonPoints
-form_of DeparturesForm.JsonSummary = LineForm.JsonSummary
-
 -- the text shows the departures from the stops that are wanted, under the criterion of this name
 abbrev pub AreShownBy : CriterionName → DeparturesForm → ImageValue → SetQueryValue → WantedStops → List ℕ → Type 0
-AreShownBy CriterionName.Arrival form image b wanted printed = AreShown arrival_figures by_arrival (form_of form) image b wanted printed
-AreShownBy CriterionName.ArrivalTrips form image b wanted printed = AreShown trips_figures by_trips (form_of form) image b wanted printed
-AreShownBy CriterionName.ArrivalTripsWalk form image b wanted printed = AreShown walking_figures by_walking (form_of form) image b wanted printed
+AreShownBy CriterionName.Arrival form image b wanted printed = AreShown arrival_figures by_arrival form image b wanted printed
+AreShownBy CriterionName.ArrivalTrips form image b wanted printed = AreShown trips_figures by_trips form image b wanted printed
+AreShownBy CriterionName.ArrivalTripsWalk form image b wanted printed = AreShown walking_figures by_walking form image b wanted printed
 
 -- the names of the stops to go to, and the window that the command line asks for
 abbrev pub targets_asked : DeparturesRequest → List (List ℕ)

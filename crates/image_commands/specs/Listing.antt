@@ -9,7 +9,7 @@ use Rattle.timetable.specs.NamesValue.{NamesValue}
 use Rattle.timetable.specs.declared.network.Connection.{Connection}
 use Rattle.timetable.specs.declared.network.Footpath.{Footpath}
 use Rattle.image_layout.specs.Image.{ImageValue}
-use Rattle.answer_pictures.specs.Naming.{stop_bytes, trip_bytes}
+use Rattle.image_facts.specs.Naming.{stop_bytes, trip_bytes}
 use Rattle.journeys.specs.Texts.{number_text}
 use Rattle.journeys.specs.declared.answering.Departure.{Departure}
 use Rattle.answer_replies.specs.Replying.{departures_data}

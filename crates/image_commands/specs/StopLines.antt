@@ -3,7 +3,7 @@ use Rattle.std.specs.Prelude.{◌≡◌, ◌⊎◌, Bool, true, false, ℕ, List
 use Rattle.std.specs.List.{AllZip, flat_map, range_with_len}
 use Rattle.timetable.specs.NamesValue.{NamesValue}
 use Rattle.image_layout.specs.Image.{ImageValue}
-use Rattle.answer_pictures.specs.Naming.{stop_bytes}
+use Rattle.image_facts.specs.Naming.{stop_bytes}
 use Rattle.feed_stations.specs.Finding.{IsIn}
 use Rattle.text_pieces.specs.Json.{quoted_text, with_commas}
 use Rattle.command_requests.specs.declared.requests.StopsRequest.{StopsRequest}

@@ -6,19 +6,18 @@ ghost use Rattle.profile_scan.specs.SetQuery.{IsAskableBetween, question};
 ghost use Rattle.profile_scan.specs.Destinations.{question_to_any};
 ghost use Rattle.station_answers.specs.Naming.{IsNoQuestion};
 ghost use Rattle.command_requests.specs.declared.statuses.TheConstants.{REFUSED};
-ghost use Rattle.departure_lines.specs.declared.form.LineForm.{LineForm};
 ghost use Rattle.image_commands.specs.declared.wanted_stops.NoList.TheVariants.{UnknownStop};
 ghost use Rattle.image_commands.specs.Commands.{PrintsDepartures};
 ghost use Rattle.command_endings.specs.Ending.{EndsUndone, IsOutcome, PrintsOnly};
-ghost use Rattle.image_commands.specs.Departing.{AreShownBy, AsksOfAll, form_of, list_status, targets_asked, window_asked};
+ghost use Rattle.image_commands.specs.Departing.{AreShownBy, AsksOfAll, list_status, targets_asked, window_asked};
 
 use crate::question::{explain_ends, window_reason};
 use crate::refusal::{CommandRefusal, print_refusal};
 use crate::wanted_stops::{NoList, wanted_from};
 use command_endings::status;
-use command_requests::{DeparturesForm, DeparturesRequest};
+use command_requests::DeparturesRequest;
 use criteria::{Arrival, ArrivalTrips, ArrivalTripsWalk, CriterionName};
-use departure_lines::{LineForm, WantedStops, departures_text};
+use departure_lines::{WantedStops, departures_text};
 use feed_messages::{explain, is_file};
 use image_files::ImageDisk;
 use image_verifier::Verified;
@@ -180,7 +179,7 @@ fn text_by_name(
     ensures { IfOk result (λ text. AreShownBy request.now.criterion request.now.form image.now
         (question_to_any destinations.now) wanted.now (string_bytes text)) }
 {
-    let form = form_of(request.form);
+    let form = request.form;
     match request.criterion {
         CriterionName::Arrival => departures_text(
             alloc,
@@ -196,19 +195,5 @@ fn text_by_name(
         CriterionName::ArrivalTripsWalk => {
             departures_text(alloc, image, &ArrivalTripsWalk, destinations, form, wanted)
         }
-    }
-}
-
-// The form of lines for a form of the command line.
-fn form_of(form: DeparturesForm) -> LineForm
-    ensures { result ≡ form_of form }
-{
-    match form {
-        DeparturesForm::Journeys => LineForm::Journeys,
-        DeparturesForm::Points => LineForm::Points,
-        DeparturesForm::Summary => LineForm::Summary,
-        DeparturesForm::Json => LineForm::Json,
-        DeparturesForm::JsonPoints => LineForm::JsonPoints,
-        DeparturesForm::JsonSummary => LineForm::JsonSummary,
     }
 }

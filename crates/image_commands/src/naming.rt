@@ -6,9 +6,9 @@ ghost use Rattle.journeys.specs.Texts.{number_text};
 ghost use Rattle.image_commands.specs.Listing.{call_text, named_between, named_hops, named_ride, named_start};
 ghost use Rattle.image_commands.specs.Listing.{named_text, named_walk};
 ghost use Rattle.command_endings.specs.Refusing.{word_text};
-ghost use Rattle.answer_pictures.specs.Naming.{stop_bytes, trip_bytes};
+ghost use Rattle.image_facts.specs.Naming.{stop_bytes, trip_bytes};
 
-use answer_pictures::{connection_at, stop_name, trip_name};
+use image_facts::{connection_at, stop_name, trip_name};
 use image_verifier::Verified;
 use std::alloc::{AllocError, Global};
 use text_pieces::{put_clock, put_number, put_text, put_word};

@@ -2,16 +2,16 @@
 
 ghost use Rattle.std.specs.Prelude.{◌≡◌, ◌+◌, ◌++◌, ℕ, List, true, false, decimal, map, IfOk, OnOk, string_bytes};
 ghost use Rattle.std.specs.List.{flat_map};
-ghost use Rattle.answer_pictures.specs.Naming.{stop_bytes};
+ghost use Rattle.image_facts.specs.Naming.{stop_bytes};
 ghost use Rattle.text_pieces.specs.Json.{with_commas};
 ghost use Rattle.image_commands.specs.StopLines.{AreFound, AreStopsAsked, IsFound, stop_json, stop_line, stops_text};
 ghost use Rattle.command_endings.specs.Ending.{IsOutcome, PrintsOnly};
 
-use answer_pictures::stop_name;
 use command_endings::status;
 use command_requests::StopsRequest;
 use feed_messages::{explain, quoted};
 use feed_stations::is_in;
+use image_facts::stop_name;
 use image_verifier::Verified;
 use std::alloc::{AllocError, Global};
 use std::io::Write;

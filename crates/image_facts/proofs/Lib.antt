@@ -1,3 +1,4 @@
 mod Grouped
 mod Headers
 mod Lines
+mod Named

@@ -3,3 +3,4 @@ pub mod Days
 pub mod Entries
 pub mod Facts
 pub mod Json
+pub mod Naming

@@ -1,12 +1,12 @@
 -- Texts that several threads made, put together.
-use Rattle.std.proofs.Common.{◌≡◌, ◌≤◌, ◌+◌, ◌-◌, ℕ, List, [], ◌++◌, Option, None, Some}
+use Rattle.std.proofs.Common.{◌≡◌, ℕ, List, [], ◌++◌, Option}
 use Rattle.std.proofs.Common.{Result, Ok, Err, Contains, OnErr, OnOk}
-use Rattle.std.proofs.Common.{length, take, drop, refl, sym, ◌∙◌, ap, subst, arith, append_assoc, append-nil}
+use Rattle.std.proofs.Common.{take, drop, refl, sym, ◌∙◌, ap, subst, append_assoc, append-nil}
 use Rattle.std.specs.Global.{Vec}
-use Rattle.std.specs.Io.KnownBytes.{Appends, Keeps}
+use Rattle.std.specs.Io.KnownBytes.{Appends}
 use Rattle.std.proofs.lemmas.List.Elements.{Contains-append_left, Contains-append_right}
-use Rattle.std.proofs.lemmas.List.{length-drop, length-take-le, take-append-drop, take_all}
-use Rattle.std.proofs.Math.Seq.{take-append-add}
+use Rattle.std.proofs.lemmas.List.{take-append-drop}
+use Rattle.image_files.proofs.Appended.{appended_in_turns, nothing_appended}
 use Rattle.csv.specs.Writing.{default_writer, row_text}
 use Rattle.matrix_rows.specs.Tables.{AreRowsOf, IsBegun, IsRunBegun, IsTableBegun, names_of}
 use Rattle.matrix_rows.specs.declared.table.TravelTable.{TravelTable}
@@ -16,23 +16,6 @@ pub in_middle : {X : Type 0} (front part rest xs : List X) → front ++ (part ++
 in_middle {X} front part rest xs is x h =
     subst (λ (zs : List X). Contains zs x) is
     (Contains-append_right front (part ++ rest) x (Contains-append_left part rest x h))
-
-pub nothing_appended : (known : Option (List ℕ)) → Appends known known []
-nothing_appended None = tt
-nothing_appended (Some xs) = sym (append-nil xs)
-
--- what is appended in turns is appended one after the other
-pub appended_in_turns : (u v w : Option (List ℕ)) (a b : List ℕ) → Appends u v a → Appends v w b → Appends u w (a ++ b)
-appended_in_turns None v w a b x y = tt
-appended_in_turns (Some xs) None w a b x y = absurd x
-appended_in_turns (Some xs) (Some ys) None a b x y = y
-appended_in_turns (Some xs) (Some ys) (Some zs) a b x y = y ∙ ap (λ (t : List ℕ). t ++ b) x ∙ append_assoc xs a b
-
-pub appended_and_kept : (u v w : Option (List ℕ)) (a : List ℕ) → Appends u v a → Keeps v w → Appends u w a
-appended_and_kept None v w a x y = tt
-appended_and_kept (Some xs) None w a x y = absurd x
-appended_and_kept (Some xs) (Some ys) None a x y = absurd y
-appended_and_kept (Some xs) (Some ys) (Some zs) a x y = y ∙ x
 
 -- what holds in any case holds at a value
 pub at_value : {T E P : Type 0} (r : Result T E) → P → OnOk r P
@@ -62,24 +45,6 @@ begun_after u v w front text first is = record {
   whole = append_assoc front is.written is.left ∙ ap (λ (t : List ℕ). front ++ t) is.whole;
   added = appended_in_turns u v w front is.written first is.added;
 }
-
-take_further : (done n : ℕ) (xs : List ℕ) → done ≤ length xs → take done xs ++ take n (drop done xs) ≡ take (done + n) xs
-take_further done n xs least =
-    let split : take done xs ++ drop done xs ≡ xs = take-append-drop done xs in
-    let long : length (take done xs) ≡ done = length-take-le done xs least in
-    sym (ap (λ (m : ℕ). take (m + n) xs) (sym long) ∙ ap (take (length (take done xs) + n)) (sym split)
-    ∙ take-append-add (take done xs) (drop done xs) n)
-
--- the first bytes of a text were appended, and then the first of those that were left
-pub appended_further : (u v w : Option (List ℕ)) (xs : List ℕ) (done n : ℕ) → done ≤ length xs → Appends u v (take done xs)
-    → Appends v w (take n (take (length xs - done) (drop done xs)))
-    → Appends u w (take (done + n) xs)
-appended_further u v w xs done n least x y =
-    let rest : take (length xs - done) (drop done xs) ≡ drop done xs =
-    take_all (length xs - done) (drop done xs) (omega (arith, length-drop done xs)) in
-    subst (Appends u w) (take_further done n xs least)
-    (appended_in_turns u v w (take done xs) (take n (drop done xs)) x
-    (subst (λ (left : List ℕ). Appends v w (take n left)) rest y))
 
 -- a text that is written piece by piece: so many bytes are
 pub begun_at : (u v : Option (List ℕ)) (text : List ℕ) (done : ℕ) → Appends u v (take done text) → IsBegun u v text

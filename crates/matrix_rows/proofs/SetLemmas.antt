@@ -7,7 +7,7 @@ use Rattle.std.proofs.lemmas.List.{length-map, length-take-le, map-append, take_
 use Rattle.matrix_rows.specs.Joining.{tab_before}
 use Rattle.matrix_rows.specs.Listed.{ids_in}
 use Rattle.timetable.specs.NamesValue.{NamesValue}
-use Rattle.answer_pictures.specs.Naming.{stop_bytes}
+use Rattle.image_facts.specs.Naming.{stop_bytes}
 use Rattle.matrix_rows.specs.Tables.{set_bytes, tabbed}
 use Rattle.matrix_rows.proofs.Sought.{at_index, more_listed}
 

@@ -16,7 +16,7 @@ use Rattle.std.proofs.lemmas.Option.{get_or_from_slice_get, none-some, same_Some
 use Rattle.reasoning.proofs.ListLemmas.{contains_at, contains_cases, not_in_nil, same_at}
 use Rattle.timetable.specs.Legal.{At}
 use Rattle.timetable.specs.NamesValue.{NamesValue}
-use Rattle.answer_pictures.specs.Naming.{bytes_or_none, stop_bytes}
+use Rattle.image_facts.specs.Naming.{bytes_or_none, stop_bytes}
 use Rattle.matrix_rows.specs.Listed.{AreAllNamed, IsUnknownLine, IsUnnamed, ids_in}
 use Rattle.journeys.specs.Questions.{IsNamed}
 use Rattle.matrix_rows.specs.Sought.{AreFound, AreFoundBelow, AreSought, IsFirstMissing, IsMissing, IsOneMissing, first_of, found_at, now_found}

@@ -5,7 +5,7 @@ ghost use Rattle.std.specs.Str.{bytes_eq};
 ghost use Rattle.matrix_rows.specs.Sought.{AreFound, AreFoundBelow, AreSought, IsOneMissing, first_of, found_at};
 ghost use Rattle.matrix_rows.specs.Sought.{now_found, stop_in};
 
-use answer_pictures::stop_name;
+use image_facts::stop_name;
 use image_verifier::Verified;
 use std::alloc::{AllocError, Global};
 use std::collections::BTreeMap;

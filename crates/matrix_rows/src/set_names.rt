@@ -4,7 +4,7 @@ ghost use Rattle.std.specs.Prelude.{◌≡◌, ◌++◌, IfOk, OnOk, string_byte
 ghost use Rattle.matrix_rows.specs.Joining.{tab_before};
 ghost use Rattle.matrix_rows.specs.Tables.{AreNamed, set_bytes};
 
-use answer_pictures::stop_name;
+use image_facts::stop_name;
 use image_verifier::Verified;
 use std::alloc::{AllocError, Global};
 

@@ -1,5 +1,5 @@
 use Rattle.std.proofs.Common.{◌++◌, ◌∙◌, length, map, ap, sym, refl, string_bytes}
-use Rattle.answer_pictures.specs.Naming.{stop_bytes}
+use Rattle.image_facts.specs.Naming.{stop_bytes}
 use Rattle.profile_scan.specs.SetQuery.{secs_of}
 use Rattle.profile_scan.specs.Everywhere.{asked_to_any, criterion_to_any, walk_to_any}
 use Rattle.profile_scan.specs.Origins.{from_stop}

@@ -1,6 +1,6 @@
 use Rattle.std.proofs.Common.{◌++◌, ◌∙◌, ap, refl, string_bytes}
 use Rattle.std.specs.List.{flat_map}
-use Rattle.answer_pictures.specs.Naming.{stop_bytes}
+use Rattle.image_facts.specs.Naming.{stop_bytes}
 use Rattle.departure_lines.specs.Lines.{point_line}
 use Rattle.departure_lines.proofs.Stops.{points_shown}
 use Rattle.departure_lines.proofs.stop_lines.append_bare.Goals as goal

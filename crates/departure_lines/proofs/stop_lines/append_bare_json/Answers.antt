@@ -1,5 +1,5 @@
 use Rattle.std.proofs.Common.{◌++◌, ◌∙◌, map, ap, refl, string_bytes}
-use Rattle.answer_pictures.specs.Naming.{stop_bytes}
+use Rattle.image_facts.specs.Naming.{stop_bytes}
 use Rattle.profile_scan.specs.SetQuery.{secs_of}
 use Rattle.profile_scan.specs.Everywhere.{walk_to_any}
 use Rattle.departure_lines.specs.Json.{json_if_some, point_json}

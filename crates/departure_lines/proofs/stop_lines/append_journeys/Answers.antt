@@ -1,6 +1,6 @@
 use Rattle.std.proofs.Common.{◌++◌, ◌∙◌, length, ap, sym, refl, string_bytes}
 use Rattle.std.specs.List.{flat_map}
-use Rattle.answer_pictures.specs.Naming.{stop_bytes}
+use Rattle.image_facts.specs.Naming.{stop_bytes}
 use Rattle.profile_scan.specs.Everywhere.{asked_to_any, criterion_to_any}
 use Rattle.profile_scan.specs.Origins.{from_stop}
 use Rattle.departure_lines.specs.Lines.{line_from}

@@ -1,5 +1,5 @@
 use Rattle.std.proofs.Common.{◌++◌, ◌∙◌, ap, refl, subst, string_bytes}
-use Rattle.answer_pictures.specs.Naming.{stop_bytes}
+use Rattle.image_facts.specs.Naming.{stop_bytes}
 use Rattle.departure_lines.specs.Lines.{SumsUp, summary_text}
 use Rattle.departure_lines.proofs.Stops.{points_shown}
 use Rattle.departure_lines.proofs.Summed.{summary_in_form}

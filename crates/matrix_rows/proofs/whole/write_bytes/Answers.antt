@@ -1,5 +1,6 @@
 use Rattle.std.proofs.Common.{◌+◌, rules}
-use Rattle.matrix_rows.proofs.Joins.{appended_and_kept, appended_further, begun_at}
+use Rattle.image_files.proofs.Appended.{appended_and_kept, appended_further}
+use Rattle.matrix_rows.proofs.Joins.{begun_at}
 use Rattle.matrix_rows.proofs.whole.write_bytes.Goals as goal
 use Rattle.matrix_rows.proofs.whole.write_bytes.Goals.{in-Ok, in-Err+else-ne}
 

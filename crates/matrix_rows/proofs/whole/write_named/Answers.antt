@@ -6,7 +6,8 @@ use Rattle.std.specs.Io.KnownBytes.{Appends}
 use Rattle.std.specs.Slice.Iter.{chunks_rest}
 use Rattle.csv.specs.Writing.{default_writer, row_text}
 use Rattle.matrix_rows.specs.Tables.{AreRowsOf, IsBegun, IsTableBegun, names_of}
-use Rattle.matrix_rows.proofs.Joins.{appended_and_kept, appended_in_turns, at_error, at_value, begun_by_all, begun_by_nothing, in_middle, run_begun}
+use Rattle.image_files.proofs.Appended.{appended_and_kept, appended_in_turns}
+use Rattle.matrix_rows.proofs.Joins.{at_error, at_value, begun_by_all, begun_by_nothing, in_middle, run_begun}
 use Rattle.matrix_rows.proofs.Targets.{no_targets, targets_joined}
 use Rattle.matrix_rows.proofs.whole.write_named.Goals as goal
 

@@ -4,7 +4,7 @@ use Rattle.std.proofs.lemmas.List.{take_all}
 use Rattle.std.proofs.lemmas.List.Elements.{Contains-get_or}
 use Rattle.std.proofs.lemmas.Option.{slice_get_read}
 use Rattle.matrix_rows.specs.Tables.{AreRowsBy, AreRowsOf, CanBeMade}
-use Rattle.matrix_rows.proofs.Joins.{appended_in_turns, nothing_appended}
+use Rattle.image_files.proofs.Appended.{appended_in_turns, nothing_appended}
 use Rattle.matrix_rows.proofs.Runs.{all_begun, on_some, rows_more, target_begun, text_rows}
 use Rattle.matrix_rows.proofs.Targets.{no_targets}
 use Rattle.matrix_rows.proofs.whole.write_run.Goals as goal

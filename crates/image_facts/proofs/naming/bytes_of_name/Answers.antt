@@ -1,7 +1,7 @@
 use Rattle.std.proofs.Common.{◌<◌, ◌≤◌, ◌∙◌, length, arith}
 use Rattle.std.proofs.lemmas.List.{take_all}
 use Rattle.image_verifier.proofs.Unpacking.{next_taken}
-use Rattle.answer_pictures.proofs.naming.bytes_of_name.Goals as goal
+use Rattle.image_facts.proofs.naming.bytes_of_name.Goals as goal
 
 pub name_byte-requires-clause-byte : goal.name_byte-requires-clause-byte
 name_byte-requires-clause-byte c = λ name at. omega (arith, c.loop-j-test.true, c.name_len-len.ensures name at)

@@ -1,9 +1,9 @@
-//! The names of an image as texts, for journeys that people read.
+//! The names of stops and trips as texts, and connections by their index.
 
 ghost use Rattle.std.specs.Prelude.{◌≡◌, ◌<◌, ◌+◌, ℕ, List, slice_get, string_bytes, IfOk};
 ghost use Rattle.timetable.specs.Legal.{At};
 ghost use Rattle.image_layout.specs.Spelling.{name_list};
-ghost use Rattle.answer_pictures.specs.Naming.{stop_bytes, trip_bytes};
+ghost use Rattle.image_facts.specs.Naming.{stop_bytes, trip_bytes};
 
 use image_verifier::Verified;
 use std::alloc::{AllocError, Global};

@@ -2,8 +2,8 @@ use Rattle.std.proofs.Common.{◌<◌, ◌+◌, ℕ, List, [], length, sym, subs
 use Rattle.std.specs.Prelude.{get_or}
 use Rattle.std.specs.Str.{IsUtf8}
 use Rattle.image_layout.specs.Spelling.{name_list}
-use Rattle.answer_pictures.proofs.Named.{name_there}
-use Rattle.answer_pictures.proofs.naming.text_of_name.Goals as goal
+use Rattle.image_facts.proofs.Named.{name_there}
+use Rattle.image_facts.proofs.naming.text_of_name.Goals as goal
 
 pub unreachable-requires : goal.unreachable-requires
 unreachable-requires c =

@@ -5,7 +5,7 @@ use Rattle.std.proofs.lemmas.List.{length-append, length-map, get_or-append-add}
 use Rattle.std.proofs.lemmas.Option.{slice_get-get_or, slice_get-map, slice_get_past}
 use Rattle.timetable.specs.NamesValue.{NamesValue, TripNameValue}
 use Rattle.image_layout.specs.Spelling.{name_list}
-use Rattle.answer_pictures.specs.Naming.{bytes_or_none, trip_bytes}
+use Rattle.image_facts.specs.Naming.{bytes_or_none, trip_bytes}
 
 name_of_trip : TripNameValue → List ℕ
 name_of_trip t = t.name

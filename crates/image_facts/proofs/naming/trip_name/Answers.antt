@@ -1,9 +1,9 @@
 use Rattle.std.proofs.Common.{◌≡◌, ◌+◌, ◌<◌, ℕ, length, sym, subst, ◌∙◌, arith}
 use Rattle.std.specs.Prelude.{slice_get, Some}
 use Rattle.image_layout.specs.Spelling.{name_list}
-use Rattle.answer_pictures.specs.Naming.{trip_bytes}
-use Rattle.answer_pictures.proofs.Named.{trip_there, no_trip_there}
-use Rattle.answer_pictures.proofs.naming.trip_name.Goals as goal
+use Rattle.image_facts.specs.Naming.{trip_bytes}
+use Rattle.image_facts.proofs.Named.{trip_there, no_trip_there}
+use Rattle.image_facts.proofs.naming.trip_name.Goals as goal
 
 pub returns-then-trip-trips : goal.returns-then-trip-trips
 returns-then-trip-trips c =
