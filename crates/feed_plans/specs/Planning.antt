@@ -54,6 +54,10 @@ pub record IsPlan (asked : PlanText) (bytes : List ℕ) (instant : Option ℤ) (
   pub zone : IsZoneOf asked.zone bytes plan.zone
   pub strict : plan.strict ≡ asked.strict
 
--- the plan that is asked for, made at the instant that the clock showed; no clause says which instant that was
+-- the plan that is asked for, made at what the clock may show when it is read
+abbrev pub IsPlanBy : (Option ℤ → Type 0) → PlanText → List ℕ → Plan → Type 0
+IsPlanBy may_show asked bytes plan = ∥ ((instant : Option ℤ) × may_show instant × IsPlan asked bytes instant plan) ∥₁
+
+-- .. by a clock of which nothing is known
 abbrev pub IsPlanNow : PlanText → List ℕ → Plan → Type 0
-IsPlanNow asked bytes plan = ∥ ((instant : Option ℤ) × IsPlan asked bytes instant plan) ∥₁
+IsPlanNow asked bytes plan = IsPlanBy (λ instant. Unit {0}) asked bytes plan

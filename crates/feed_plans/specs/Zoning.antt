@@ -1,5 +1,5 @@
 -- The bytes of a zone's file, and why there is no zone.
-use Rattle.std.specs.Prelude.{◌≡◌, ◌≢◌, ℕ, List, [], Option}
+use Rattle.std.specs.Prelude.{◌≡◌, ◌≢◌, ℕ, ℤ, List, [], Option}
 use Rattle.std.specs.declared.io.ErrorKind.{ErrorKind}
 use Rattle.std.specs.declared.io.ErrorKind.TheVariants.{OutOfMemory as WasOutOfMemory}
 use Rattle.command_requests.specs.declared.plans.PlanText.{PlanText}
@@ -9,7 +9,7 @@ use Rattle.feed_loader.specs.declared.fault.LoadFault.{LoadFault}
 use Rattle.feed_loader.specs.declared.fault.LoadFault.TheVariants.{Day}
 use Rattle.feed_loader.specs.declared.plan.Plan.{Plan}
 use Rattle.image_files.specs.Texts.{IsTextAt}
-use Rattle.feed_plans.specs.Planning.{IsPlanNow, IsZoneFault}
+use Rattle.feed_plans.specs.Planning.{IsPlanBy, IsZoneFault}
 use Rattle.service_days.specs.declared.fault.DayFault.{DayFault}
 use Rattle.feed_plans.specs.declared.zones.PlanFailure.{PlanFailure}
 use Rattle.feed_plans.specs.declared.zones.PlanFailure.TheVariants.{Refused, Unreadable, OutOfMemory}
@@ -35,9 +35,13 @@ module _ (may_hold : List ℕ → Option (List ℕ) → Type 0) where
   AreZoneBytes (Posix rule) bytes = bytes ≡ []
   AreZoneBytes (File path) bytes = IsTextAt may_hold path.now bytes
 
-  -- the plan that is asked for, made at the instant that the clock showed, with the bytes of the zone's file
+  -- the plan that is asked for, made at what the clock may show when it is read, with the bytes of the zone's file
+  abbrev pub IsPlanAskedBy : (Option ℤ → Type 0) → PlanText → Plan → Type 0
+  IsPlanAskedBy may_show asked plan = (bytes : List ℕ) × AreZoneBytes asked.zone bytes × IsPlanBy may_show asked bytes plan
+
+  -- .. by a clock of which nothing is known
   abbrev pub IsPlanAsked : PlanText → Plan → Type 0
-  IsPlanAsked asked plan = (bytes : List ℕ) × AreZoneBytes asked.zone bytes × IsPlanNow asked bytes plan
+  IsPlanAsked asked plan = IsPlanAskedBy (λ instant. Unit {0}) asked plan
 
   -- the fault is that of the zone that was asked for, with the bytes of its file
   abbrev pub IsNoZoneOf : PlanText → LoadFault → Type 0

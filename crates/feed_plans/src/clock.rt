@@ -1,7 +1,7 @@
 //! The calendar day that a zone's clocks show at an instant, and the day before it: the first day of a plan that
 //! begins today or yesterday.
 
-ghost use Rattle.std.specs.Prelude.{◌≡◌, ◌≤ℤ◌, IfOk, IfErr, pos, ℤ};
+ghost use Rattle.std.specs.Prelude.{◌≡◌, ◌≤ℤ◌, IfOk, IfErr, Option, pos, ℤ};
 ghost use Rattle.jiff.specs.Types.{DateTime};
 ghost use Rattle.jiff.specs.Words.{offset_at, plain_zone};
 ghost use Rattle.feed_plans.specs.Shown.{HasNoDay, HasNoDayBefore, IsDayAt, IsDayBefore, IsDayOf, IsShownAt};
@@ -14,12 +14,33 @@ use jiff::tz::TimeZone;
 use service_days::{DayFault, Zone};
 use std::time::{Clock, SystemTime};
 
-/// Returns the instant that a clock shows, in whole seconds after 1970-01-01T00:00:00Z. None if the clock can't be
-/// read or shows an earlier instant.
-pub fn instant<C: Clock>(clock: &C) -> Option<i64> {
-    let now = SystemTime::now(clock).ok()?;
-    let since = now.duration_since(SystemTime::UNIX_EPOCH).ok()?;
-    i64::try_from(since.as_secs()).ok()
+/// A clock that shows the instant.
+pub trait WallClock {
+    // Whether this is what the clock may show when it is read.
+    ghost may_show: { Self → Option ℤ → Type 0 } = { λ _ _. Unit {0} };
+
+    /// Returns the instant that the clock shows, in whole seconds after 1970-01-01T00:00:00Z. None if the clock
+    /// can't be read or shows an earlier instant.
+    fn instant(&self) -> Option<i64>
+        ensures { Self.may_show self.now result };
+}
+
+impl<C: Clock> WallClock for C {
+    // nothing is known about the clock of a machine
+    ghost may_show = { λ _ _. Unit {0} };
+
+    fn instant(&self) -> Option<i64> {
+        let now = SystemTime::now(self).ok()?;
+        let since = now.duration_since(SystemTime::UNIX_EPOCH).ok()?;
+        i64::try_from(since.as_secs()).ok()
+    }
+}
+
+/// Returns the instant that a clock shows, as `WallClock::instant` does.
+pub fn instant<C: WallClock>(clock: &C) -> Option<i64>
+    ensures { C.may_show clock.now result }
+{
+    clock.instant()
 }
 
 /// Returns the day that the zone's clocks show at an instant, given in seconds after 1970-01-01T00:00:00Z.

@@ -6,6 +6,6 @@ mod clock;
 mod plans;
 mod zones;
 
-pub use clock::{instant, today, yesterday};
+pub use clock::{WallClock, instant, today, yesterday};
 pub use plans::plan_at;
 pub use zones::{PlanFailure, plan_of, zone_and_plan};

@@ -1,6 +1,6 @@
 //! The plan of a load, made at an instant from what a command line asks for.
 
-ghost use Rattle.std.specs.Prelude.{◌≡◌, ◌≤◌, IfErr, IfOk};
+ghost use Rattle.std.specs.Prelude.{◌≤◌, IfErr, IfOk};
 ghost use Rattle.connections.specs.declared.days.TheConstants.{MAX_DAYS};
 ghost use Rattle.feed_plans.specs.Planning.{IsFirstDay, IsPlan, IsToday, IsYesterday, IsZoneFault, IsZoneOf};
 

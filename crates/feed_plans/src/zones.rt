@@ -1,17 +1,16 @@
 //! The plan of a load: the service days and the zone that a command line asks for.
 
-ghost use Rattle.std.specs.Prelude.{◌≡◌, ◌≤◌, IfErr, IfOk};
+ghost use Rattle.std.specs.Prelude.{◌≤◌, IfErr, IfOk};
 ghost use Rattle.connections.specs.declared.days.TheConstants.{MAX_DAYS};
-ghost use Rattle.feed_plans.specs.Planning.{IsPlanNow};
-ghost use Rattle.feed_plans.specs.Zoning.{AreZoneBytes, IsNoPlan, IsPlanAsked, IsUnread, IsZoneUnread};
+ghost use Rattle.feed_plans.specs.Planning.{IsPlanBy};
+ghost use Rattle.feed_plans.specs.Zoning.{AreZoneBytes, IsNoPlan, IsPlanAskedBy, IsUnread, IsZoneUnread};
 
-use crate::clock::instant;
+use crate::clock::{WallClock, instant};
 use crate::plans::plan_at;
 use command_requests::{PlanText, ZoneText};
 use feed_loader::{LoadFault, Plan};
 use image_files::{ImageDisk, bytes_at};
 use std::io::ErrorKind;
-use std::time::Clock;
 
 /// Why there is no plan.
 #[derive(Drop)]
@@ -23,12 +22,12 @@ pub enum PlanFailure<'a> {
     OutOfMemory,
 }
 
-/// The plan of a load that begins now.
-pub fn plan_of<'a, H: ImageDisk + AllocGlobal + Clock>(
+/// The plan of a load that begins now, by one reading of the clock.
+pub fn plan_of<'a, H: ImageDisk + AllocGlobal + WallClock>(
     rt: &H,
     asked: &PlanText<'a>,
 ) -> Result<Plan, PlanFailure<'a>>
-    ensures plan { IfOk result (IsPlanAsked (H.may_hold rt.now) asked.now) }
+    ensures plan { IfOk result (IsPlanAskedBy (H.may_hold rt.now) (H.may_show rt.now) asked.now) }
     ensures some { IfOk result (λ plan. 1 ≤ plan.days) }
     ensures few { IfOk result (λ plan. plan.days ≤ MAX_DAYS) }
     ensures refused { IfErr result (IsNoPlan (H.may_hold rt.now) asked.now) }
@@ -39,13 +38,14 @@ pub fn plan_of<'a, H: ImageDisk + AllocGlobal + Clock>(
     }
 }
 
-/// The bytes of the zone's file, empty if the zone isn't a file, and the plan of a load that begins now.
-pub fn zone_and_plan<'a, H: ImageDisk + AllocGlobal + Clock>(
+/// The bytes of the zone's file, empty if the zone isn't a file, and the plan of a load that begins now, by one
+/// reading of the clock.
+pub fn zone_and_plan<'a, H: ImageDisk + AllocGlobal + WallClock>(
     rt: &H,
     asked: &PlanText<'a>,
 ) -> Result<(Vec<u8>, Plan), PlanFailure<'a>>
     ensures zone { IfOk result (λ made. AreZoneBytes (H.may_hold rt.now) asked.now.zone made.0.items) }
-    ensures plan { IfOk result (λ made. IsPlanNow asked.now made.0.items made.1) }
+    ensures plan { IfOk result (λ made. IsPlanBy (H.may_show rt.now) asked.now made.0.items made.1) }
     ensures some { IfOk result (λ made. 1 ≤ made.1.days) }
     ensures few { IfOk result (λ made. made.1.days ≤ MAX_DAYS) }
     ensures refused { IfErr result (IsNoPlan (H.may_hold rt.now) asked.now) }
