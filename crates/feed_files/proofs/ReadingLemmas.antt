@@ -18,17 +18,17 @@ use Rattle.gtfs_rows.specs.declared.rows.StopRow.{StopRow}
 use Rattle.gtfs_rows.specs.declared.rows.TripRow.{TripRow}
 use Rattle.gtfs_rows.specs.declared.stop_times.StopTimes.{StopTimes}
 use Rattle.feed_files.specs.Reading.{AreFine, CalendarFault, Content, FaultIn, FineBefore, HasRows, HoldsCalendars}
-use Rattle.feed_files.specs.Reading.{HoldsRequired, IsFine, IsFirstFault, IsHeld, NoRows, NoTables, Optional}
+use Rattle.feed_files.specs.Reading.{HoldsRequired, IsFine, IsHeld, NoRows, NoTables, Optional}
 use Rattle.feed_files.specs.Reading.{OptionalFault, Required, RequiredFault, earlier}
 
 -- what stops the reading of one file stops that of the feed
 pub no_tables : (content : Content) (table : Table) (IsFault : ℕ → FaultKind → Type 0) (fault : ReadFault)
     → ((row : ℕ) (kind : FaultKind) → IsFault row kind → FaultIn content table row kind)
     → FineBefore content table → NoRows table IsFault fault → NoTables content fault
-no_tables content table IsFault (faults.Table fault) h fine (same, e) = λ ne. record {
-  stands = subst (λ t. FaultIn content t fault.row fault.kind) (sym same) (h fault.row fault.kind (e ne));
-  first = subst (FineBefore content) (sym same) fine;
-}
+no_tables content table IsFault (faults.Table fault) h fine (same, e) = (
+  subst (FineBefore content) (sym same) fine,
+  λ ne. subst (λ t. FaultIn content t fault.row fault.kind) (sym same) (h fault.row fault.kind (e ne)),
+)
 no_tables content table IsFault (faults.FileFailed failed) h fine e = subst (FineBefore content) (sym e) fine
 
 -- a fault of a file's bytes is one of the file
@@ -72,15 +72,16 @@ fine_more content (table ∷ rest) next (here, fine) h = (here, fine_more conten
 
 -- both calendars are missing
 pub calendars_missing : (content : Content) (fault : TableFault) → content tables.Calendar ≡ None → content tables.CalendarDates ≡ None
-    → fault.file ≡ tables.Calendar → fault.row ≡ 0 → fault.kind ≡ kinds.MissingFile → FineBefore content tables.Calendar → IsFirstFault content fault
-calendars_missing content fault calendar dates table row kind fine = record {
-  stands = subst (λ t. FaultIn content t fault.row fault.kind) (sym table)
+    → fault.file ≡ tables.Calendar → fault.row ≡ 0 → fault.kind ≡ kinds.MissingFile → FineBefore content tables.Calendar
+    → NoTables content (faults.Table fault)
+calendars_missing content fault calendar dates table row kind fine = (
+  subst (FineBefore content) (sym table) fine,
+  λ _. subst (λ t. FaultIn content t fault.row fault.kind) (sym table)
       (subst (λ c. CalendarFault c (content tables.CalendarDates) fault.row fault.kind) (sym calendar) (
         dates,
         (row, kind),
-      ));
-  first = subst (FineBefore content) (sym table) fine;
-}
+      )),
+)
 
 -- no rows were had where there is no file
 pub no_file : {R : Type 0} (Holds : List ℕ → R → Type 0) (bytes : Option (List ℕ)) (rows : Option R) → IsHeld Holds bytes rows → rows ≡ None → bytes ≡ None

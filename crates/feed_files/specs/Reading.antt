@@ -10,7 +10,6 @@ use Rattle.gtfs_rows.specs.declared.fault.FaultKind.{FaultKind}
 use Rattle.gtfs_rows.specs.declared.fault.FaultKind.TheVariants as kinds
 use Rattle.gtfs_rows.specs.declared.fault.Table.{Table}
 use Rattle.gtfs_rows.specs.declared.fault.Table.TheVariants as tables
-use Rattle.gtfs_rows.specs.declared.fault.TableFault.{TableFault}
 use Rattle.gtfs_rows.specs.declared.rows.AgencyRow.{AgencyRow}
 use Rattle.gtfs_rows.specs.declared.stop_times.StopTimes.{StopTimes}
 use Rattle.gtfs_rows.specs.declared.rows.CalendarRow.{CalendarRow}
@@ -120,11 +119,6 @@ AreFine content (table ∷ rest) = IsFine content table × AreFine content rest
 abbrev pub FineBefore : Content → Table → Type 0
 FineBefore content table = AreFine content (earlier table)
 
--- the first fault of a feed's files
-pub record IsFirstFault (content : Content) (fault : TableFault) : Type 0 where
-  pub stands : FaultIn content fault.file fault.row fault.kind
-  pub first : FineBefore content fault.file
-
 -- the rows that were read are those of the file; there are none if there is no file
 abbrev pub IsHeld : {R : Type 0} → (List ℕ → R → Type 0) → Option (List ℕ) → Option R → Type 0
 IsHeld Is None None = ⊤
@@ -137,6 +131,7 @@ abbrev pub NoRows : Table → (ℕ → FaultKind → Type 0) → ReadFault → T
 NoRows table IsFault = RefusedOrFailed (λ fault. (fault.file ≡ table)
     × (fault.kind ≢ kinds.OutOfMemory → IsFault fault.row fault.kind)) (λ failed. failed ≡ table)
 
--- why a feed's tables can't be read: memory ran out, this is the first fault, or a read failed and nothing is wrong with the files before
+-- why a feed's tables can't be read, while nothing is wrong with the files before: memory ran out, the file has this fault, or its read failed
 abbrev pub NoTables : Content → ReadFault → Type 0
-NoTables content = RefusedOrFailed (λ fault. fault.kind ≢ kinds.OutOfMemory → IsFirstFault content fault) (FineBefore content)
+NoTables content = RefusedOrFailed (λ fault. FineBefore content fault.file
+    × (fault.kind ≢ kinds.OutOfMemory → FaultIn content fault.file fault.row fault.kind)) (FineBefore content)

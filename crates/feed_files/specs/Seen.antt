@@ -19,8 +19,8 @@ pub data DiskEvent : Type 0 where
   opened : NodeState → Option (List ℕ) → DiskEvent
   -- opening or reading it ended with an error of this kind
   unread : NodeState → ErrorKind → DiskEvent
-  -- once these bytes had been read, or no file had been found, something was found in this state, or nothing was
-  found_after : Option (List ℕ) → Option NodeState → DiskEvent
+  -- once these bytes had been read at a path, or the search had ended there without a file, something was found in this state, or nothing was
+  found_after : List ℕ → Option (List ℕ) → Option NodeState → DiskEvent
 
 -- what was seen of the file or the folder at a path
 abbrev pub Seen : Type 1
@@ -39,15 +39,23 @@ MeansNone kind = (kind ≡ NotFound) ⊎ (kind ≡ NotADirectory)
 abbrev pub IsFaultOfKind : ErrorKind → FileFault → Type 0
 IsFaultOfKind kind fault = fault ≡ faults.OutOfMemory ↔ (kind ≡ OutOfMemory)
 
+-- the file that was found in this state was opened, and these are all of its bytes, if they are known
+abbrev pub AreBytesAt : Seen → List ℕ → NodeState → List ℕ → Type 0
+AreBytesAt seen path state bytes = (held : Option (List ℕ)) × (seen path (opened state held) × IfSome held (λ whole. bytes ≡ whole))
+
 -- a plain file was found at the path, these are all of its bytes, if they are known, and it was still as it was found
 -- once they had been read
 abbrev pub IsHeldAt : Seen → List ℕ → List ℕ → Type 0
-IsHeldAt seen path bytes = (state : NodeState) × (held : Option (List ℕ))
-    × (seen path (opened state held) × IfSome held (λ whole. bytes ≡ whole) × seen path (found_after (Some bytes) (Some state)))
+IsHeldAt seen path bytes = (state : NodeState) × (AreBytesAt seen path state bytes × seen path (found_after path (Some bytes) (Some state)))
 
 -- the search for a file at the path ended as it does where there is none, and there was no link
 abbrev pub IsMissingAt : Seen → List ℕ → Type 0
 IsMissingAt seen path = (kind : ErrorKind) × (seen path (unfound kind) × MeansNone kind × seen path (linked false))
+
+-- the bytes at the path have been read, or the search has ended there without a file
+abbrev pub WasRead : Seen → List ℕ → Option (Vec ℕ Global) → Type 0
+WasRead seen path None = IsMissingAt seen path
+WasRead seen path (Some bytes) = (state : NodeState) × AreBytesAt seen path state bytes.items
 
 -- the bytes of the file at a path, or none if there is no such file
 abbrev pub IsFileAt : Seen → List ℕ → Option (Vec ℕ Global) → Type 0
@@ -70,7 +78,8 @@ IsReadFault seen path state fault = (kind : ErrorKind) × (seen path (unread sta
 
 -- what is at the path no longer was in this state
 abbrev pub HasChanged : Seen → List ℕ → Option NodeState → Type 0
-HasChanged seen path state = (file : Option (List ℕ)) × (other : Option NodeState) × (seen path (found_after file other) × (other ≢ state))
+HasChanged seen path state =
+    (read : List ℕ) × (file : Option (List ℕ)) × (other : Option NodeState) × (seen path (found_after read file other) × (other ≢ state))
 
 -- why what was found isn't read: it is no plain file, it can't be opened or read, it is too long, or it changed
 abbrev pub IsFaultOfFound : Seen → ℕ → List ℕ → NodeState → FileFault → Type 0
@@ -88,6 +97,6 @@ IsFaultAt seen limit path fault =
 abbrev pub IsAnswerIn : Seen → ℕ → List ℕ → Option NodeState → List ℕ → FileAnswer → Type 0
 IsAnswerIn seen limit folder state name (Ok file) =
     IsFileAt seen (path_join folder name) file × IfSome file (λ bytes. length bytes.items ≤ limit)
-    × seen folder (found_after (option_map (λ bytes. bytes.items) file) state)
+    × seen folder (found_after (path_join folder name) (option_map (λ bytes. bytes.items) file) state)
 IsAnswerIn seen limit folder state name (Err fault) =
     IsFaultAt seen limit (path_join folder name) fault ⊎ ((fault ≡ faults.Failed) × HasChanged seen folder state)

@@ -1,12 +1,12 @@
 //! Finds and reads the files of feeds, and sees whether a folder or a file has changed.
 
-ghost use Rattle.std.specs.Prelude.{◌≡◌, ◌↔◌, ℕ, List, true, IsTrue, IfErr, IfOk, IfSome, option_map, take};
+ghost use Rattle.std.specs.Prelude.{◌≡◌, ◌≢◌, ◌↔◌, ℕ, List, true, IsTrue, IfErr, IfOk, IfSome, option_map, take};
 ghost use Rattle.std.specs.Fs.{IsFile, file_type, metadata_len};
 ghost use Rattle.std.specs.Path.{path_buf_bytes, path_join};
 ghost use Rattle.std_io.specs.IoError.{error_kind};
-ghost use Rattle.std_io.specs.declared.io.kind.ErrorKind.TheVariants.{OutOfMemory};
+ghost use Rattle.std_io.specs.declared.io.kind.ErrorKind.TheVariants.{Interrupted, OutOfMemory};
 ghost use Rattle.feed_files.specs.Seen.{DiskEvent, IsInState, found as was_found, found_after, linked, opened, unfound};
-ghost use Rattle.feed_files.specs.Seen.{unread};
+ghost use Rattle.feed_files.specs.Seen.{WasRead, unread};
 
 use std::alloc::{AllocError, Global};
 use std::fs::{File, Metadata};
@@ -99,20 +99,25 @@ pub trait OpenDisk {
         ensures ok { IfOk result (λ bytes. IfSome (Self.Opened.remaining file) (λ held. bytes.items ≡ take most held)) }
         ensures err { IfErr result (λ error. seen self.now path.now (unread found.now (error_kind error))) };
 
-    /// Returns the state of what is at a path, once a file has been read, or wasn't found; none if nothing is there.
-    fn state_after(&self, path: &str, file: &Option<Vec<u8>>) -> Option<NodeState>
-        ensures { seen self.now path.now (found_after (option_map (λ bytes. bytes.items) file.now) result) };
+    /// Returns the state of what is at a path, once the file at `file_path` has been read, or wasn't found; none if
+    /// nothing is there.
+    fn state_after(&self, path: &str, file_path: &str, file: &Option<Vec<u8>>) -> Option<NodeState>
+        requires { WasRead (seen self.now) file_path.now file.now }
+        ensures { seen self.now path.now
+            (found_after file_path.now (option_map (λ bytes. bytes.items) file.now) result) };
 }
 
 // Returns the bytes of a file, no more than `most` of them. Room is made at once for the length that the file reports;
-// a file that reports less than it has, such as those of `/proc`, is read all the same.
+// a file that reports less than it has, such as those of `/proc`, is read all the same. A read that is interrupted is
+// tried again.
 fn first_bytes<F: Read + Drop>(
     alloc: Global,
     file: F,
     reported: u64,
     most: u64,
 ) -> io::Result<Vec<u8>>
-    ensures { IfOk result (λ bytes. IfSome (F.remaining file) (λ held. bytes.items ≡ take most held)) }
+    ensures ok { IfOk result (λ bytes. IfSome (F.remaining file) (λ held. bytes.items ≡ take most held)) }
+    ensures err { IfErr result (λ error. error_kind error ≢ Interrupted) }
 {
     let mut bytes = Vec::with_capacity(alloc, reported.saturating_add(1) as usize)?;
     file.take(most).read_to_end(&mut bytes)?;
@@ -152,7 +157,12 @@ impl<H: Files> OpenDisk for H {
         first_bytes(alloc, file, found.length, most)
     }
 
-    fn state_after(&self, path: &str, _file: &Option<Vec<u8>>) -> Option<NodeState> {
+    fn state_after(
+        &self,
+        path: &str,
+        _file_path: &str,
+        _file: &Option<Vec<u8>>,
+    ) -> Option<NodeState> {
         node_at(self, path).ok()
     }
 }

@@ -3,9 +3,9 @@
 ghost use Rattle.std.specs.Prelude.{◌≡◌, ◌≤◌, ◌∷◌, [], length, None, Some, All, IfErr, IfOk, IfSome, IsNone};
 ghost use Rattle.std.specs.Prelude.{List, MatchBool, Option, option_map, ℕ};
 ghost use Rattle.feed_files.specs.Files.{Gives, MayBeRead, MayFail, opened};
-ghost use Rattle.feed_files.specs.Seen.{HasChanged, IsAnswerIn, IsFaultAt, IsFaultOfFound, IsFaultOfKind, IsFileAt};
-ghost use Rattle.feed_files.specs.Seen.{IsInState, IsMissingAt, IsSearchFault, found as was_found, found_after};
-ghost use Rattle.feed_files.specs.Seen.{opened as was_opened, unfound};
+ghost use Rattle.feed_files.specs.Seen.{AreBytesAt, HasChanged, IsAnswerIn, IsFaultAt, IsFaultOfFound, IsFaultOfKind};
+ghost use Rattle.feed_files.specs.Seen.{IsFileAt, IsInState, IsMissingAt, IsSearchFault, WasRead, found as was_found};
+ghost use Rattle.feed_files.specs.Seen.{found_after, unfound};
 ghost use Rattle.feed_files.specs.declared.disk.NodeState.{NodeState as Node};
 ghost use Rattle.feed_files.specs.declared.files.TheConstants.{LONGEST_FILE};
 
@@ -159,8 +159,7 @@ fn bytes_up_to<D: OpenDisk>(
 ) -> Result<Vec<u8>, FileFault>
     requires found { D.seen disk.now path.now (was_found found.now) }
     ensures short { IfOk result (λ bytes. length bytes.items ≤ limit) }
-    ensures whole { IfOk result (λ bytes. (held : _) × (D.seen disk.now path.now (was_opened found.now held)
-        × IfSome held (λ whole. bytes.items ≡ whole))) }
+    ensures whole { IfOk result (λ bytes. AreBytesAt (D.seen disk.now) path.now found.now bytes.items) }
     ensures err { IfErr result (IsFaultOfFound (D.seen disk.now) limit path.now found.now) }
 {
     if !found.is_file || found.length > limit as u64 {
@@ -177,19 +176,21 @@ fn bytes_up_to<D: OpenDisk>(
     }
 }
 
-// Returns whether what is at a path is still in a state, now that these bytes of a file have been read, or no file was
-// found.
+// Returns whether what is at a path is still in a state, now that these bytes of the file at a path have been read, or
+// no file was found there.
 fn is_still<D: OpenDisk>(
     disk: &D,
     path: &str,
     state: &Option<NodeState>,
+    file_path: &str,
     file: &Option<Vec<u8>>,
 ) -> bool
+    requires { WasRead (D.seen disk.now) file_path.now file.now }
     ensures { MatchBool result
-        (D.seen disk.now path.now (found_after (option_map (λ bytes. bytes.items) file.now) state.now))
+        (D.seen disk.now path.now (found_after file_path.now (option_map (λ bytes. bytes.items) file.now) state.now))
         (HasChanged (D.seen disk.now) path.now state.now) }
 {
-    match (disk.state_after(path, file), state) {
+    match (disk.state_after(path, file_path, file), state) {
         (Some(now), Some(state)) => now == *state,
         (Some(_), None) => false,
         (None, Some(_)) => false,
@@ -215,7 +216,7 @@ fn found_file<D: OpenDisk>(
         Ok(bytes) => Some(bytes),
         Err(fault) => return Err(fault),
     };
-    if is_still(disk, path, &Some(*found), &file) {
+    if is_still(disk, path, &Some(*found), path, &file) {
         return Ok(file);
     }
     Err(FileFault::Failed)
@@ -247,6 +248,7 @@ fn file_at<D: OpenDisk>(
 /// `Failed` if the file is longer than `limit`, can't be read, isn't a plain file, or is a link that leads nowhere, and
 /// if the folder is no longer in the given state or the file changed while it was read; `OutOfMemory` if memory ran
 /// out.
+#[tactic(auto, using(crate::proofs::FolderLemmas::was_read))]
 pub fn file_up_to<D: OpenDisk>(
     limit: u32,
     disk: &D,
@@ -261,7 +263,7 @@ pub fn file_up_to<D: OpenDisk>(
         return Err(FileFault::OutOfMemory);
     };
     match file_at(limit, disk, alloc, path.as_str()) {
-        Ok(file) if is_still(disk, folder, state, &file) => Ok(file),
+        Ok(file) if is_still(disk, folder, state, path.as_str(), &file) => Ok(file),
         Ok(_) => Err(FileFault::Failed),
         Err(fault) => Err(fault),
     }

@@ -81,7 +81,7 @@ returns-in-Some-Some-clause-ok g c content gave =
     (λ none. some_there c.in_ok-dates.dates c.in-Some-Some.dates c.in-Some-Some.is-1)
 
 pub returns-in-None-None-clause-err : goal.returns-in-None-None-clause-err
-returns-in-None-None-clause-err g c content gave fine ne =
+returns-in-None-None-clause-err g c content gave fine =
     let a1 = c.in_ok-calendar.ensures.read in
     let g1 = gave_first content a1 c.in_ok-dates.ensures.read gave in
     let g2 = gave_rest content a1 gave in
