@@ -3,40 +3,24 @@ use Rattle.std.proofs.Common.{◌≡◌, ℕ, zero, suc, ◌+◌, ◌-◌, ◌<�
 use Rattle.std.proofs.Common.{◌∷◌, length, drop, slice_get, Some, Contains, inl, inr, arith, refl, sym, ◌∙◌, ap, subst}
 use Rattle.std.proofs.Common.{add-zero}
 use Rattle.std.proofs.lemmas.List.{drop_more}
-use Rattle.std.proofs.lemmas.Option.{get_or_from_slice_get, slice_get_within, slice_get_cases}
-use Rattle.std.proofs.lemmas.List.Elements.{Contains-append_left, Contains-append_right, Contains-append_cases, Contains-push, Contains-push_cases}
-use Rattle.reasoning.proofs.ListLemmas.{not_in_nil}
+use Rattle.std.proofs.lemmas.Option.{get_or_from_slice_get}
+use Rattle.reasoning.proofs.ListLemmas.{not_in_nil, contains_first, contains_rest, contains_cases, at_below}
 use Rattle.bags.specs.Best.{indices_from}
 
--- at an index inside the list
-indices_from-drop : {X : Type 0} (test : X → Bool) (xs : List X) (n : ℕ) (x : X) (b : Bool) → slice_get xs n ≡ Some x
-    → test x ≡ b → indices_from test n (drop n xs)
-    ≡ (if b then n ∷ indices_from test (n + 1) (drop (n + 1) xs) else indices_from test (n + 1) (drop (n + 1) xs))
-indices_from-drop test xs n x b is fact =
-    let here : drop n xs ≡ x ∷ drop (n + 1) xs =
-    drop_more xs n x (slice_get_within xs n x is)
-    ∙ ap (λ y. y ∷ drop (n + 1) xs) (get_or_from_slice_get xs n x x is) in
-    ap (indices_from test n) here ∙ ap (λ (c : Bool). if c then n
-    ∷ indices_from test (n + 1) (drop (n + 1) xs) else indices_from test (n + 1) (drop (n + 1) xs)) fact
-
--- where b is what the test tells of the element there
-pub indices_from-whole : {X : Type 0} (test : X → Bool) (xs : List X) (n : ℕ) (r b : Bool) → n < length xs
-    → ((x : X) → slice_get xs n ≡ Some x → r ≡ test x) → r ≡ b
-    → indices_from test n (drop n xs) ≡ (if b then n
-    ∷ indices_from test (n + 1) (drop (n + 1) xs) else indices_from test (n + 1) (drop (n + 1) xs))
-indices_from-whole test xs n r b lt tells is =
-    elim ((slice_get_cases xs n).1) [
-      | inl at ↦ indices_from-drop test xs n at.0 b at.2 (sym (tells at.0 at.2) ∙ is)
-      | inr past ↦ let over = past.0 in absurd (omega arith)
-    ]
+-- at an index inside the list, where r is what the test tells of the element there
+pub indices_from-step : {X : Type 0} (test : X → Bool) (xs : List X) (n : ℕ) (r : Bool) → n < length xs
+    → ((x : X) → slice_get xs n ≡ Some x → r ≡ test x) → indices_from test n (drop n xs)
+    ≡ (if r then n ∷ indices_from test (n + 1) (drop (n + 1) xs) else indices_from test (n + 1) (drop (n + 1) xs))
+indices_from-step test xs n r lt tells =
+    let at = at_below xs n lt in
+    let rest = indices_from test (n + 1) (drop (n + 1) xs) in
+    ap (indices_from test n) (drop_more xs n at.0 lt
+    ∙ ap (λ y. y ∷ drop (n + 1) xs) (get_or_from_slice_get xs n at.0 at.0 at.1))
+    ∙ ap (λ (b : Bool). if b then n ∷ rest else rest) (sym (tells at.0 at.1))
 
 -- what the first of two parts of a list is
 first_or_later : (b : Bool) (n : ℕ) (rest : List ℕ) (k : ℕ) → Contains (if b then n ∷ rest else rest) k → ((b ≡ true) × (n ≡ k)) ⊎ Contains rest k
-first_or_later true n rest k h =
-    elim (Contains-append_cases (n ∷ []) rest k h) [
-      | inl a ↦ elim (Contains-push_cases [] n k a) [ inl none ↦ absurd (not_in_nil k none) | inr e ↦ inl (refl, e) ]
-      | inr later ↦ inr later
-    ]
+first_or_later true n rest k h = elim (contains_cases k n rest h) [ inl e ↦ inl (refl, e) | inr later ↦ inr later ]
 first_or_later false n rest k h = inr h
 
 -- what stands at an index that is given passes
@@ -58,26 +42,17 @@ pub indices_from-gives : {X : Type 0} (test : X → Bool) (n : ℕ) (xs : List X
 indices_from-gives test n [] i x is passes = absurd (cc)
 indices_from-gives test n (y ∷ xs) zero x is passes =
     let same : y ≡ x = cc in
-    subst (λ (b : Bool). Contains (if b then n ∷ indices_from test (n + 1) xs else indices_from test (n + 1) xs) (n + 0)) (sym (ap test same ∙ passes))
-    (subst (Contains (n ∷ indices_from test (n + 1) xs)) (sym (add-zero n))
-    (Contains-append_left (n ∷ []) (indices_from test (n + 1) xs) n (Contains-push [] n)))
+    let rest = indices_from test (n + 1) xs in
+    subst (λ (b : Bool). Contains (if b then n ∷ rest else rest) (n + 0)) (sym (ap test same ∙ passes))
+    (subst (Contains (n ∷ rest)) (sym (add-zero n)) (contains_first n rest))
 indices_from-gives test n (y ∷ xs) (suc i) x is passes =
     let shift : n + 1 + i ≡ n + suc i = omega arith in
-    let later = subst (Contains (indices_from test (n + 1) xs)) shift (indices_from-gives test (n + 1) xs i x is passes) in
-    elim (test y) as (λ b. Contains (if b then n
-    ∷ indices_from test (n + 1) xs else indices_from test (n + 1) xs) (n + suc i)) [
-      | true ↦
-          Contains-append_right (n ∷ []) (indices_from test (n + 1) xs) (n + suc i) later
+    let rest = indices_from test (n + 1) xs in
+    let later = subst (Contains rest) shift (indices_from-gives test (n + 1) xs i x is passes) in
+    elim (test y) as (λ b. Contains (if b then n ∷ rest else rest) (n + suc i)) [
+      | true ↦ contains_rest (n + suc i) n rest later
       | false ↦ later
     ]
-
--- where nothing passes
-pub indices_from-none : {X : Type 0} (test : X → Bool) (n : ℕ) (xs : List X) → ((x : X) → Contains xs x → test x ≡ false) → indices_from test n xs ≡ []
-indices_from-none test n [] none = refl
-indices_from-none test n (x ∷ xs) none =
-    ap (λ (b : Bool). if b then n ∷ indices_from test (n + 1) xs else indices_from test (n + 1) xs)
-    (none x (Contains-append_left (x ∷ []) xs x (Contains-push [] x)))
-    ∙ indices_from-none test (n + 1) xs (λ y h. none y (Contains-append_right (x ∷ []) xs y h))
 
 -- the indices before another, none of which passes, are passed over
 passed_by : {X : Type 0} (test : X → Bool) (xs : List X) (n a : ℕ) → a + n ≤ length xs
@@ -86,7 +61,7 @@ passed_by : {X : Type 0} (test : X → Bool) (xs : List X) (n a : ℕ) → a + n
 passed_by test xs zero a within none = ap (λ m. indices_from test m (drop m xs)) (sym (add-zero a))
 passed_by test xs (suc n) a within none =
     let on : a + 1 + n ≡ a + suc n = omega arith in
-    indices_from-whole test xs a false false (omega arith) (λ x is. sym (none a x (omega arith) (omega arith) is)) refl
+    indices_from-step test xs a false (omega arith) (λ x is. sym (none a x (omega arith) (omega arith) is))
     ∙ (passed_by test xs n (a + 1) (omega arith) (λ k x low lt is. none k x (omega arith) (omega arith) is)
     ∙ ap (λ m. indices_from test m (drop m xs)) on)
 

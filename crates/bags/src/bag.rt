@@ -26,7 +26,8 @@ impl<C: Criterion> Bag<C> {
     ghost use Rattle.std.specs.Prelude.{◌≡◌, [], ℕ, ◌<◌, ◌≤◌, slice_get, Some, IfOk, OnErr, true, false};
     ghost use Rattle.criteria.specs.Laws.{Admits};
     ghost use Rattle.bags.specs.Dominance.{Stands, Inserted};
-    ghost use Rattle.bags.specs.Best.{is_best, AreLate};
+    ghost use Rattle.bags.specs.Arrangement.{AreLate};
+    ghost use Rattle.bags.specs.Best.{is_best};
     ghost use Rattle.bags.specs.Bag.{criterion_of, points_of};
 
     /// An empty bag under a criterion. It takes no memory.
@@ -89,7 +90,7 @@ impl<C: Criterion> Bag<C> {
     pub(crate) fn is_best_before(&self, index: usize, late: usize) -> bool
         requires index { index < late }
         requires late { late ≤ length (points_of self.now) }
-        ensures { (time : ℕ) → AreLate (points_of self.now) time late → (p : _)
+        ensures { (time : ℕ) → AreLate self.now.entries.items time late → (p : _)
             → slice_get (points_of self.now) index ≡ Some p
             → result ≡ is_best (C.rules (criterion_of self.now)) (points_of self.now) time p }
     {
@@ -99,7 +100,7 @@ impl<C: Criterion> Bag<C> {
 
     // The number of points that depart at a time or later.
     pub(crate) fn count_late(&self, time: u32) -> usize
-        ensures { AreLate (points_of self.now) time result }
+        ensures { AreLate self.now.entries.items time result }
     {
         count_late(&self.entries, time)
     }
@@ -109,7 +110,7 @@ impl<C: Criterion> Bag<C> {
     pub(crate) fn skip(&self, index: usize) -> usize
         requires index { index < length (points_of self.now) }
         ensures back { result ≤ index }
-        ensures passed { (time late : ℕ) → index < late → AreLate (points_of self.now) time late → (k : ℕ) (p : _)
+        ensures passed { (time late : ℕ) → index < late → AreLate self.now.entries.items time late → (k : ℕ) (p : _)
             → result ≤ k → k < index → slice_get (points_of self.now) k ≡ Some p
             → is_best (C.rules (criterion_of self.now)) (points_of self.now) time p ≡ false }
     {

@@ -223,7 +223,4 @@ pub judged_once : (t : TimetableValue) (q : Query) (j : JourneyValue) (r : Resul
 judged_once t q j (Ok times) judged departure counts =
     let dep : times.dep ≡ departure = omega (arith, judged.0.departs, counts.departs) in
     λ i. Ok (record { dep = dep i; arr = judged.1 i })
-judged_once t q j (Err fault) judged departure counts = absurd (same_none (sym (faultless t q j departure counts) ∙ judged))
-  where
-    same_none : None ≡ Some fault → ⊥
-    same_none e = absurd cc
+judged_once t q j (Err fault) judged departure counts = absurd (let none : None ≡ Some fault = sym (faultless t q j departure counts) ∙ judged in cc)

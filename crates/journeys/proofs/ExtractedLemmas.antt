@@ -9,11 +9,12 @@ use Rattle.criteria.specs.Laws.{Rules}
 use Rattle.bags.specs.declared.point.Point.{Point}
 use Rattle.timetable.specs.TimetableValue.{TimetableValue}
 use Rattle.timetable.specs.JourneyValue.{JourneyValue}
-use Rattle.profile_scan.specs.SetQuery.{SetQueryValue}
+use Rattle.timetable.specs.declared.query.Query.{Query}
+use Rattle.profile_scan.specs.SetQuery.{SetQueryValue, query_of_pair}
 use Rattle.profile_scan.specs.Points.{IsAnswerOf, untagged}
 use Rattle.profile_scan.proofs.AnsweredLemmas.{spelled_again_answer}
 use Rattle.journeys.specs.Answer.{point_of}
-use Rattle.journeys.specs.Extracted.{AttainsBetween}
+use Rattle.journeys.specs.Extracted.{Attains, AttainsBetween}
 use Rattle.journeys.specs.declared.answering.Departure.{Departure}
 use Rattle.journeys.proofs.AnswerLemmas.{tagless}
 
@@ -51,13 +52,14 @@ one_more {V} Attained points n departures p j are at here =
     }
 
 -- a journey attains a point whatever its tag
+pub attains_tagless : {V : Type 0} (rules : Rules V) (t : TimetableValue) (q : Query) (p : Point V) (j : JourneyValue)
+    → Attains rules t q p j → Attains rules t q (tagless p) j
+attains_tagless rules t q p j a = record { counts = a.counts; plain = a.plain; worth = a.worth }
+
 pub between_tagless : {V : Type 0} (rules : Rules V) (t : TimetableValue) (b : SetQueryValue) (p : Point V) (j : JourneyValue)
     → AttainsBetween rules t b p j → AttainsBetween rules t b (tagless p) j
-between_tagless rules t b p j a = record {
-  pair = a.pair;
-  attains = record { counts = a.attains.counts; plain = a.attains.plain; worth = a.attains.worth };
-  plain = a.plain;
-}
+between_tagless rules t b p j a =
+    record { pair = a.pair; attains = attains_tagless rules t (query_of_pair b a.pair) p j a.attains; plain = a.plain }
 
 -- all points with their journeys are the answer
 pub all_extracted : {V : Type 0} (rules : Rules V) (There : ℕ → V → Type 0) (Attained : Point V → JourneyValue → Type 0) (points : List (Point V)) (n : ℕ)

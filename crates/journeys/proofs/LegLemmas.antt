@@ -58,5 +58,3 @@ pub legs_fault-none : (t : TimetableValue) (rides : List RideValue) → 0 < leng
 legs_fault-none t rides some legs =
     legs_fault-first t rides (omega arith) ∙ first_below-all (λ i. leg_fault t i (ride_at rides i).leg) (length rides)
     (λ i lt. leg_fault-none t i (ride_at rides i).leg (legs i lt))
-
-pub ruleset faultless_legs = (some_legs, AreLegs-from)

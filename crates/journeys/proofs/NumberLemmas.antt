@@ -1,6 +1,6 @@
 -- Numbers with one more digit.
-use Rattle.std.proofs.Common.{◌≡◌, ℕ, ◌+◌, ◌-◌, ◌*◌, ◌^◌, ◌<◌, ◌≤◌, suc, zero, List, [], ◌∷◌, length, get_or, take, drop, Some, None, Bool, true, ltb}
-use Rattle.std.proofs.Common.{refl, ap, ◌∙◌, arith, add-one}
+use Rattle.std.proofs.Common.{◌≡◌, ℕ, ◌+◌, ◌-◌, ◌*◌, ◌^◌, ◌<◌, ◌≤◌, List, [], ◌∷◌, length, get_or, take, drop, Some, None, Bool, true, ltb}
+use Rattle.std.proofs.Common.{ap, ◌∙◌, arith, add-one}
 use Rattle.std.specs.List.{list_all, prefix_len}
 use Rattle.std.proofs.Math.Seq.{drop-cons}
 use Rattle.std.proofs.lemmas.List.{get_or-take, length-take}
@@ -15,20 +15,12 @@ read_on-ge (d ∷ ds) n = let more = read_on-ge ds (10 * n + (d - 48)) in omega 
 pub read_on-from : (ds : List ℕ) (i n d : ℕ) → i < length ds → read_on n (drop i ds) ≡ read_on (10 * n + (get_or ds i d - 48)) (drop (i + 1) ds)
 read_on-from ds i n d lt = rw (add-one) (ap (read_on n) (drop-cons ds i d lt))
 
-pub read_on-done : (ds : List ℕ) (i n : ℕ) → length ds ≤ i → read_on n (drop i ds) ≡ n
-read_on-done [] zero n le = refl
-read_on-done [] (suc i) n le = refl
-read_on-done (d ∷ ds) zero n le = absurd (omega arith)
-read_on-done (d ∷ ds) (suc i) n le = read_on-done ds i n (omega arith)
-
 pub value_of-large : (ds : List ℕ) → 2 ^ 32 ≤ read_on 0 ds → value_of ds ≡ None
 value_of-large ds le = cond-false (ltb (read_on 0 ds) (2 ^ 32)) (Some (read_on 0 ds)) None (le-ltb (read_on 0 ds) (2 ^ 32) le)
 
 pub value_of-small : (ds : List ℕ) (n : ℕ) → read_on 0 ds ≡ n → n < 2 ^ 32 → value_of ds ≡ Some n
 value_of-small ds n e lt =
     cond-true (ltb (read_on 0 ds) (2 ^ 32)) (Some (read_on 0 ds)) None (lt-ltb (read_on 0 ds) (2 ^ 32) (omega (arith, e, lt))) ∙ ap Some e
-
-pub ruleset numbers = (read_on-from)
 
 -- what stands before the first element that doesn't pass does
 pub front_passes : (p : ℕ → Bool) (xs : List ℕ) (n : ℕ) → n ≡ prefix_len p xs → list_all p (take n xs) ≡ true

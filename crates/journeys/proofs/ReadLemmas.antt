@@ -62,32 +62,26 @@ module _ (front : List Footpath) (count i : ℕ) (bytes : List ℕ) (total : Opt
   unfolding walks_at
   walks_go_on rest behind f lt word read =
       let k : count - i ≡ suc (count - (i + 1)) = omega arith in
-      let one : with_walks front (walks_at (count - i) bytes) ≡ with_walks (front ++ f ∷ []) (walks_at (count - (i + 1)) behind) = rw (k, word, read)
-      (regroup_walks front f (walks_at (count - (i + 1)) behind)) in
-      sym one ∙ so_far
+      sym (regroup_walks front f (walks_at (count - (i + 1)) behind)) ∙ (rw (k, word, read) at so_far)
 
   pub walks_fail : (rest : List ℕ) (e : TextFault) → i < count → after (codes " walk") bytes ≡ Some rest → Fails e (footpath_at rest) → Fails e total
   unfolding walks_at
   walks_fail rest faults.OutOfMemory lt word fails = tt
   walks_fail rest faults.BadText lt word fails =
       let k : count - i ≡ suc (count - (i + 1)) = omega arith in
-      let one : with_walks front (walks_at (count - i) bytes) ≡ None = rw (k, word, fails) refl in
-      sym so_far ∙ one
+      sym (rw (k, word, fails) at so_far)
 
   pub walks_stop : i < count → after (codes " walk") bytes ≡ None → total ≡ Some (front, bytes)
   unfolding walks_at
   walks_stop lt word =
       let k : count - i ≡ suc (count - (i + 1)) = omega arith in
-      let one : with_walks front (walks_at (count - i) bytes) ≡ Some (front, bytes) = rw (k, word)
-      (ap (λ (fs : List Footpath). Some (fs, bytes)) (append-nil front)) in
-      sym so_far ∙ one
+      sym (rw (k, word) at so_far) ∙ ap (λ (fs : List Footpath). Some (fs, bytes)) (append-nil front)
 
   pub walks_done : count ≤ i → total ≡ Some (front, bytes)
   unfolding walks_at
   walks_done le =
       let k : count - i ≡ 0 = omega arith in
-      let one : with_walks front (walks_at (count - i) bytes) ≡ Some (front, bytes) = rw k (ap (λ (fs : List Footpath). Some (fs, bytes)) (append-nil front)) in
-      sym so_far ∙ one
+      sym (rw k at so_far) ∙ ap (λ (fs : List Footpath). Some (fs, bytes)) (append-nil front)
 
 module _ (front : List RideValue) (count i : ℕ) (bytes : List ℕ) (total : Option (List RideValue))
     (so_far : with_rides front (rides_at (count - i) bytes) ≡ total) where
@@ -97,25 +91,21 @@ module _ (front : List RideValue) (count i : ℕ) (bytes : List ℕ) (total : Op
   rides_go_on behind rest r lt read more word =
       let k : count - i ≡ suc (count - (i + 1)) = omega arith in
       let test = ne_eqb _ _ more in
-      let one : with_rides front (rides_at (count - i) bytes) ≡ with_rides (front ++ r ∷ []) (rides_at (count - (i + 1)) rest) = rw (k, read, test, word)
-      (regroup_rides front r (rides_at (count - (i + 1)) rest)) in
-      sym one ∙ so_far
+      sym (regroup_rides front r (rides_at (count - (i + 1)) rest)) ∙ (rw (k, read, test, word) at so_far)
 
   pub rides_fail : (e : TextFault) → i < count → Fails e (ride_at_front bytes) → Fails e total
   unfolding rides_at
   rides_fail faults.OutOfMemory lt fails = tt
   rides_fail faults.BadText lt fails =
       let k : count - i ≡ suc (count - (i + 1)) = omega arith in
-      let one : with_rides front (rides_at (count - i) bytes) ≡ None = rw (k, fails) refl in
-      sym so_far ∙ one
+      sym (rw (k, fails) at so_far)
 
   pub rides_end : (behind : List ℕ) (r : RideValue) → i < count → ride_at_front bytes ≡ Some (r, behind) → length behind ≡ 0 → total ≡ Some (front ++ r ∷ [])
   unfolding rides_at
   rides_end behind r lt read end =
       let k : count - i ≡ suc (count - (i + 1)) = omega arith in
       let test = eq-eqb _ _ end in
-      let one : with_rides front (rides_at (count - i) bytes) ≡ Some (front ++ r ∷ []) = rw (k, read, test) refl in
-      sym so_far ∙ one
+      sym (rw (k, read, test) at so_far)
 
   pub rides_bad : (behind : List ℕ) (r : RideValue) → i < count → ride_at_front bytes ≡ Some (r, behind) → length behind ≢ 0
       → after (codes " ride") behind ≡ None → total ≡ None
@@ -123,12 +113,10 @@ module _ (front : List RideValue) (count i : ℕ) (bytes : List ℕ) (total : Op
   rides_bad behind r lt read more word =
       let k : count - i ≡ suc (count - (i + 1)) = omega arith in
       let test = ne_eqb _ _ more in
-      let one : with_rides front (rides_at (count - i) bytes) ≡ None = rw (k, read, test, word) refl in
-      sym so_far ∙ one
+      sym (rw (k, read, test, word) at so_far)
 
   pub rides_done : count ≤ i → total ≡ None
   unfolding rides_at
   rides_done le =
       let k : count - i ≡ 0 = omega arith in
-      let one : with_rides front (rides_at (count - i) bytes) ≡ None = rw k refl in
-      sym so_far ∙ one
+      sym (rw k at so_far)

@@ -1,7 +1,7 @@
 -- What nodes spell, from one node to the next.
 use Rattle.std.proofs.Common.{◌≡◌, ℕ, suc, ◌+◌, ◌<◌, ◌≤◌, List, [], ◌∷◌, ◌++◌, length, slice_get, Option, Some, None, MatchOption, refl, sym, ◌∙◌, ap}
 use Rattle.std.proofs.Common.{Contains}
-use Rattle.std.proofs.Common.{subst, inl, inr, arith, append_assoc}
+use Rattle.std.proofs.Common.{subst, inl, inr, arith}
 use Rattle.std.proofs.lemmas.Option.{slice_get_cases, same_Some}
 use Rattle.reasoning.proofs.ListLemmas.{contains_at}
 use Rattle.criteria.specs.Laws.{Rules}

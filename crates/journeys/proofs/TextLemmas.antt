@@ -62,15 +62,10 @@ number_of_digits-parts (d ∷ ds) n e =
     let low = ltb-true (read_on 0 (d ∷ ds)) (2 ^ 32) b.0 in
     record { some = omega arith; alone = λ zero_first. alone zero_first a.0; is = b.1; small = omega (arith, low, b.1) }
   where
-    two : (x y : Bool) → x ≡ true → y ≡ false → (x && not y) ≡ false → ⊥
-    two true true e f g = cc
-    two true false e f g = cc
-    two false y e f g = cc
-
     alone : d ≡ 48 → (eqb d 48 && not (eqb (length ds) 0)) ≡ false → length (d ∷ ds) ≡ 1
     alone zero_first test = elim (cases_Bool (eqb (length ds) 0)) [
       | inl none ↦ (let k = eqb-true (length ds) 0 none in omega (arith, k))
-      | inr more ↦ absurd (two (eqb d 48) (eqb (length ds) 0) (eq-eqb d 48 zero_first) more test)
+      | inr more ↦ absurd (let kept : (true && not false) ≡ false = (λ i. sym (eq-eqb d 48 zero_first) i && not (sym more i)) ∙ test in cc)
     ]
 
 -- no digit stands in front
@@ -142,11 +137,8 @@ field_at-takes (b ∷ bytes) n rest e =
     let number = number_at-takes bytes n rest parts.1 in
     (λ i. space i ∷ number.0 i, number.1)
 
-regroup : (a b rest : List ℕ) → (a ++ b) ++ rest ≡ a ++ (b ++ rest)
-regroup a b rest = append_assoc a b rest
-
 regroup_three : (a b d rest : List ℕ) → (a ++ (b ++ d)) ++ rest ≡ a ++ (b ++ (d ++ rest))
-regroup_three a b d rest = regroup a (b ++ d) rest ∙ ap (λ (xs : List ℕ). a ++ xs) (regroup b d rest)
+regroup_three a b d rest = append_assoc a (b ++ d) rest ∙ ap (λ (xs : List ℕ). a ++ xs) (append_assoc b d rest)
 
 footpath_at-steps : (bytes b d rest : List ℕ) (x y z : ℕ) → field_at bytes ≡ Some (x, b) → field_at b ≡ Some (y, d) → field_at d ≡ Some (z, rest)
     → footpath_at bytes ≡ Some (record { from = x; to = y; secs = z }, rest)
@@ -184,7 +176,7 @@ leg_at-steps bytes b rest x y e f = rw (e, f) refl
 leg_at-again : (leg : Leg) (rest : List ℕ) → leg.first < 2 ^ 32 → leg.last < 2 ^ 32 → NoDigit rest → leg_at (leg_text leg ++ rest) ≡ Some (leg, rest)
 leg_at-again leg rest first last none =
     let second = number_text leg.last ++ rest in
-    ap leg_at (regroup (number_text leg.first) (number_text leg.last) rest)
+    ap leg_at (append_assoc (number_text leg.first) (number_text leg.last) rest)
     ∙ leg_at-steps (number_text leg.first ++ second) second rest leg.first leg.last (field_at-again leg.first second first refl)
     (field_at-again leg.last rest last none)
 
@@ -197,7 +189,7 @@ leg_at-takes bytes leg rest e =
     let first = field_at-takes bytes a.0.0 a.0.1 a.1 in
     let second = field_at-takes a.0.1 b.0.0 b.0.1 b.1 in
     let P : Leg × List ℕ → Type 0 = λ x. (bytes ≡ leg_text x.0 ++ x.1) × (x.0.first < 2 ^ 32) × (x.0.last < 2 ^ 32) in
-    let all = first.0 ∙ ap (λ (xs : List ℕ). number_text a.0.0 ++ xs) second.0 ∙ sym (regroup (number_text a.0.0) (number_text b.0.0) b.0.1) in
+    let all = first.0 ∙ ap (λ (xs : List ℕ). number_text a.0.0 ++ xs) second.0 ∙ sym (append_assoc (number_text a.0.0) (number_text b.0.0) b.0.1) in
     subst P (same_Some _ _ b.2) (all, first.1, second.1)
 
 walks_at-step : (n : ℕ) (bytes numbers behind last : List ℕ) (f : Footpath) (fs : List Footpath) → after (codes " walk") bytes ≡ Some numbers
@@ -219,7 +211,7 @@ walks_at-again (f ∷ fs) rest (suc n) le fits none stop =
     let behind = flat_map walk_text fs ++ rest in
     let numbers = footpath_text f ++ behind in
     let whole : flat_map walk_text (f ∷ fs) ++ rest ≡ codes " walk" ++ numbers = ap (λ (xs : List ℕ). codes " walk" ++ xs)
-    (regroup (footpath_text f) (flat_map walk_text fs) rest) in
+    (append_assoc (footpath_text f) (flat_map walk_text fs) rest) in
     ap (walks_at (suc n)) whole
     ∙ walks_at-step n (codes " walk" ++ numbers) numbers behind rest f fs (after-again (codes " walk") numbers)
     (footpath_at-again f behind fits.0 (no_digit_walks fs rest none)) (walks_at-again fs rest n (omega (arith, le)) fits.1 none stop)
@@ -242,7 +234,7 @@ walks_at-takes (suc n) bytes x e = go (λ b y h. walks_at-takes n b y h) (after 
         let one = footpath_at-takes rest a.0.0 a.0.1 a.1 in
         let others = later a.0.1 b.0 b.1 in
         let all = front ∙ ap (λ (xs : List ℕ). codes " walk" ++ xs)
-        (one.0 ∙ ap (λ (xs : List ℕ). footpath_text a.0.0 ++ xs) others.0 ∙ sym (regroup (footpath_text a.0.0) (flat_map walk_text b.0.0) b.0.1)) in
+        (one.0 ∙ ap (λ (xs : List ℕ). footpath_text a.0.0 ++ xs) others.0 ∙ sym (append_assoc (footpath_text a.0.0) (flat_map walk_text b.0.0) b.0.1)) in
         subst (AreWalksOf bytes) (same_Some _ _ b.2) (all, (one.1, others.1))
 
 -- a ride behind its word
@@ -253,7 +245,7 @@ length_walks : (fs : List Footpath) (rest : List ℕ) → length fs ≤ length (
 length_walks [] rest = omega arith
 length_walks (f ∷ fs) rest =
     let more = length_walks fs rest in
-    let all = ap length (regroup (footpath_text f) (flat_map walk_text fs) rest) in
+    let all = ap length (append_assoc (footpath_text f) (flat_map walk_text fs) rest) in
     let longer = length-append (footpath_text f) (flat_map walk_text fs ++ rest) in
     omega (arith, more, all, longer)
 
@@ -266,7 +258,7 @@ ride_at-again : (r : RideValue) (rest : List ℕ) → IsRideOfWords r → NoDigi
     → ride_at_front (body_text r ++ rest) ≡ Some (r, rest)
 ride_at-again r rest fits none stop =
     let behind = flat_map walk_text r.walk ++ rest in
-    ap ride_at_front (regroup (leg_text r.leg) (flat_map walk_text r.walk) rest)
+    ap ride_at_front (append_assoc (leg_text r.leg) (flat_map walk_text r.walk) rest)
     ∙ ride_at-steps (leg_text r.leg ++ behind) behind rest r.leg r.walk (leg_at-again r.leg behind fits.0 fits.1 (no_digit_walks r.walk rest none))
     (walks_at-again r.walk rest (length behind) (length_walks r.walk rest) fits.2 none stop)
 
@@ -280,7 +272,7 @@ ride_at-takes bytes x e =
     let b = bind_some (walks_at (length a.0.1) a.0.1) (λ walk. Some (record { leg = a.0.0; walk = walk.0 }, walk.1)) x a.2 in
     let leg = leg_at-takes bytes a.0.0 a.0.1 a.1 in
     let walks = walks_at-takes (length a.0.1) a.0.1 b.0 b.1 in
-    let all = leg.0 ∙ ap (λ (xs : List ℕ). leg_text a.0.0 ++ xs) walks.0 ∙ sym (regroup (leg_text a.0.0) (flat_map walk_text b.0.0) b.0.1) in
+    let all = leg.0 ∙ ap (λ (xs : List ℕ). leg_text a.0.0 ++ xs) walks.0 ∙ sym (append_assoc (leg_text a.0.0) (flat_map walk_text b.0.0) b.0.1) in
     subst (IsRideOf bytes) (same_Some _ _ b.2) (all, (leg.1, leg.2, walks.1))
 
 rides_at-last : (n : ℕ) (bytes : List ℕ) (r : RideValue) → ride_at_front bytes ≡ Some (r, []) → rides_at (suc n) bytes ≡ Some (r ∷ [])
@@ -310,14 +302,8 @@ rides_at-again r [] (suc n) le fits = rides_at-last n (body_text r ++ []) r (rid
 rides_at-again r (s ∷ rs) (suc n) le fits =
     let rest = body_text s ++ flat_map ride_text rs in
     let behind = codes " ride" ++ rest in
-    let whole : body_text r ++ flat_map ride_text (s ∷ rs) ≡ body_text r ++ behind = ap (λ (xs : List ℕ). body_text r ++ (codes " ride" ++ xs))
-    (regroup_body s rs) in
-    ap (rides_at (suc n)) whole
-    ∙ rides_at-step n (body_text r ++ behind) behind rest r (s ∷ rs) (ride_at-again r behind fits.0 refl (no_walk rest)) (omega arith)
+    rides_at-step n (body_text r ++ behind) behind rest r (s ∷ rs) (ride_at-again r behind fits.0 refl (no_walk rest)) (omega arith)
     (after-again (codes " ride") rest) (rides_at-again s rs n (omega (arith, le)) fits.1)
-  where
-    regroup_body : (s : RideValue) (rs : List RideValue) → (body_text s) ++ flat_map ride_text rs ≡ body_text s ++ flat_map ride_text rs
-    regroup_body s rs = refl
 
 abbrev AreRidesOf : List ℕ → List RideValue → Type 0
 AreRidesOf bytes rides =
@@ -462,7 +448,4 @@ pub is_only : (bytes : List ℕ) (r : Result JourneyValue TextFault) → Gives (
     → MatchResult r (λ k. k ≡ j) (λ e. e ≡ faults.OutOfMemory)
 is_only bytes (Ok k) gives j has e = same_Some k j (sym gives ∙ ap journey_at e ∙ journey_at-again j has)
 is_only bytes (Err faults.OutOfMemory) gives j has e = refl
-is_only bytes (Err faults.BadText) gives j has e = absurd (no_value (sym gives ∙ ap journey_at e ∙ journey_at-again j has))
-  where
-    no_value : None ≡ Some j → ⊥
-    no_value e = absurd cc
+is_only bytes (Err faults.BadText) gives j has e = absurd (let read : None ≡ Some j = sym gives ∙ ap journey_at e ∙ journey_at-again j has in cc)

@@ -45,15 +45,6 @@ module _ {S : Type 0} where
       ∙ (ap (λ x. get_elem? (set homes k none) x) e ∙ set_here homes k none (omega arith)))
       (λ ne. block_out (set homes k none) ((k, f k) ∷ c) f (suc k) n j (omega (arith, length-set homes k none)) (omega arith) (omega arith))
 
-  -- the slots from k on, the last first, before those of c
-  abbrev pub block_carried : (ℕ → S) → ℕ → ℕ → List (ℕ × S) → List (ℕ × S)
-  block_carried f k zero c = c
-  block_carried f k (suc n) c = block_carried f (suc k) n ((k, f k) ∷ c)
-
-  pub carried_block : (c : List (ℕ × S)) (f : ℕ → S) (k n : ℕ) → carried_after c (take_block f k n) ≡ block_carried f k n c
-  carried_block c f k zero = refl
-  carried_block c f k (suc n) = carried_block ((k, f k) ∷ c) f (suc k) n
-
   -- the first n slots of the list are given back
   abbrev pub give_block : ℕ → Act S
   give_block zero = keeps

@@ -34,32 +34,20 @@ pub sixteen_snoc : (es : List Event) (e : Event) → AreOfSixteen es → IsOfSix
 sixteen_snoc [] e all one = (one, tt)
 sixteen_snoc (x ∷ xs) e all one = (all.0, sixteen_snoc xs e all.1 one)
 
-same_worker : (u w : ℕ) → Some u ≡ Some w → w < 16 → u < 16
-same_worker u w q small = let same : u ≡ w = cc in omega arith
+-- an event that is the loader's, nobody's, or one of the sixteen workers'
+of_sixteen : (e : Event) → ((w : ℕ) → actor e ≡ Some w → w < 16) → IsOfSixteen e
+of_sixteen (Event.Look u) small = small u refl
+of_sixteen (Event.Take u) small = small u refl
+of_sixteen (Event.Drop u) small = small u refl
+of_sixteen (Event.Ask u) small = small u refl
+of_sixteen (Event.Join u v) small = let less = small 16 refl in absurd (omega arith)
+of_sixteen _ small = tt
 
 pub workers_event : (e : Event) (w : ℕ) → actor e ≡ Some w → w < 16 → IsOfSixteen e
-workers_event (Event.Look u) w q small = same_worker u w q small
-workers_event (Event.Take u) w q small = same_worker u w q small
-workers_event (Event.Drop u) w q small = same_worker u w q small
-workers_event (Event.Ask u) w q small = same_worker u w q small
-workers_event (Event.Join u v) w q small = absurd (let less = same_worker 16 w q small in omega arith)
-workers_event (Event.Open i) w q small = tt
-workers_event Event.Publish w q small = tt
-workers_event (Event.Close k) w q small = tt
-workers_event (Event.Collect k) w q small = tt
-workers_event Event.Note w q small = tt
+workers_event e w q small = of_sixteen e (λ u p. let same : u ≡ w = cc in omega arith)
 
 pub loaders_event : (e : Event) → actor e ≡ None → IsOfSixteen e
-loaders_event (Event.Look u) q = absurd (cc)
-loaders_event (Event.Take u) q = absurd (cc)
-loaders_event (Event.Drop u) q = absurd (cc)
-loaders_event (Event.Ask u) q = absurd (cc)
-loaders_event (Event.Join u v) q = absurd (cc)
-loaders_event (Event.Open i) q = tt
-loaders_event Event.Publish q = tt
-loaders_event (Event.Close k) q = tt
-loaders_event (Event.Collect k) q = tt
-loaders_event Event.Note q = tt
+loaders_event e q = of_sixteen e (λ u p. absurd (cc))
 
 -- notices, after one event more
 pub notes_snoc : (es : List Event) (e : Event) → notes_in (es ++ e ∷ []) ≡ notes_in es + note_of e
@@ -79,28 +67,12 @@ joined_same w es e none = joined_snoc w es e ∙ (ap (λ (l : List ℕ). joined_
 
 -- an event that is somebody's is no notice's
 pub no_note : (e : Event) → actor e ≢ no_actor → note_of e ≡ 0
-no_note (Event.Look w) other = refl
-no_note (Event.Take w) other = refl
-no_note (Event.Drop w) other = refl
-no_note (Event.Open i) other = refl
-no_note Event.Publish other = refl
-no_note (Event.Close k) other = refl
-no_note (Event.Collect k) other = refl
-no_note (Event.Ask w) other = refl
 no_note Event.Note other = absurd (other refl)
-no_note (Event.Join w v) other = absurd (other refl)
+no_note _ other = refl
 
 pub no_join : (u : ℕ) (e : Event) → actor e ≢ no_actor → join_of u e ≡ []
-no_join u (Event.Look w) other = refl
-no_join u (Event.Take w) other = refl
-no_join u (Event.Drop w) other = refl
-no_join u (Event.Open i) other = refl
-no_join u Event.Publish other = refl
-no_join u (Event.Close k) other = refl
-no_join u (Event.Collect k) other = refl
-no_join u (Event.Ask w) other = refl
-no_join u Event.Note other = absurd (other refl)
 no_join u (Event.Join w v) other = absurd (other refl)
+no_join u _ other = refl
 
 pub nothing_snoc : (w : ℕ) (es : List Event) (e : Event) → actor e ≢ Some w → join_of w e ≡ [] → HasDoneNothing w es → HasDoneNothing w (es ++ e ∷ [])
 nothing_snoc w es e n none h = (none_snoc (Some w) es e n h.0, joined_same w es e none ∙ h.1)
@@ -157,7 +129,7 @@ goes_same c e r t g stepped one same =
 pub begins_all : (c : EventHistory) (a : Option ℕ) → IsKnownBeginning (all_of c) a c
 begins_all c a = record { events = ([], append-nil c.events, tt); replies = prefix_same c.replies; images = prefix_same c.images }
 
-image_later : (images more : List ImageValue) (v : ℕ) (x : ImageValue) → IsPrefix images more → image_of images v ≡ Some x → image_of more v ≡ Some x
+pub image_later : (images more : List ImageValue) (v : ℕ) (x : ImageValue) → IsPrefix images more → image_of images v ≡ Some x → image_of more v ≡ Some x
 image_later images more zero x p e = absurd (cc)
 image_later images more (suc n) x p e = subst (λ (l : List ImageValue). slice_get l n ≡ Some x) p.1 (slice_get-append images p.0 n x e)
 
@@ -168,9 +140,7 @@ edition_later images more v edition p i = (i.0, i.1, i.2, image_later images mor
 has_later : (images more : List ImageValue) (w : Worker) (edition : Option Edition) → IsPrefix images more
     → HasEdition images w edition → HasEdition more w edition
 has_later images more (Worker.Holding k v) edition p h = edition_later images more v edition p h
-has_later images more Worker.Idle edition p h = h
-has_later images more (Worker.Looked v k) edition p h = h
-has_later images more (Worker.Late k) edition p h = h
+has_later images more _ edition p h = h
 
 -- what another worker knows after a step that leaves it alone
 pub other_fits : (c d : EventHistory) (u : WorkerView)

@@ -1,7 +1,7 @@
 -- Editions side by side.
 use Rattle.reasoning.proofs.ListLemmas.{slice_get-append, slice_get-last, slice_get-middle}
 use Rattle.image_layout.specs.Image.{ImageValue}
-use Rattle.std.proofs.Common.{◌≡◌, ℕ, ◌+◌, ◌-◌, ◌*◌, List, [], ◌∷◌, ◌++◌, length, Some, slice_get, refl, ap, sym, ◌∙◌, arith, append_assoc}
+use Rattle.std.proofs.Common.{◌≡◌, ℕ, ◌+◌, ◌-◌, ◌*◌, List, [], ◌∷◌, ◌++◌, length, length-append, Some, slice_get, ap, sym, ◌∙◌, arith, append_assoc}
 use Rattle.std.specs.Arc.{arc_value}
 use mathlib.Core.Logic.{dite}
 use native.Mathlib.Decide.{ℕ_discrete}
@@ -21,18 +21,11 @@ pub each_grows : (version : ℕ) (image : ImageValue) (n : ℕ) (items : List Ed
     → EachHas version image n items → e.version ≡ version → arc_value e.image ≡ image
     → EachHas version image (n + 1) (items ++ e ∷ [])
 each_grows version image n items e all is its = (
-  longer items n all.0,
+  (let long = length-append items (e ∷ []) in let many = all.0 in omega arith),
   λ j less. dite (ℕ_discrete j n)
       (λ q. (e, ap (λ m. slice_get (items ++ e ∷ []) m) (q ∙ sym all.0) ∙ slice_get-last items e, is, its))
       (λ ne. let h = all.1 j (omega arith) in (h.0, slice_get-append items (e ∷ []) j h.0 h.1, h.2, h.3)),
 )
-  where
-    longer : (l : List Edition) (m : ℕ) → length l ≡ m → length (l ++ e ∷ []) ≡ m + 1
-    longer l m q = more l ∙ ap (λ x. x + 1) q
-      where
-        more : (l : List Edition) → length (l ++ e ∷ []) ≡ length l + 1
-        more [] = refl
-        more (x ∷ xs) = let r = more xs in omega arith
 
 -- sixteen editions, laid from the first slot of a shelf on
 pub laid_have : (version : ℕ) (image : ImageValue) (items : List Edition) (k : ℕ) → EachHas version image 16 items

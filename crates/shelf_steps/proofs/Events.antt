@@ -10,8 +10,8 @@ use Rattle.shelf_steps.specs.declared.views.WorkerView.{WorkerView}
 use Rattle.shelf_steps.specs.declared.views.LoaderView.{LoaderView}
 use Rattle.shelf_steps.specs.declared.views.View.{View}
 use Rattle.shelf_steps.specs.Rule.{KeepsRule}
-use Rattle.shelf_steps.specs.Plays.{OfWorker, SeatAndSlots, Looks, Takes, TakesFound, TakesAs, Leaves, GivesBack, OpensOn}
-use Rattle.shelf_steps.specs.Plays.{PublishesOn, ClosesOn, CollectsOn, CollectsFound, GathersOn, PutsBackOn, IsLate}
+use Rattle.shelf_steps.specs.Plays.{OfWorker, SeatAndSlots, Looks, Takes, TakesFound, TakesAs, Leaves}
+use Rattle.shelf_steps.specs.Plays.{CollectsFound, IsLate}
 use Rattle.shelf_steps.specs.Plays.{looked_at, is_open, newest_of}
 use Rattle.shelf_steps.specs.Laws.{Shelved, IsLoader}
 use Rattle.shelf_steps.specs.Events.{IsEvent, IsWorkers, LooksAreEvents, TakesAreEvents, DropsAreEvents, OpensAreEvents}
@@ -19,21 +19,15 @@ use Rattle.shelf_steps.specs.Events.{PublishesAreEvents, ClosesAreEvents, Collec
 use Rattle.shelf_steps.specs.Events.{LateTakesTell, LateTakesRise}
 use Rattle.shelf_steps.proofs.Says.{looks_are}
 
-looks_so : (u : View) (c : List (ℕ × Option Edition)) (m' : SeatAndSlots) (n : ℕ) → Looks (u, c) n m'
-    → IsWorkers Event.Look (Reply.Looked (n / 8) (n % 8)) u m'.0
-looks_so (View.Loading l) c m' n h = absurd h
-looks_so (View.Noting x') c m' n h = absurd h
-looks_so View.Spent c m' n h = absurd h
-looks_so (View.Working v) c m' n h = subst
+pub looks_events : LooksAreEvents
+looks_events (View.Working v, c) m' n h = subst
     (λ (m : SeatAndSlots). IsWorkers Event.Look (Reply.Looked (n / 8) (n % 8)) (View.Working v) m.0) (sym h.1) (
       v.number,
       refl,
       refl,
       h.2,
     )
-
-pub looks_events : LooksAreEvents
-looks_events m m' n h = looks_so m.0 m.1 m' n h
+looks_events (_, c) m' n h = absurd h
 
 takes_found_so : (v : WorkerView) (c : List (ℕ × Option Edition)) (version k n : ℕ) (b : Bool) (m' : SeatAndSlots) → TakesFound v c version k n b m'
     → ((held : ℕ) × IsWorkers Event.Take (Reply.Holds held) (View.Working v) m'.0) ⊎ IsWorkers Event.Take Reply.Late (View.Working v) m'.0
@@ -45,66 +39,36 @@ takes_found_so v c version k n false m' h =
 takes_as_so : (v : WorkerView) (c : List (ℕ × Option Edition)) (now : Worker) (n : ℕ) (m' : SeatAndSlots) → TakesAs v c now n m'
     → ((held : ℕ) × IsWorkers Event.Take (Reply.Holds held) (View.Working v) m'.0) ⊎ IsWorkers Event.Take Reply.Late (View.Working v) m'.0
 takes_as_so v c (Worker.Looked version k) n m' h = takes_found_so v c version k n (is_open n version) m' h
-takes_as_so v c Worker.Idle n m' h = absurd h
-takes_as_so v c (Worker.Late k) n m' h = absurd h
-takes_as_so v c (Worker.Holding k x) n m' h = absurd h
-
-takes_so : (u : View) (c : List (ℕ × Option Edition)) (m' : SeatAndSlots) (n : ℕ) → Takes (u, c) n m'
-    → ((held : ℕ) × IsWorkers Event.Take (Reply.Holds held) u m'.0) ⊎ IsWorkers Event.Take Reply.Late u m'.0
-takes_so (View.Loading l) c m' n h = absurd h
-takes_so (View.Noting x') c m' n h = absurd h
-takes_so View.Spent c m' n h = absurd h
-takes_so (View.Working v) c m' n h = takes_as_so v c v.now n m' h
+takes_as_so v c _ n m' h = absurd h
 
 pub takes_events : TakesAreEvents
-takes_events m m' n h = takes_so m.0 m.1 m' n h
+takes_events (View.Working v, c) m' n h = takes_as_so v c v.now n m' h
+takes_events (_, c) m' n h = absurd h
 
-drops_so : (u : View) (c : List (ℕ × Option Edition)) (m' : SeatAndSlots) → Leaves (u, c) m' ⊎ GivesBack (u, c) m' → IsWorkers Event.Drop Reply.Dropped u m'.0
-drops_so (View.Loading l) c m' h = elim h [ inl a ↦ absurd a | inr b ↦ absurd b ]
-drops_so (View.Noting x') c m' h = elim h [ inl a ↦ absurd a | inr b ↦ absurd b ]
-drops_so View.Spent c m' h = elim h [ inl a ↦ absurd a | inr b ↦ absurd b ]
-drops_so (View.Working v) c m' h = elim h [
+pub drops_events : DropsAreEvents
+drops_events (View.Working v, c) m' h = elim h [
   | inl a ↦ subst (λ (m : SeatAndSlots). IsWorkers Event.Drop Reply.Dropped (View.Working v) m.0) (sym a.1) (v.number, refl, refl, a.2)
   | inr b ↦ subst (λ (m : SeatAndSlots). IsWorkers Event.Drop Reply.Dropped (View.Working v) m.0) (sym b.1) (v.number, refl, refl, b.2)
 ]
+drops_events (_, c) m' h = elim h [ inl a ↦ absurd a | inr b ↦ absurd b ]
 
-pub drops_events : DropsAreEvents
-drops_events m m' h = drops_so m.0 m.1 m' h
-
-opens_so : (u : View) (c : List (ℕ × Option Edition)) (m' : SeatAndSlots) (k : ℕ) → OpensOn k (u, c) m'
-    → (edition version : ℕ) × IsEvent u (Event.Open edition) (Reply.Opened version k) m'.0
-opens_so (View.Working v) c m' k h = absurd h
-opens_so (View.Noting x') c m' k h = absurd h
-opens_so View.Spent c m' k h = absurd h
-opens_so (View.Loading l) c m' k h = (
+pub opens_events : OpensAreEvents
+opens_events (View.Loading l, c) m' k h = (
   newest_of l,
   newest_of l + 1,
   subst (λ (m : SeatAndSlots).
       IsEvent (View.Loading l) (Event.Open (newest_of l)) (Reply.Opened (newest_of l + 1) k) m.0) (sym h.5) h.6,
 )
-
-pub opens_events : OpensAreEvents
-opens_events m m' k h = opens_so m.0 m.1 m' k h
-
-publishes_so : (u : View) (c : List (ℕ × Option Edition)) (m' : SeatAndSlots) (version k : ℕ) → PublishesOn version k (u, c) m'
-    → IsEvent u Event.Publish (Reply.Published version) m'.0
-publishes_so (View.Working v) c m' version k h = absurd h
-publishes_so (View.Noting x') c m' version k h = absurd h
-publishes_so View.Spent c m' version k h = absurd h
-publishes_so (View.Loading l) c m' version k h = subst (λ (m : SeatAndSlots). IsEvent (View.Loading l) Event.Publish (Reply.Published version) m.0) (sym h.1)
-    h.2.0
+opens_events (_, c) m' k h = absurd h
 
 pub publishes_events : PublishesAreEvents
-publishes_events m m' version k h = publishes_so m.0 m.1 m' version k h
-
-closes_so : (u : View) (c : List (ℕ × Option Edition)) (m' : SeatAndSlots) (k : ℕ) → ClosesOn k (u, c) m' → IsEvent u (Event.Close k) Reply.Closing m'.0
-closes_so (View.Working v) c m' k h = absurd h
-closes_so (View.Noting x') c m' k h = absurd h
-closes_so View.Spent c m' k h = absurd h
-closes_so (View.Loading l) c m' k h = subst (λ (m : SeatAndSlots). IsEvent (View.Loading l) (Event.Close k) Reply.Closing m.0) (sym h.3) h.4.0
+publishes_events (View.Loading l, c) m' version k h =
+    subst (λ (m : SeatAndSlots). IsEvent (View.Loading l) Event.Publish (Reply.Published version) m.0) (sym h.1) h.2.0
+publishes_events (_, c) m' version k h = absurd h
 
 pub closes_events : ClosesAreEvents
-closes_events m m' k h = closes_so m.0 m.1 m' k h
+closes_events (View.Loading l, c) m' k h = subst (λ (m : SeatAndSlots). IsEvent (View.Loading l) (Event.Close k) Reply.Closing m.0) (sym h.3) h.4.0
+closes_events (_, c) m' k h = absurd h
 
 collects_found_so : (l : LoaderView) (m' : SeatAndSlots) (k version n : ℕ) (b : Bool) → CollectsFound l k version n b m'
     → IsEvent (View.Loading l) (Event.Collect k) Reply.Freed m'.0 ⊎ IsEvent (View.Loading l) (Event.Collect k) (Reply.Busy (n % 256)) m'.0
@@ -112,28 +76,16 @@ collects_found_so l m' k version n true h = inl (subst (λ (m : SeatAndSlots). I
 collects_found_so l m' k version n false h = inr (subst (λ (m : SeatAndSlots). IsEvent (View.Loading l) (Event.Collect k) (Reply.Busy (n % 256)) m.0) (sym h.1)
     h.2.0)
 
-collects_so : (u : View) (c : List (ℕ × Option Edition)) (m' : SeatAndSlots) (k version n : ℕ) → CollectsOn k version n (u, c) m'
-    → IsEvent u (Event.Collect k) Reply.Freed m'.0 ⊎ IsEvent u (Event.Collect k) (Reply.Busy (n % 256)) m'.0
-collects_so (View.Working v) c m' k version n h = absurd h
-collects_so (View.Noting x') c m' k version n h = absurd h
-collects_so View.Spent c m' k version n h = absurd h
-collects_so (View.Loading l) c m' k version n h = collects_found_so l m' k version n _ h
-
 pub collects_events : CollectsAreEvents
-collects_events m m' k version n h = collects_so m.0 m.1 m' k version n h
+collects_events (View.Loading l, c) m' k version n h = collects_found_so l m' k version n _ h
+collects_events (_, c) m' k version n h = absurd h
 
-spares_so : (u : View) (c : List (ℕ × Option Edition)) (m' : SeatAndSlots) (k : ℕ)
-    → GathersOn k (u, c) m' ⊎ PutsBackOn k (u, c) m' → IsEvent u (Event.Collect k) Reply.NotNow m'.0
-spares_so (View.Working v) c m' k h = elim h [ inl a ↦ absurd a | inr b ↦ absurd b ]
-spares_so (View.Noting x') c m' k h = elim h [ inl a ↦ absurd a | inr b ↦ absurd b ]
-spares_so View.Spent c m' k h = elim h [ inl a ↦ absurd a | inr b ↦ absurd b ]
-spares_so (View.Loading l) c m' k h = elim h [
+pub spares_events : SpareTriesAreEvents
+spares_events (View.Loading l, c) m' k h = elim h [
   | inl a ↦ subst (λ (m : SeatAndSlots). IsEvent (View.Loading l) (Event.Collect k) Reply.NotNow m.0) (sym a.1) a.2.0
   | inr b ↦ subst (λ (m : SeatAndSlots). IsEvent (View.Loading l) (Event.Collect k) Reply.NotNow m.0) (sym b.1) b.2.0
 ]
-
-pub spares_events : SpareTriesAreEvents
-spares_events m m' k h = spares_so m.0 m.1 m' k h
+spares_events (_, c) m' k h = elim h [ inl a ↦ absurd a | inr b ↦ absurd b ]
 
 -- what a late worker knows of its look
 abbrev Passed : ℕ → View → Type 0
@@ -146,34 +98,26 @@ late_found v c version k n false m' h late = subst (λ (m : SeatAndSlots). OfWor
 
 late_so : (u : View) (c : List (ℕ × Option Edition)) (m1 m2 : SeatAndSlots) (n word : ℕ) → Looks (u, c) n m1 → Takes m1 word m2
     → IsLate (n % 8) m2.0 → Passed (n / 8) m2.0
-late_so (View.Loading l) c m1 m2 n word look take late = absurd look
-late_so (View.Noting x') c m1 m2 n word look take late = absurd look
-late_so View.Spent c m1 m2 n word look take late = absurd look
 late_so (View.Working v) c m1 m2 n word look take late =
     let t : TakesFound (looked_at v n look.0) c (n / 8) (n % 8) word (is_open word (n / 8)) m2 = subst (λ (m : SeatAndSlots). Takes m word m2) look.1 take in
     late_found (looked_at v n look.0) c (n / 8) (n % 8) word (is_open word (n / 8)) m2 t late
+late_so _ c m1 m2 n word look take late = absurd look
 
 tells_so : (u : View) (version : ℕ) → Passed version u → (table : Shelved) (l : LoaderView) (i : ℕ) → KeepsRule table
     → IsLoader table l → get_elem? table.views i ≡ some u → version < l.current
-tells_so (View.Loading x) version p table l i r loads at = absurd p
-tells_so (View.Noting x') version p table l i r loads at = absurd p
-tells_so View.Spent version p table l i r loads at = absurd p
 tells_so (View.Working v) version p table l i r loads at = subst (λ n. n < l.current) p.0 ((looks_are table l i v r loads at).2 p.1)
+tells_so _ version p table l i r loads at = absurd p
 
 pub late_tells : LateTakesTell
 late_tells m m1 m2 n word look take late table l i r loads at = tells_so m2.0 (n / 8) (late_so m.0 m.1 m1 m2 n word look take late) table l i r loads at
 
 left_so : (u : View) (c : List (ℕ × Option Edition)) (version : ℕ) (m' : SeatAndSlots) → Passed version u → Leaves (u, c) m' → Passed version m'.0
-left_so (View.Loading l) c version m' p h = absurd p
-left_so (View.Noting x') c version m' p h = absurd p
-left_so View.Spent c version m' p h = absurd p
 left_so (View.Working v) c version m' p h = subst (λ (m : SeatAndSlots). Passed version m.0) (sym h.1) p
+left_so _ c version m' p h = absurd p
 
 rises_so : (u : View) (c : List (ℕ × Option Edition)) (version n : ℕ) (m' : SeatAndSlots) → Passed version u → Looks (u, c) n m' → version < n / 8
-rises_so (View.Loading l) c version n m' p h = absurd p
-rises_so (View.Noting x') c version n m' p h = absurd p
-rises_so View.Spent c version n m' p h = absurd p
 rises_so (View.Working v) c version n m' p h = subst (λ x. x < n / 8) p.0 (h.4 p.1)
+rises_so _ c version n m' p h = absurd p
 
 pub late_rises : LateTakesRise
 late_rises m m1 m2 m3 m4 n word n' look take late leave again =

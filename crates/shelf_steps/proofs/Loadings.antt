@@ -1,7 +1,7 @@
 -- A load, and a try at a closing shelf, step after step.
 use Rattle.reasoning.proofs.ListLemmas.{slice_get-set_same, slice_get-set_other}
 use Rattle.image_layout.specs.Image.{ImageValue}
-use Rattle.std.proofs.Common.{◌≡◌, ◌≢◌, ℕ, ◌+◌, ◌*◌, ◌<◌, ◌≤◌, ◌%◌, ◌==◌, Bool, true, false, List, [], ◌∷◌, ◌++◌}
+use Rattle.std.proofs.Common.{◌≡◌, ◌≢◌, ℕ, ◌+◌, ◌*◌, ◌<◌, ◌≤◌, ◌==◌, Bool, true, List, [], ◌∷◌, ◌++◌}
 use Rattle.std.proofs.Common.{length, set, Option, Some, None, slice_get, refl, ap, sym, ◌∙◌, subst, arith}
 use Rattle.std.proofs.lemmas.Option.{slice_get_within}
 use Rattle.std.specs.Arc.{arc_value}
@@ -13,26 +13,14 @@ use Rattle.shelf_steps.specs.declared.views.KnownHistory.{KnownHistory}
 use Rattle.shelf_steps.specs.declared.views.LoaderView.{LoaderView}
 use Rattle.shelf_steps.specs.declared.views.View.{View}
 use Rattle.shelf_steps.specs.EventHistory.{Happened}
-use Rattle.shelf_steps.specs.Slots.{down_from, nothings}
-use Rattle.shelf_steps.specs.Plays.{OfLoader, SeatAndSlots, newest_of, with_open, with_free, with_hand, HasImage, IsBlock}
+use Rattle.shelf_steps.specs.Slots.{down_from}
+use Rattle.shelf_steps.specs.Plays.{OfLoader, SeatAndSlots, newest_of, with_open, with_hand, HasImage, IsBlock}
 use Rattle.shelf_steps.specs.Plays.{AllHave, OpensOn, PublishesOn, ClosesOn, CollectsFound, CollectsOn, GathersOn}
-use Rattle.shelf_steps.specs.Plays.{PutsBackOn, MayOpenOn, MayPublish, MayClose, MayCollect, MayGather, MayPutBack}
-use Rattle.shelf_steps.specs.Loading.{MayLoad, Loads, Frees, FindsBusy}
+use Rattle.shelf_steps.specs.Plays.{MayOpenOn, MayPublish, MayClose}
+use Rattle.shelf_steps.specs.Loading.{MayLoad, Loads}
 
 abbrev IsReady : ℕ → ℕ → ℕ → View → Type 0
 IsReady shelf version before u = OfLoader u (λ l. MayLoad shelf version before l)
-
-pub may_gather : (shelf version before : ℕ) (u : View) (c : List (ℕ × Option Edition)) → IsReady shelf version before u → c ≡ [] → MayGather shelf u c
-may_gather shelf version before (View.Working v) c may none = absurd may
-may_gather shelf version before (View.Noting x') c may none = absurd may
-may_gather shelf version before View.Spent c may none = absurd may
-may_gather shelf version before (View.Loading l) c may none = (may.free, may.empty, none)
-
-pub gathered_block : (shelf : ℕ) (u : View) (c : List (ℕ × Option Edition)) (m1 : SeatAndSlots) → GathersOn shelf (u, c) m1 → IsBlock nothings shelf m1.1
-gathered_block shelf (View.Working v) c m1 g = absurd g
-gathered_block shelf (View.Noting x') c m1 g = absurd g
-gathered_block shelf View.Spent c m1 g = absurd g
-gathered_block shelf (View.Loading l) c m1 g = ap (λ (m : SeatAndSlots). m.1) g.1
 
 abbrev front_of : List (ℕ × Option Edition) → Option Edition
 front_of [] = None
@@ -130,105 +118,32 @@ module _ (shelf version before : ℕ) (l : LoaderView) (image : ImageValue) (f :
           refl,
         )
 
-pub may_open_then : (shelf version before : ℕ) (u : View) (image : ImageValue) (f : ℕ
-    → Option Edition) (c : List (ℕ × Option Edition)) (m1 m2 : SeatAndSlots) → IsReady shelf version before u
-    → version ≤ 1000000000 → AllHave version image shelf f
-    → GathersOn shelf (u, c) m1 → m2 ≡ (m1.0, down_from f (16 * shelf) 16 []) → MayOpenOn shelf version m2.0 m2.1
-may_open_then shelf version before (View.Working v) image f c m1 m2 may few all g filled = absurd may
-may_open_then shelf version before (View.Noting x') image f c m1 m2 may few all g filled = absurd may
-may_open_then shelf version before View.Spent image f c m1 m2 may few all g filled = absurd may
-may_open_then shelf version before (View.Loading l) image f c m1 m2 may few all g filled =
-    may_open_now shelf version before l image f may all c m1 m2 g filled few
+-- after each step of a load the next one may be made, and the last has loaded the image
+abbrev pub LoadsOn : ℕ → ℕ → ℕ → View → ImageValue → SeatAndSlots → Type 0
+LoadsOn shelf version before u image m2 = (version ≤ 1000000000 → MayOpenOn shelf version m2.0 m2.1)
+    × ((m3 : SeatAndSlots) → OpensOn shelf m2 m3 → MayPublish version shelf m3.0
+    × ((m4 : SeatAndSlots) → PublishesOn version shelf m3 m4 → MayClose before m4.0
+    × ((m5 : SeatAndSlots) → ClosesOn before m4 m5 → Loads shelf version before image u m5.0 × (m5.1 ≡ []))))
 
-pub may_publish_then : (shelf version before : ℕ) (u : View) (image : ImageValue) (f : ℕ
-    → Option Edition) (c : List (ℕ × Option Edition)) (m1 m2 m3 : SeatAndSlots) → IsReady shelf version before u
-    → AllHave version image shelf f
-    → GathersOn shelf (u, c) m1 → m2 ≡ (m1.0, down_from f (16 * shelf) 16 []) → OpensOn shelf m2 m3 → MayPublish version shelf m3.0
-may_publish_then shelf version before (View.Working v) image f c m1 m2 m3 may all g filled o = absurd may
-may_publish_then shelf version before (View.Noting x') image f c m1 m2 m3 may all g filled o = absurd may
-may_publish_then shelf version before View.Spent image f c m1 m2 m3 may all g filled o = absurd may
-may_publish_then shelf version before (View.Loading l) image f c m1 m2 m3 may all g filled o =
-    may_publish_now shelf version before l image f may all c m1 m2 g filled m3 o
-
-pub may_close_then : (shelf version before : ℕ) (u : View) (image : ImageValue) (f : ℕ
-    → Option Edition) (c : List (ℕ × Option Edition)) (m1 m2 m3 m4 : SeatAndSlots) → IsReady shelf version before u
-    → AllHave version image shelf f
-    → GathersOn shelf (u, c) m1 → m2 ≡ (m1.0, down_from f (16 * shelf) 16 []) → OpensOn shelf m2 m3 → PublishesOn version shelf m3 m4 → MayClose before m4.0
-may_close_then shelf version before (View.Working v) image f c m1 m2 m3 m4 may all g filled o p = absurd may
-may_close_then shelf version before (View.Noting x') image f c m1 m2 m3 m4 may all g filled o p = absurd may
-may_close_then shelf version before View.Spent image f c m1 m2 m3 m4 may all g filled o p = absurd may
-may_close_then shelf version before (View.Loading l) image f c m1 m2 m3 m4 may all g filled o p =
-    may_close_now shelf version before l image f may all c m1 m2 g filled m3 m4 o p
-
-pub loads_then : (shelf version before : ℕ) (u : View) (image : ImageValue) (f : ℕ
-    → Option Edition) (c : List (ℕ × Option Edition)) (m1 m2 m3 m4 m5 : SeatAndSlots) → IsReady shelf version before u
-    → AllHave version image shelf f
-    → GathersOn shelf (u, c) m1 → m2 ≡ (m1.0, down_from f (16 * shelf) 16 []) → OpensOn shelf m2 m3
-    → PublishesOn version shelf m3 m4 → ClosesOn before m4 m5
-    → Loads shelf version before image u m5.0 × (m5.1 ≡ [])
-loads_then shelf version before (View.Working v) image f c m1 m2 m3 m4 m5 may all g filled o p k = absurd may
-loads_then shelf version before (View.Noting x') image f c m1 m2 m3 m4 m5 may all g filled o p k = absurd may
-loads_then shelf version before View.Spent image f c m1 m2 m3 m4 m5 may all g filled o p k = absurd may
-loads_then shelf version before (View.Loading l) image f c m1 m2 m3 m4 m5 may all g filled o p k =
-    loaded_so shelf version before l image f may all c m1 m2 g filled m3 m4 o p m5 k
+pub loads_on : (shelf version before : ℕ) (u : View) (image : ImageValue) (f : ℕ → Option Edition) (c : List (ℕ × Option Edition))
+    (m1 m2 : SeatAndSlots) → IsReady shelf version before u → AllHave version image shelf f → GathersOn shelf (u, c) m1
+    → m2 ≡ (m1.0, down_from f (16 * shelf) 16 []) → LoadsOn shelf version before u image m2
+loads_on shelf version before (View.Loading l) image f c m1 m2 may all g filled = (
+  may_open_now shelf version before l image f may all c m1 m2 g filled,
+  λ m3 o. (
+    may_publish_now shelf version before l image f may all c m1 m2 g filled m3 o,
+    λ m4 p. (
+      may_close_now shelf version before l image f may all c m1 m2 g filled m3 m4 o p,
+      loaded_so shelf version before l image f may all c m1 m2 g filled m3 m4 o p,
+    ),
+  ),
+)
+loads_on shelf version before _ image f c m1 m2 may all g filled = absurd may
 
 -- a shelf that was found with no worker
 pub freed_block : (shelf version n : ℕ) (u : View) (c : List (ℕ × Option Edition)) (m1 : SeatAndSlots)
     → CollectsOn shelf version n (u, c) m1 → (n == 512 + 65536 * version) ≡ true
     → (f : ℕ → Option Edition) × IsBlock f shelf m1.1
-freed_block shelf version n (View.Working v) c m1 h is = absurd h
-freed_block shelf version n (View.Noting x') c m1 h is = absurd h
-freed_block shelf version n View.Spent c m1 h is = absurd h
 freed_block shelf version n (View.Loading l) c m1 h is =
     let k = subst (λ (b : Bool). CollectsFound l shelf version n b m1) is h in (k.0, ap (λ (m : SeatAndSlots). m.1) k.2)
-
-pub may_put_back : (shelf version n : ℕ) (u : View) (c : List (ℕ × Option Edition)) (m1 m2 : SeatAndSlots)
-    → MayCollect shelf version u c → CollectsOn shelf version n (u, c) m1 → (n == 512 + 65536 * version) ≡ true
-    → m2 ≡ (m1.0, down_from nothings (16 * shelf) 16 []) → MayPutBack shelf m2.0 m2.1
-may_put_back shelf version n (View.Working v) c m1 m2 may h is e = absurd h
-may_put_back shelf version n (View.Noting x') c m1 m2 may h is e = absurd h
-may_put_back shelf version n View.Spent c m1 m2 may h is e = absurd h
-may_put_back shelf version n (View.Loading l) c m1 m2 may h is e =
-    let k = subst (λ (b : Bool). CollectsFound l shelf version n b m1) is h in
-    let second : m2 ≡ (View.Loading (with_free l shelf k.1), down_from nothings (16 * shelf) 16 []) =
-    e ∙ ap (λ (m : SeatAndSlots). (m.0, down_from nothings (16 * shelf) 16 [])) k.2 in
-    subst (λ (m : SeatAndSlots). MayPutBack shelf m.0 m.1) (sym second)
-    (slice_get-set_same l.shelves shelf Shelf.Free (slice_get_within l.shelves shelf _ may.0), refl, refl)
-
-pub frees_then : (shelf version n : ℕ) (u : View) (c : List (ℕ × Option Edition)) (m1 m2 m3 : SeatAndSlots)
-    → MayCollect shelf version u c → CollectsOn shelf version n (u, c) m1 → (n == 512 + 65536 * version) ≡ true
-    → m2 ≡ (m1.0, down_from nothings (16 * shelf) 16 []) → PutsBackOn shelf m2 m3 → Frees shelf u m3.0 × (m3.1 ≡ [])
-frees_then shelf version n (View.Working v) c m1 m2 m3 may h is e p = absurd h
-frees_then shelf version n (View.Noting x') c m1 m2 m3 may h is e p = absurd h
-frees_then shelf version n View.Spent c m1 m2 m3 may h is e p = absurd h
-frees_then shelf version n (View.Loading l) c m1 m2 m3 may h is e p =
-    let k = subst (λ (b : Bool). CollectsFound l shelf version n b m1) is h in
-    let second : m2 ≡ (View.Loading (with_free l shelf k.1), down_from nothings (16 * shelf) 16 []) =
-    e ∙ ap (λ (m : SeatAndSlots). (m.0, down_from nothings (16 * shelf) 16 [])) k.2 in
-    let q : PutsBackOn shelf (View.Loading (with_free l shelf k.1), down_from nothings (16 * shelf) 16 []) m3 =
-    subst (λ (m : SeatAndSlots). PutsBackOn shelf m m3) second p in
-    subst (λ (m : SeatAndSlots). Frees shelf (View.Loading l) m.0 × (m.1 ≡ [])) (sym q.1) (
-      record {
-        freed = k.1;
-        collect = k.3.0;
-        put_back = q.2.0;
-        images = q.2.1 ∙ k.3.1;
-        current = (refl, refl);
-        shelves = refl;
-        handed = refl;
-        notes = refl;
-        hand = refl;
-      },
-      refl,
-    )
-
-pub busy_then : (shelf version n : ℕ) (u : View) (c : List (ℕ × Option Edition)) (m1 : SeatAndSlots)
-    → CollectsOn shelf version n (u, c) m1 → (n == 512 + 65536 * version) ≡ false
-    → FindsBusy shelf (n % 256) u m1.0 × (m1.1 ≡ [])
-busy_then shelf version n (View.Working v) c m1 h is = absurd h
-busy_then shelf version n (View.Noting x') c m1 h is = absurd h
-busy_then shelf version n View.Spent c m1 h is = absurd h
-busy_then shelf version n (View.Loading l) c m1 h is =
-    let k = subst (λ (b : Bool). CollectsFound l shelf version n b m1) is h in
-    subst (λ (m : SeatAndSlots). FindsBusy shelf (n % 256) (View.Loading l) m.0 × (m.1 ≡ [])) (sym k.1)
-    (record { collect = k.2.0; some_one = k.3; images = k.2.1; current = (refl, refl); shelves = refl; handed = refl; notes = refl; hand = refl }, refl)
+freed_block shelf version n _ c m1 h is = absurd h

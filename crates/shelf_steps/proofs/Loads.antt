@@ -1,5 +1,5 @@
 -- Each step of the loader keeps the rule, and is one event.
-use Rattle.reasoning.proofs.ListLemmas.{slice_get-append, slice_get-last, slice_get-set_same, slice_get-set_other}
+use Rattle.reasoning.proofs.ListLemmas.{slice_get-last, slice_get-set_same, slice_get-set_other}
 use Rattle.version_core.specs.Actors.{no_actor, actor}
 use Rattle.image_layout.specs.Image.{ImageValue}
 use Rattle.std.proofs.Common.{◌≡◌, ◌≢◌, ℕ, zero, suc, ◌+◌, ◌-◌, ◌*◌, ◌%◌, ◌<◌, ◌≤◌, ◌==◌, ◌⊎◌, Bool, true, false, cond, List}
@@ -32,7 +32,7 @@ use Rattle.version_core.specs.Shown.{WordsShow, shelf_word}
 use Rattle.shelf_steps.specs.Seats.{WorkerFits, LoaderFits}
 use Rattle.shelf_steps.specs.Slots.{SlotsFit, SlotFits, down_from, nothings}
 use Rattle.shelf_steps.specs.Rule.{KeepsRule}
-use Rattle.shelf_steps.specs.Plays.{OfLoader, SeatAndSlots, newest_of, with_open, with_current, with_closing, with_free}
+use Rattle.shelf_steps.specs.Plays.{SeatAndSlots, newest_of, with_open, with_current, with_closing, with_free}
 use Rattle.shelf_steps.specs.Plays.{with_hand, AllHave, IsLastEvent, Opens, Publishes, Closes, CollectsFound, Collects}
 use Rattle.shelf_steps.specs.Plays.{Gathers, PutsBack, MayOpenOn, MayPublish, MayClose, MayCollect, MayGather}
 use Rattle.shelf_steps.specs.Plays.{MayPutBack}
@@ -40,30 +40,14 @@ use Rattle.shelf_steps.specs.Events.{known_of}
 use Rattle.shelf_steps.specs.Steps.{Adds, OpensAdd, PublishesAdd, ClosesAdd, CollectsAdd, GatheringsAdd, PuttingsAdd}
 use Rattle.shelf_steps.proofs.Works.{allows}
 use Rattle.shelf_steps.proofs.Courses.{kept_of, joined_same, no_join, nothing_snoc, loaders_event}
-use Rattle.shelf_steps.proofs.Courses.{begins_longer, happened, goes_on, goes_same, loader_next, prefix_same, other_fits}
+use Rattle.shelf_steps.proofs.Courses.{begins_longer, happened, goes_on, goes_same, image_later, loader_next, prefix_same, other_fits}
 use Rattle.shelf_steps.proofs.Frames.{loader_moves}
 use Rattle.shelf_steps.proofs.WordsAfter.{words_same, words_after, few_counted, version_bound, found_at}
+use Rattle.shelf_steps.proofs.Says.{loader_knows, loader_slots, shelf_is, newest_is}
 use Rattle.shelf_steps.proofs.NoteLists.{notices_loader}
 use Rattle.shelf_steps.proofs.SlotsAfter.{slots_block}
 use Rattle.shelf_steps.proofs.Chains.{take_block, give_block, IsHome, block_valid, block_else, block_out, carried_down}
 use Rattle.shelf_steps.proofs.Chains.{gives_valid, given_else, given_home, given_rest}
-
-module _ (table : Table (Option Edition) View) (r : KeepsRule table) (id : ℕ) (l : LoaderView) (at : get_elem? table.views id ≡ some (View.Loading l)) where
-  is_loader : l ≡ r.loader
-  is_loader = (r.seats.each id (View.Loading l) at).1
-
-  loader_knows : LoaderFits r.history l
-  loader_knows = subst (λ (x : LoaderView). LoaderFits r.history x) (sym is_loader) r.seats.loads
-
-  loader_slots : SlotsFit table.homes r.history.state.shelves r.history.state.workers r.history.images l.hand
-  loader_slots = subst (λ (x : LoaderView). SlotsFit table.homes r.history.state.shelves r.history.state.workers r.history.images x.hand) (sym is_loader)
-      r.slots
-
-  shelf_is : (k : ℕ) (x : Shelf) → slice_get l.shelves k ≡ Some x → slice_get r.history.state.shelves k ≡ Some x
-  shelf_is k x e = ap (λ (xs : List Shelf). slice_get xs k) (sym loader_knows.shows.shelves) ∙ e
-
-  newest_is : newest_of l ≡ newest r.history.state
-  newest_is = ap (λ (xs : List ImageValue). length xs) loader_knows.images ∙ r.goes.as_many
 
 -- a step of the loader leaves what the workers do
 module _ (table : Table (Option Edition) View) (r : KeepsRule table) (id : ℕ) (l l' : LoaderView)
@@ -92,6 +76,7 @@ module _ (table : Table (Option Edition) View) (r : KeepsRule table) (id : ℕ) 
       → SlotsFit homes' t.shelves t.workers images l'.hand
       → (after : KeepsRule record { words = words'; homes = homes'; views = set table.views id (View.Loading l') })
       × IsLonger r.history e reply after.history × (l'.known ≡ all_of after.history)
+      × Happened l.known e reply (all_of (extended r.history e reply t images))
   loader_ruled words' homes' is_step known fits words slots = (
     record {
       history = extended r.history e reply t images;
@@ -106,11 +91,9 @@ module _ (table : Table (Option Edition) View) (r : KeepsRule table) (id : ℕ) 
     },
     record { is_step = is_step; events = refl; replies = refl; images = more },
     known,
+    happened r.history e reply t images l.known
+        (subst (λ (a : Option ℕ). IsKnownBeginning l.known a r.history) (sym whose) (loader_knows table r id l at).known) goes more,
   )
-
-  loader_happened : Happened l.known e reply (all_of (extended r.history e reply t images))
-  loader_happened = happened r.history e reply t images l.known
-      (subst (λ (a : Option ℕ). IsKnownBeginning l.known a r.history) (sym whose) (loader_knows table r id l at).known) goes more
 
 -- the shelf k becomes another, and its word with it
 words_shelved : (words : List ℕ) (k new : ℕ) (y : Shelf) (s t : State) → WordsShow words s → k < 8
@@ -232,7 +215,7 @@ opens_as slots id k version l image f many small free hand current next few all 
           refl,
           subst (λ m. AllHave m image k f) next all,
           (λ i. (View.Loading l', given_rest f (16 * k) 16 [] i)),
-          loader_happened table r id l l' at refl e reply t images refl goes' more refl refl refl (omega arith),
+          after.3,
           ap (λ (xs : List ImageValue). xs ++ image ∷ []) (sym knows.images),
         ),
       ),
@@ -248,21 +231,14 @@ opens_add slots id k version l c many small may =
     (Opens (step slots (k + 1) (256 + 65536 * version) 0 none) (View.Loading l, x))) (sym block.2)
     (opens_as slots id k version l block.0 block.1 many small may.0 may.1 may.2 may.3 may.4 block.3)
 
-openings_as : (slots id k version : ℕ) (u : View) (c : List (ℕ × Option Edition)) → slots ≡ 128 → k < 8 → MayOpenOn k version u c
-    → Allows KeepsRule slots id (u, c) (k + 1) (λ n. (n + (256 + 65536 * version)) % 18446744073709551616)
-    (Opens (step slots (k + 1) (256 + 65536 * version) 0 none) (u, c))
-openings_as slots id k version (View.Working v) c many small may = absurd may
-openings_as slots id k version (View.Noting x') c many small may = absurd may
-openings_as slots id k version View.Spent c many small may = absurd may
-openings_as slots id k version (View.Loading l) c many small may =
-    allows slots id (View.Loading l, c) (k + 1) (λ n. (n + (256 + 65536 * version)) % 18446744073709551616) (Event.Open (newest_of l))
-    (λ _. Reply.Opened version k) (Opens (step slots (k + 1) (256 + 65536 * version) 0 none) (View.Loading l, c))
-    (opens_add slots id k version l c many small may)
-
 pub openings : (slots id k version : ℕ) (me : SeatAndSlots) → slots ≡ 128 → k < 8 → MayOpenOn k version me.0 me.1
     → Allows KeepsRule slots id me (k + 1) (λ n. (n + (256 + 65536 * version)) % 18446744073709551616)
     (Opens (step slots (k + 1) (256 + 65536 * version) 0 none) me)
-openings slots id k version me many small may = openings_as slots id k version me.0 me.1 many small may
+openings slots id k version (View.Loading l, c) many small may =
+    allows slots id (View.Loading l, c) (k + 1) (λ n. (n + (256 + 65536 * version)) % 18446744073709551616) (Event.Open (newest_of l))
+    (λ _. Reply.Opened version k) (Opens (step slots (k + 1) (256 + 65536 * version) 0 none) (View.Loading l, c))
+    (opens_add slots id k version l c many small may)
+openings slots id k version (_, c) many small may = absurd may
 
 -- a step that adds no version
 module _ (table : Table (Option Edition) View) (r : KeepsRule table) (id : ℕ) (l l' : LoaderView)
@@ -280,16 +256,11 @@ module _ (table : Table (Option Edition) View) (r : KeepsRule table) (id : ℕ) 
       → SlotsFit homes' t.shelves t.workers r.history.images l'.hand
       → (after : KeepsRule record { words = words'; homes = homes'; views = set table.views id (View.Loading l') })
       × IsLonger r.history e reply after.history × (l'.known ≡ all_of after.history)
+      × IsLastEvent l e reply (all_of (extended r.history e reply t r.history.images))
   noted_ruled words' homes' known fits words slots =
-      loader_ruled table r id l l' at as_many e reply t r.history.images whose goes'
-      (prefix_same r.history.images) workers seen notices up words' homes' is_step known fits words slots
-
-  pub noted : IsLastEvent l e reply (all_of (extended r.history e reply t r.history.images))
-  noted = (
-    loader_happened table r id l l' at as_many e reply t r.history.images whose goes'
-        (prefix_same r.history.images) workers seen notices up,
-    sym (loader_knows table r id l at).images,
-  )
+      let z = loader_ruled table r id l l' at as_many e reply t r.history.images whose goes'
+      (prefix_same r.history.images) workers seen notices up words' homes' is_step known fits words slots in
+      (z.0, z.1, z.2, (z.3, sym (loader_knows table r id l at).images))
 
 pub publishes_add : PublishesAdd
 publishes_add slots id k version l c small may table r full at fits =
@@ -312,21 +283,15 @@ publishes_add slots id k version l c small may table r full at fits =
       after.0,
       after.1,
       after.2,
-      (version, k, refl, small, (all_of d, refl, noted table r id l l' at refl e reply t refl is_step refl refl refl refl (omega arith))),
+      (version, k, refl, small, (all_of d, refl, after.3)),
     )
-
-publishings_as : (slots id k version : ℕ) (u : View) (c : List (ℕ × Option Edition)) → k < 8 → MayPublish version k u
-    → Allows KeepsRule slots id (u, c) 0 (λ _. 8 * version + k) (λ _. Publishes (step slots 0 (8 * version + k) 0 none) (u, c) (8 * version + k))
-publishings_as slots id k version (View.Working v) c small may = absurd may
-publishings_as slots id k version (View.Noting x') c small may = absurd may
-publishings_as slots id k version View.Spent c small may = absurd may
-publishings_as slots id k version (View.Loading l) c small may =
-    allows slots id (View.Loading l, c) 0 (λ _. 8 * version + k) Event.Publish (λ _. Reply.Published version)
-    (λ _. Publishes (step slots 0 (8 * version + k) 0 none) (View.Loading l, c) (8 * version + k)) (publishes_add slots id k version l c small may)
 
 pub publishings : (slots id k version : ℕ) (me : SeatAndSlots) → k < 8 → MayPublish version k me.0
     → Allows KeepsRule slots id me 0 (λ _. 8 * version + k) (λ _. Publishes (step slots 0 (8 * version + k) 0 none) me (8 * version + k))
-publishings slots id k version me small may = publishings_as slots id k version me.0 me.1 small may
+publishings slots id k version (View.Loading l, c) small may =
+    allows slots id (View.Loading l, c) 0 (λ _. 8 * version + k) Event.Publish (λ _. Reply.Published version)
+    (λ _. Publishes (step slots 0 (8 * version + k) 0 none) (View.Loading l, c) (8 * version + k)) (publishes_add slots id k version l c small may)
+publishings slots id k version (_, c) small may = absurd may
 
 pub closes_add : ClosesAdd
 closes_add slots id k l c small may table r full at fits =
@@ -361,22 +326,16 @@ closes_add slots id k l c small may table r full at fits =
       after.0,
       after.1,
       after.2,
-      (k, refl, (version, all_of d, may.1, refl, noted table r id l l' at refl e reply t refl is_step refl refl refl refl (omega arith))),
+      (k, refl, (version, all_of d, may.1, refl, after.3)),
     )
-
-closings_as : (slots id k : ℕ) (u : View) (c : List (ℕ × Option Edition)) → k < 8 → MayClose k u
-    → Allows KeepsRule slots id (u, c) (k + 1) (λ n. (n + 256) % 18446744073709551616) (Closes (step slots (k + 1) 256 0 none) (u, c))
-closings_as slots id k (View.Working v) c small may = absurd may
-closings_as slots id k (View.Noting x') c small may = absurd may
-closings_as slots id k View.Spent c small may = absurd may
-closings_as slots id k (View.Loading l) c small may =
-    allows slots id (View.Loading l, c) (k + 1) (λ n. (n + 256) % 18446744073709551616) (Event.Close k) (λ _. Reply.Closing)
-    (Closes (step slots (k + 1) 256 0 none) (View.Loading l, c)) (closes_add slots id k l c small may)
 
 pub closings : (slots id k : ℕ) (me : SeatAndSlots) → k < 8 → MayClose k me.0
     → Allows KeepsRule slots id me (k + 1) (λ n. (n + 256) % 18446744073709551616)
     (Closes (step slots (k + 1) 256 0 none) me)
-closings slots id k me small may = closings_as slots id k me.0 me.1 small may
+closings slots id k (View.Loading l, c) small may =
+    allows slots id (View.Loading l, c) (k + 1) (λ n. (n + 256) % 18446744073709551616) (Event.Close k) (λ _. Reply.Closing)
+    (Closes (step slots (k + 1) 256 0 none) (View.Loading l, c)) (closes_add slots id k l c small may)
+closings slots id k (_, c) small may = absurd may
 
 -- what lies in a slot that is at home
 abbrev value_at : Maybe (Maybe (Option Edition)) → Option Edition
@@ -468,7 +427,7 @@ collects_found id k version l table r at many small shelf hand true found =
         f,
         all_of d,
         (λ i. (View.Loading l', carried_down f (16 * k) 16 [] i)),
-        noted table r id l l' at refl e reply t refl is_step refl refl refl refl (omega arith),
+        after.3,
         found_at table.words r.history r.goes r.words k e d refl small,
       ),
     )
@@ -495,7 +454,7 @@ collects_found id k version l table r at many small shelf hand false found =
       (
         all_of d,
         refl,
-        noted table r id l l' at refl e reply s refl is_step refl refl refl refl (omega arith),
+        after.3,
         here.1.1,
         found_at table.words r.history r.goes r.words k e d refl small,
       ),
@@ -514,20 +473,13 @@ collects_add slots id k version l c many small may =
     let z = collects_found id k version l table r at (full ∙ many) small may.0 may.1 (n == 512 + 65536 * version) refl in
     (z.0, z.1, z.2, z.3, z.4, z.5, (k, version, refl, refl, z.6)))
 
-collectings_as : (slots id k version : ℕ) (u : View) (c : List (ℕ × Option Edition)) → slots ≡ 128 → k < 8 → MayCollect k version u c
-    → Allows KeepsRule slots id (u, c) (k + 1) (λ n. either (n == 512 + 65536 * version) 0 n)
-    (Collects (step slots (k + 1) (512 + 65536 * version) 0 none) (u, c))
-collectings_as slots id k version (View.Working v) c many small may = absurd may
-collectings_as slots id k version (View.Noting x') c many small may = absurd may
-collectings_as slots id k version View.Spent c many small may = absurd may
-collectings_as slots id k version (View.Loading l) c many small may =
+pub collectings : (slots id k version : ℕ) (me : SeatAndSlots) → slots ≡ 128 → k < 8 → MayCollect k version me.0 me.1
+    → Allows KeepsRule slots id me (k + 1) (λ n. either (n == 512 + 65536 * version) 0 n) (Collects (step slots (k + 1) (512 + 65536 * version) 0 none) me)
+collectings slots id k version (View.Loading l, c) many small may =
     allows slots id (View.Loading l, c) (k + 1) (λ n. either (n == 512 + 65536 * version) 0 n) (Event.Collect k)
     (λ n. cond (n == 512 + 65536 * version) Reply.Freed (Reply.Busy (n % 256)))
     (Collects (step slots (k + 1) (512 + 65536 * version) 0 none) (View.Loading l, c)) (collects_add slots id k version l c many small may)
-
-pub collectings : (slots id k version : ℕ) (me : SeatAndSlots) → slots ≡ 128 → k < 8 → MayCollect k version me.0 me.1
-    → Allows KeepsRule slots id me (k + 1) (λ n. either (n == 512 + 65536 * version) 0 n) (Collects (step slots (k + 1) (512 + 65536 * version) 0 none) me)
-collectings slots id k version me many small may = collectings_as slots id k version me.0 me.1 many small may
+collectings slots id k version (_, c) many small may = absurd may
 
 -- the slots of a free shelf, where they are not out
 spares_home : (homes : List (Maybe (Option Edition))) (shelves : List Shelf) (workers : List Worker)
@@ -577,15 +529,8 @@ tries_free id k l c hand' a table r at small free slots false found =
       after.0,
       after.1,
       after.2,
-      noted table r id l l' at refl e reply s refl is_step refl refl refl refl (omega arith),
+      after.3,
     )
-
--- what follows from what holds of a loader's view follows for a view of which it holds
-of_loader : (P : LoaderView → Type 0) (Q : View → Type 0) (u : View) → ((l : LoaderView) → P l → Q (View.Loading l)) → OfLoader u P → Q u
-of_loader P Q (View.Loading l) each h = each l h
-of_loader P Q (View.Working v) each h = absurd h
-of_loader P Q (View.Noting n) each h = absurd h
-of_loader P Q View.Spent each h = absurd h
 
 -- after such a try the loader has this in its hand, and these slots
 abbrev SparedOn : LoaderView → (ℕ → Option ℕ) → (ℕ → List (ℕ × Option Edition)) → ℕ → SeatAndSlots → Type 0
@@ -631,13 +576,10 @@ gathers_add slots id k l c many small may =
 
 pub gatherings : (slots id k : ℕ) (me : SeatAndSlots) → slots ≡ 128 → k < 8 → MayGather k me.0 me.1
     → Allows KeepsRule slots id me (k + 1) (λ n. either (n == 512) 0 n) (Gathers (step slots (k + 1) 512 0 none) me)
-gatherings slots id k me many small may =
-    of_loader (λ l. MayGather k (View.Loading l) me.1) (λ u. Allows KeepsRule slots id (
-      u,
-      me.1,
-    ) (k + 1) (λ n. either (n == 512) 0 n) (Gathers (step slots (k + 1) 512 0 none) (u, me.1))) me.0
-    (λ l free. allows slots id (View.Loading l, me.1) (k + 1) (λ n. either (n == 512) 0 n) (Event.Collect k) (λ _. Reply.NotNow)
-    (Gathers (step slots (k + 1) 512 0 none) (View.Loading l, me.1)) (gathers_add slots id k l me.1 many small free)) may
+gatherings slots id k (View.Loading l, c) many small may =
+    allows slots id (View.Loading l, c) (k + 1) (λ n. either (n == 512) 0 n) (Event.Collect k) (λ _. Reply.NotNow)
+    (Gathers (step slots (k + 1) 512 0 none) (View.Loading l, c)) (gathers_add slots id k l c many small may)
+gatherings slots id k (_, c) many small may = absurd may
 
 pub puts_add : PuttingsAdd
 puts_add slots id k l c many small may =
@@ -659,15 +601,11 @@ puts_add slots id k l c many small may =
 
 pub puttings : (slots id k : ℕ) (me : SeatAndSlots) → slots ≡ 128 → k < 8 → MayPutBack k me.0 me.1
     → Allows KeepsRule slots id me (k + 1) (λ n. either (n == 512) 0 n) (PutsBack (step slots (k + 1) 512 0 none) me)
-puttings slots id k me many small may =
-    of_loader (λ l. MayPutBack k (View.Loading l) me.1) (λ u. Allows KeepsRule slots id (
-      u,
-      me.1,
-    ) (k + 1) (λ n. either (n == 512) 0 n) (PutsBack (step slots (k + 1) 512 0 none) (u, me.1))) me.0
-    (λ l free. allows slots id (View.Loading l, me.1) (k + 1) (λ n. either (n == 512) 0 n) (Event.Collect k) (λ _. Reply.NotNow)
-    (PutsBack (step slots (k + 1) 512 0 none) (View.Loading l, me.1)) (puts_add slots id k l me.1 many small free)) may
+puttings slots id k (View.Loading l, c) many small may =
+    allows slots id (View.Loading l, c) (k + 1) (λ n. either (n == 512) 0 n) (Event.Collect k) (λ _. Reply.NotNow)
+    (PutsBack (step slots (k + 1) 512 0 none) (View.Loading l, c)) (puts_add slots id k l c many small may)
+puttings slots id k (_, c) many small may = absurd may
 
 -- an image stays while others come
 pub image_of-append : (images more : List ImageValue) (v : ℕ) (image : ImageValue) → image_of images v ≡ Some image → image_of (images ++ more) v ≡ Some image
-image_of-append images more zero image is = absurd (cc)
-image_of-append images more (suc n) image is = slice_get-append images more n image is
+image_of-append images more v image is = image_later images (images ++ more) v image (more, refl) is

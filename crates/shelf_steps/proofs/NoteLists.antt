@@ -34,9 +34,7 @@ NoticeAt views n after = (index : ℕ) × (slice_get (notices_of views) index �
 
 behind : (x : View) (xs : List View) (n : ℕ) (after : List View) → NoticeAt xs n after → NoticeAt (x ∷ xs) n (x ∷ after)
 behind (View.Noting m) xs n after r = (suc r.0, r.1, ap (λ (l : List ℕ). m ∷ l) r.2)
-behind (View.Loading l) xs n after r = r
-behind (View.Working v) xs n after r = r
-behind View.Spent xs n after r = r
+behind _ xs n after r = r
 
 pub notices_less : (views : List View) (id n : ℕ) → get_elem? views id ≡ some (View.Noting n) → NoticeAt views n (set views id View.Spent)
 notices_less [] id n at = absurd (some-ne-none (View.Noting n) (sym at))

@@ -21,13 +21,13 @@ use Rattle.shelf_steps.specs.declared.views.LoaderView.{LoaderView}
 use Rattle.shelf_steps.specs.declared.views.View.{View}
 use Rattle.shelf_steps.specs.EventHistory.{EventHistory, extended, IsKnownBeginning, note_of, join_of, joined_by, HasDoneNothing}
 use Rattle.shelf_steps.specs.Seats.{WorkerFits, LoaderFits, SeatFits, SeatsFit}
-use Rattle.shelf_steps.specs.Slots.{SlotsFit}
 use Rattle.shelf_steps.specs.Rule.{KeepsRule, notices_of}
 use Rattle.shelf_steps.specs.Laws.{Shelved}
 use Rattle.shelf_steps.specs.Plays.{SeatAndSlots, with_note, gives_notice, new_notice, with_seen, joins_notice, IsLoading, IsSettled, IsNotice}
 use Rattle.shelf_steps.specs.Events.{NotesAreEvents, JoinsAreEvents}
 use Rattle.shelf_steps.proofs.Courses.{kept_of, joined_snoc, joined_same, nothing_snoc, begins_longer, goes_same, prefix_same, loader_apart, other_fits}
-use Rattle.shelf_steps.proofs.Frames.{worker_moves, loader_moves}
+use Rattle.shelf_steps.proofs.Frames.{seats_differ, worker_moves, loader_moves}
+use Rattle.shelf_steps.proofs.Says.{loader_knows, loader_slots}
 use Rattle.shelf_steps.proofs.NoteLists.{notices_worker, notices_loader, notices_more, notices_less}
 use Rattle.shelf_steps.proofs.Opens.{at_end}
 
@@ -82,8 +82,8 @@ seat_spent : (c : EventHistory) (views : List View) (loader : LoaderView) (other
     → SeatsFit c (set views other View.Spent) loader
 seat_spent c views loader other n at fit = record {
   owner = fit.owner;
-  loader_seat = set_else views other 0 View.Spent (λ e. let z : some (View.Loading loader) ≡ some (View.Noting n) = sym fit.loader_seat
-      ∙ (ap (λ m. get_elem? views m) e ∙ at) in cc) ∙ fit.loader_seat;
+  loader_seat = set_else views other 0 View.Spent (seats_differ views 0 other (View.Loading loader) (View.Noting n) fit.loader_seat at (λ q. cc))
+      ∙ fit.loader_seat;
   loads = fit.loads;
   few = fit.few;
   each = λ seat u e. ⊎_elim
@@ -93,8 +93,8 @@ seat_spent c views loader other n at fit = record {
   every = λ w less. let o = fit.every w less in (
     o.0,
     o.1,
-    set_else views other (fit.owner w) View.Spent (λ e. let z : some (View.Working o.0) ≡ some (View.Noting n) = sym o.2
-        ∙ (ap (λ m. get_elem? views m) e ∙ at) in cc) ∙ o.2,
+    set_else views other (fit.owner w) View.Spent
+        (seats_differ views (fit.owner w) other (View.Working o.0) (View.Noting n) o.2 at (λ q. cc)) ∙ o.2,
   );
   unseated = fit.unseated;
 }
@@ -102,8 +102,7 @@ seat_spent c views loader other n at fit = record {
 pub notes_events : NotesAreEvents
 notes_events table id l r at =
     let s : State = r.history.state in
-    let is = (r.seats.each id (View.Loading l) at).1 in
-    let knows : LoaderFits r.history l = subst (λ (x : LoaderView). LoaderFits r.history x) (sym is) r.seats.loads in
+    let knows = loader_knows table r id l at in
     let e : Event = Event.Note in let reply : Reply = Reply.Noted l.current in let t : State = noted s in
     let is_step : Step s e reply t = (knows.shows.current, refl) in
     let d : EventHistory = extended r.history e reply t r.history.images in
@@ -120,7 +119,7 @@ notes_events table id l r at =
         words = record { nine = r.words.nine; cur = r.words.cur; each = r.words.each };
         seats = seat_more d views l' l.current moved;
         notices = notices_more views (View.Noting l.current) ∙ (λ i. (notices_loader table.views id l l' at ∙ r.notices) i ++ knows.shows.current i ∷ []);
-        slots = subst (λ (x : LoaderView). SlotsFit table.homes s.shelves s.workers r.history.images x.hand) (sym is) r.slots;
+        slots = loader_slots table r id l at;
       },
       refl,
     )
@@ -131,10 +130,6 @@ settled_so s v here settled = elim settled [
   | inl a ↦ inl (here ∙ ap (λ (x : Worker). Some x) a)
   | inr b ↦ inr (b.0, b.1, here ∙ ap (λ (x : Worker). Some x) b.2)
 ]
-
-other_than : (views : List View) (id other n : ℕ) (v : WorkerView) → get_elem? views id ≡ some (View.Working v)
-    → get_elem? views other ≡ some (View.Noting n) → other ≢ id
-other_than views id other n v at at' e = let z : some (View.Noting n) ≡ some (View.Working v) = sym at' ∙ (ap (λ m. get_elem? views m) e ∙ at) in cc
 
 -- a join is of its own worker alone
 own_join : (w n : ℕ) → join_of w (Event.Join w n) ≡ n ∷ []
@@ -150,8 +145,8 @@ joins_events table id other n v r at settled at' =
     let f : WorkerFits r.history v = (r.seats.each id (View.Working v) at).2 in
     let v' : WorkerView = with_seen v n in
     let views : List View = set table.views id (View.Working v') in
-    let there : get_elem? views other ≡ some (View.Noting n) = set_else table.views id other (View.Working v') (other_than table.views id other n v at at')
-    ∙ at' in
+    let there : get_elem? views other ≡ some (View.Noting n) = set_else table.views id other (View.Working v')
+    (seats_differ table.views other id (View.Noting n) (View.Working v) at' at (λ q. cc)) ∙ at' in
     let same : notices_of views ≡ s.notices = notices_worker table.views id v v' at ∙ r.notices in
     let less = notices_less views other n there in let index = less.0 in
     let is_noted : slice_get s.notices index ≡ Some n = ap (λ (xs : List ℕ). slice_get xs index) (sym same) ∙ less.1 in
@@ -187,21 +182,14 @@ joins_events table id other n v r at settled at' =
       (index, refl),
     )
 
-splits_as : (id : ℕ) (u : View) → IsLoading u → Splits KeepsRule id u (gives_notice u) (new_notice u)
-splits_as id (View.Loading l) loads table r at = (notes_events table id l r at).0
-splits_as id (View.Working v) loads table r at = absurd loads
-splits_as id (View.Noting n) loads table r at = absurd loads
-splits_as id View.Spent loads table r at = absurd loads
-
 pub note_splits : (id : ℕ) (u : View) → IsLoading u → Splits KeepsRule id u (gives_notice u) (new_notice u)
-note_splits = splits_as
+note_splits id (View.Loading l) loads table r at = (notes_events table id l r at).0
+note_splits id _ loads table r at = absurd loads
 
 joins_as : (id other n : ℕ) (u : View) → IsSettled u → Joins KeepsRule id u other (View.Noting n) (joins_notice u (View.Noting n)) View.Spent
-joins_as id other n (View.Loading l) settled table r at apart there = absurd settled
-joins_as id other n (View.Noting m) settled table r at apart there = absurd settled
-joins_as id other n View.Spent settled table r at apart there = absurd settled
 joins_as id other n (View.Working v) settled table r at apart there =
     (joins_events table id other n v r at settled (sym (set_else table.views id other (View.Working (with_seen v n)) apart) ∙ there)).0
+joins_as id other n _ settled table r at apart there = absurd settled
 
 pub note_joins : (id other n : ℕ) (u : View) (m : SeatAndSlots) → IsSettled u → IsNotice n m → Joins KeepsRule id u other m.0 (joins_notice u m.0) View.Spent
 note_joins id other n u m settled is = subst (λ (x : SeatAndSlots). Joins KeepsRule id u other x.0 (joins_notice u x.0) View.Spent) (sym is)

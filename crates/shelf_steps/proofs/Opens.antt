@@ -1,8 +1,10 @@
 -- The start, and the seats that are handed out.
 use Rattle.image_layout.specs.Image.{ImageValue}
+use Rattle.reasoning.proofs.ListLemmas.{slice_get-replicate-is}
+use Rattle.std.proofs.lemmas.Option.{slice_get_within}
 use Rattle.std.proofs.Common.{◌≡◌, ◌≢◌, ℕ, zero, suc, ◌+◌, ◌*◌, ◌<◌, ◌≤◌, ◌==◌, ◌⊎◌, true, false, cond, List, [], ◌∷◌}
 use Rattle.std.proofs.Common.{◌++◌, map, length, replicate, set, get_or, Option, Some, None, slice_get, refl, ap, sym}
-use Rattle.std.proofs.Common.{◌∙◌, subst, arith, rules, inl, inr, ⊎_elim, length-set}
+use Rattle.std.proofs.Common.{◌∙◌, subst, arith, rules, inl, inr, ⊎_elim, length-set, length-append}
 use Rattle.std.proofs.lemmas.Bool.Decides.{nat_tests}
 use Rattle.std.proofs.lemmas.List.{append-nil}
 use mathlib.Core.Logic.{dite}
@@ -26,7 +28,8 @@ use Rattle.shelf_steps.specs.Rule.{KeepsRule, notices_of, first_loader, first_wo
 use Rattle.shelf_steps.specs.Steps.{StartIsRuled, HandingsAddNothing}
 use Rattle.shelf_steps.specs.Plays.{MayHandOut, one_more, newcomer, keeps_loading, new_worker_view}
 use Rattle.shelf_steps.proofs.Courses.{kept_of, begins_all}
-use Rattle.shelf_steps.proofs.Frames.{there}
+use Rattle.shelf_steps.proofs.Frames.{there, seats_differ}
+use Rattle.shelf_steps.proofs.Says.{loader_slots}
 use Rattle.shelf_steps.proofs.NoteLists.{notices_loader, notices_more}
 
 abbrev first_course : ImageValue → EventHistory
@@ -52,16 +55,6 @@ first_seat image (suc seat) u e = absurd (some-ne-none u (sym e))
 first_workers : (w : ℕ) → 0 ≤ w → w < 16 → (slice_get start.workers w ≡ Some Worker.Idle) × (get_or start.seen w 0 ≡ 0) × HasDoneNothing w []
 first_workers = search rules
 
-free_at : (n k : ℕ) (x : Shelf) → slice_get (replicate n Shelf.Free) k ≡ Some x → (Shelf.Free ≡ x) × (k < n)
-free_at zero k x e = absurd (cc)
-free_at (suc n) zero x e = (cc, omega arith)
-free_at (suc n) (suc k) x e = let z = free_at n k x e in (z.0, (let q = z.1 in omega arith))
-
-idle_at : (n w : ℕ) (x : Worker) → slice_get (replicate n Worker.Idle) w ≡ Some x → Worker.Idle ≡ x
-idle_at zero w x e = absurd (cc)
-idle_at (suc n) zero x e = cc
-idle_at (suc n) (suc w) x e = idle_at n w x e
-
 first_at : (image : ImageValue) (items : List (Option Edition)) → FirstSlots image 128 items
     → SlotsFit (map some items) start.shelves start.workers (image ∷ []) None
 first_at image items f zero w x at less =
@@ -74,13 +67,14 @@ first_at image items f zero w x at less =
         q.0,
         at_map some items (16 * zero + w) q.0 q.1,
         (h.0, h.1, h.2, ap (λ (i : ImageValue). Some i) (sym h.3)),
-        (λ e. let z = idle_at 16 w (Worker.Holding zero 1) e in cc),
+        (λ e. let z = slice_get-replicate-is 16 w Worker.Idle (Worker.Holding zero 1) e in cc),
       ),
     )
 first_at image items f (suc k) w x at less =
-    let z = free_at 7 k x at in
-    let q = f.1 (16 * suc k + w) (let a = z.1 in omega arith) in
-    subst (λ (y : Shelf). SlotFits (image ∷ []) start.workers None y (suc k) w (get_elem? (map some items) (16 * suc k + w))) z.0
+    let low : k < 7 = slice_get_within (replicate 7 Shelf.Free) k x at in
+    let q = f.1 (16 * suc k + w) (omega arith) in
+    subst (λ (y : Shelf). SlotFits (image ∷ []) start.workers None y (suc k) w (get_elem? (map some items) (16 * suc k + w)))
+    (sym (slice_get-replicate-is 7 k Shelf.Free x at))
     (inl ((λ e. cc), at_map some items (16 * suc k + w) q.0 q.1 ∙ ap (λ (y : Option Edition). some (some y)) (q.2.1 (omega arith))))
 
 pub start_ruled : StartIsRuled
@@ -118,15 +112,11 @@ opens_ruled image items f = (start_ruled image items f).0
 pub first_slots_grow : (image : ImageValue) (n : ℕ) (items : List (Option Edition)) (x : Option Edition)
     → FirstSlots image n items → FirstSlot image n x → FirstSlots image (n + 1) (items ++ x ∷ [])
 first_slots_grow image n items x f new = (
-  omega (arith, f.0, length-snoc items x),
+  omega (arith, f.0, length-append items (x ∷ [])),
   λ j less. dite (ℕ_discrete j n)
       (λ e. (x, at_last items x j (f.0 ∙ sym e), subst (λ m. FirstSlot image m x) (sym e) new))
       (λ ne. let q = f.1 j (omega arith) in (q.0, at_longer items (x ∷ []) j q.0 q.1, q.2)),
 )
-  where
-    length-snoc : (l : List (Option Edition)) (a : Option Edition) → length (l ++ a ∷ []) ≡ length l + 1
-    length-snoc [] a = refl
-    length-snoc (y ∷ ys) a = let r = length-snoc ys a in omega arith
 
 pub at_end : {A : Type 0} (l : List A) (a b : A) (j : ℕ) → get_elem? (l ++ a ∷ []) j ≡ some b → (get_elem? l j ≡ some b) ⊎ ((j ≡ length l) × (a ≡ b))
 at_end [] a b zero e = inr (refl, some-injective a b e)
@@ -147,9 +137,8 @@ owner_old owner number seat w ne = let t : (w == number) ≡ false = grind (arit
 old_seat : (c : EventHistory) (l : LoaderView) (owner : ℕ → ℕ) (new seat : ℕ) (u : View) → seat ≢ 0
     → SeatFits c l owner seat u → SeatFits c (one_more l) (owner_after owner l.handed new) seat u
 old_seat c l owner new seat (View.Loading x) apart o = absurd (apart o.0)
-old_seat c l owner new seat (View.Noting n) apart o = tt
-old_seat c l owner new seat View.Spent apart o = tt
 old_seat c l owner new seat (View.Working v) apart o = let a = o.0 in (omega arith, owner_old owner l.handed new v.number (λ e. omega arith) ∙ o.1, o.2)
+old_seat c l owner new seat _ apart o = tt
 
 -- the loader hands out one more seat: nothing happens
 split_seats : (c : EventHistory) (views : List View) (l : LoaderView) (fit : SeatsFit c views l) (id : ℕ) → id ≡ 0
@@ -200,11 +189,8 @@ split_seats c views l fit id first at kept room =
             ap (λ z. get_elem? (set views id (View.Loading (one_more l)) ++ View.Working (newcomer l.handed) ∷ []) z)
                 (owner_old fit.owner l.handed (length views) w ne)
                 ∙ at_longer (set views id (View.Loading (one_more l))) (View.Working (newcomer l.handed) ∷ []) (fit.owner w) (View.Working n.0)
-                (set_else views id (fit.owner w) (View.Loading (one_more l)) (λ e. let same : some (View.Working n.0)
-                ≡ some (View.Loading l) =
-                sym n.2 ∙ (ap
-                (λ z. get_elem? views z) e
-                ∙ at) in cc) ∙ n.2),
+                (set_else views id (fit.owner w) (View.Loading (one_more l))
+                (seats_differ views (fit.owner w) id (View.Working n.0) (View.Loading l) n.2 at (λ q. cc)) ∙ n.2),
           ));
       unseated = λ w past small. fit.unseated w (omega arith) small;
     }
@@ -221,16 +207,11 @@ hands_out table id l r at room =
         seats = split_seats r.history table.views l fit id is.0 at (kept_of r.history r.goes) room;
         notices = notices_more (set table.views id (View.Loading (one_more l))) (View.Working (newcomer l.handed))
             ∙ (append-nil (notices_of (set table.views id (View.Loading (one_more l)))) ∙ (notices_loader table.views id l (one_more l) at ∙ r.notices));
-        slots = subst (λ (x : LoaderView). SlotsFit table.homes r.history.state.shelves r.history.state.workers r.history.images x.hand) (sym is.1) r.slots;
+        slots = loader_slots table r id l at;
       },
       refl,
     )
 
-splits_as : (id : ℕ) (u : View) → MayHandOut u → Splits KeepsRule id u (keeps_loading u) (new_worker_view u)
-splits_as id (View.Working v) room table r at = absurd room
-splits_as id (View.Noting x') room table r at = absurd room
-splits_as id View.Spent room table r at = absurd room
-splits_as id (View.Loading l) room table r at = (hands_out table id l r at room).0
-
 pub splits : (id : ℕ) (u : View) → MayHandOut u → Splits KeepsRule id u (keeps_loading u) (new_worker_view u)
-splits = splits_as
+splits id (View.Loading l) room table r at = (hands_out table id l r at room).0
+splits id _ room table r at = absurd room

@@ -8,10 +8,8 @@ use Rattle.shelf_steps.specs.Plays.{OfWorker, SeatAndSlots, looked_at, is_open, 
 use Rattle.shelf_steps.specs.Pinning.{TryIsLate, TryHolds, Pins, Moves, IsIdleAs, IsHoldingAs}
 
 pub looked_here : (u : View) (c : List (ℕ × Option Edition)) (n : ℕ) (m' : SeatAndSlots) → Looks (u, c) n m' → HasLooked (n % 8) m'.0
-looked_here (View.Loading l) c n m' h = absurd h
-looked_here (View.Noting x') c n m' h = absurd h
-looked_here View.Spent c n m' h = absurd h
 looked_here (View.Working v) c n m' h = subst (λ (x : SeatAndSlots). HasLooked (n % 8) x.0) (sym h.1) (n / 8, refl)
+looked_here _ c n m' h = absurd h
 
 took : (a : WorkerView) (c : List (ℕ × Option Edition)) (n word : ℕ) (m1 m2 : SeatAndSlots) (b : Bool)
     → (look : Looks (View.Working a, c) n m1) → Takes m1 word m2 → is_open word (n / 8) ≡ b
@@ -25,9 +23,6 @@ pub well_so : (u : View) (c : List (ℕ × Option Edition)) (number n word : ℕ
     → Looks (u, c) n m1 → Takes m1 word m2 → is_open word (n / 8) ≡ true
     → (e : Edition) × (m2.1 ≡ (16 * (n % 8) + number, Some e) ∷ []) × (e.version ≡ n / 8) × TryHolds u (n / 8) (n % 8) e m2.0
     × OfWorker m2.0 (λ b. (b.now ≡ Worker.Holding (n % 8) (n / 8)) × (b.number ≡ number) × (b.edition ≡ Some e))
-well_so (View.Loading l) c number n word m1 m2 idle empty look take stands = absurd idle
-well_so (View.Noting x') c number n word m1 m2 idle empty look take stands = absurd idle
-well_so View.Spent c number n word m1 m2 idle empty look take stands = absurd idle
 well_so (View.Working a) c number n word m1 m2 idle empty look take stands =
     let t = took a c n word m1 m2 true look take stands in
     let e = t.0 in let same : Some e ≡ Some t.4.0 = t.4.1 in let is : e ≡ t.4.0 = cc in (
@@ -50,22 +45,18 @@ well_so (View.Working a) c number n word m1 m2 idle empty look take stands =
       subst (λ (m : SeatAndSlots). OfWorker m.0 (λ b. (b.now ≡ Worker.Holding (n % 8) (n / 8)) × (b.number ≡ number)
           × (b.edition ≡ Some e))) (sym t.2) (refl, idle.1, refl),
     )
+well_so _ c number n word m1 m2 idle empty look take stands = absurd idle
 
 pub late_here : (u : View) (c : List (ℕ × Option Edition)) (number n word : ℕ) (m1 m2 : SeatAndSlots)
     → OfWorker u (λ a. (a.now ≡ Worker.Idle) × (a.number ≡ number))
     → Looks (u, c) n m1 → Takes m1 word m2 → is_open word (n / 8) ≡ false → IsLate (n % 8) m2.0
-late_here (View.Loading l) c number n word m1 m2 idle look take shut = absurd idle
-late_here (View.Noting x') c number n word m1 m2 idle look take shut = absurd idle
-late_here View.Spent c number n word m1 m2 idle look take shut = absurd idle
 late_here (View.Working a) c number n word m1 m2 idle look take shut =
     let t = took a c n word m1 m2 false look take shut in subst (λ (m : SeatAndSlots). IsLate (n % 8) m.0) (sym t.1) refl
+late_here _ c number n word m1 m2 idle look take shut = absurd idle
 
 pub late_so : (u : View) (c : List (ℕ × Option Edition)) (number n word : ℕ) (m1 m2 m3 : SeatAndSlots)
     → OfWorker u (λ a. (a.now ≡ Worker.Idle) × (a.number ≡ number)) → c ≡ []
     → Looks (u, c) n m1 → Takes m1 word m2 → is_open word (n / 8) ≡ false → Leaves m2 m3 → TryIsLate u (n / 8) m3.0 × IsIdleAs number m3
-late_so (View.Loading l) c number n word m1 m2 m3 idle empty look take shut leave = absurd idle
-late_so (View.Noting x') c number n word m1 m2 m3 idle empty look take shut leave = absurd idle
-late_so View.Spent c number n word m1 m2 m3 idle empty look take shut leave = absurd idle
 late_so (View.Working a) c number n word m1 m2 m3 idle empty look take shut leave =
     let t = took a c n word m1 m2 false look take shut in
     let k : Leaves (View.Working (come_late (looked_at a n look.0) (n % 8) t.0), c) m3 = subst (λ (m : SeatAndSlots). Leaves m m3) t.1 leave in
@@ -86,31 +77,20 @@ late_so (View.Working a) c number n word m1 m2 m3 idle empty look take shut leav
       },
       ((refl, idle.1), empty),
     )
+late_so _ c number n word m1 m2 m3 idle empty look take shut leave = absurd idle
 
 -- a look after a late take finds a greater version
 pub late_late : (u v w : View) (m n : ℕ) → TryIsLate u m v → TryIsLate v n w → m < n
-late_late (View.Loading l) v w m n a b = absurd a
-late_late (View.Noting x') v w m n a b = absurd a
-late_late View.Spent v w m n a b = absurd a
-late_late (View.Working x) (View.Loading l) w m n a b = absurd a
-late_late (View.Working x) (View.Noting x') w m n a b = absurd a
-late_late (View.Working x) View.Spent w m n a b = absurd a
-late_late (View.Working x) (View.Working y) (View.Loading l) m n a b = absurd b
-late_late (View.Working x) (View.Working y) (View.Noting x') m n a b = absurd b
-late_late (View.Working x) (View.Working y) View.Spent m n a b = absurd b
 late_late (View.Working x) (View.Working y) (View.Working z) m n a b = let q = a.last in let p = b.look.above q.1 in let e = q.0 in omega arith
+late_late (View.Working x) (View.Working y) _ m n a b = absurd b
+late_late (View.Working x) _ w m n a b = absurd a
+late_late _ v w m n a b = absurd a
 
 pub late_well : (u v w : View) (m n shelf : ℕ) (e : Edition) → TryIsLate u m v → TryHolds v n shelf e w → m < n
-late_well (View.Loading l) v w m n shelf e a b = absurd a
-late_well (View.Noting x') v w m n shelf e a b = absurd a
-late_well View.Spent v w m n shelf e a b = absurd a
-late_well (View.Working x) (View.Loading l) w m n shelf e a b = absurd a
-late_well (View.Working x) (View.Noting x') w m n shelf e a b = absurd a
-late_well (View.Working x) View.Spent w m n shelf e a b = absurd a
-late_well (View.Working x) (View.Working y) (View.Loading l) m n shelf e a b = absurd b
-late_well (View.Working x) (View.Working y) (View.Noting x') m n shelf e a b = absurd b
-late_well (View.Working x) (View.Working y) View.Spent m n shelf e a b = absurd b
 late_well (View.Working x) (View.Working y) (View.Working z) m n shelf e a b = let q = a.last in let p = b.look.above q.1 in let i = q.0 in omega arith
+late_well (View.Working x) (View.Working y) _ m n shelf e a b = absurd b
+late_well (View.Working x) _ w m n shelf e a b = absurd a
+late_well _ v w m n shelf e a b = absurd a
 
 -- what the last try gives
 abbrev pub Held : ℕ → View → ℕ × Edition → SeatAndSlots → Type 0

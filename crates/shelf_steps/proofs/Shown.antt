@@ -13,7 +13,7 @@ use Rattle.shelf_steps.specs.declared.views.View.{View}
 use Rattle.shelf_steps.specs.Rule.{KeepsRule}
 use Rattle.shelf_steps.specs.Laws.{Shelved, IsLoader, TableShows, OneStateIsShown, OneHistory}
 use Rattle.shelf_steps.proofs.Courses.{kept_of}
-use Rattle.shelf_steps.proofs.Says.{is_loader, knows}
+use Rattle.shelf_steps.proofs.Says.{is_loader, loader_knows}
 
 same_items : {X : Type 0} (d : X) (xs ys : List X) → length xs ≡ length ys
     → ((i : ℕ) → i < length xs → (x : X) × (slice_get xs i ≡ Some x) × (slice_get ys i ≡ Some x)) → xs ≡ ys
@@ -24,17 +24,16 @@ same_items d xs ys long same = ext_get_or d xs ys long (λ i low. let q =
 -- a word of a known shelf has one count
 one_count : (x : Shelf) (a b : ℕ) → shelf_word x a ≡ shelf_word x b → a ≡ b
 one_count Shelf.Free a b e = e
-one_count (Shelf.Open v) a b e = omega arith
-one_count (Shelf.Closing v) a b e = omega arith
+one_count _ a b e = omega arith
 
 module _ (table : Shelved) (l : LoaderView) (r : KeepsRule table) (at : IsLoader table l) where
   same_handed : l.handed ≡ r.loader.handed
-  same_handed = ap (λ (x : LoaderView). x.handed) (is_loader table l r at)
+  same_handed = ap (λ (x : LoaderView). x.handed) (is_loader table r 0 l at)
 
   shown : TableShows table l r.history.state
   shown = record {
     words = r.words;
-    loader = (knows table l r at).shows;
+    loader = (loader_knows table r 0 l at).shows;
     numbered = r.goes.numbered;
     workers = λ i v there. (r.seats.each i (View.Working v) there).2.shows;
     notices = r.notices;
@@ -105,5 +104,5 @@ one_history table r = (
   r.history,
   r.goes,
   (λ i v at. let f = (r.seats.each i (View.Working v) at).2 in (f.known, f.joined)),
-  (λ l at. let k = knows table l r at in (k.known, k.images, shown table l r at, k.notes)),
+  (λ l at. let k = loader_knows table r 0 l at in (k.known, k.images, shown table l r at, k.notes)),
 )

@@ -12,6 +12,7 @@ use lib.ListN.{get_elem?}
 use Rattle.atomic_table.proofs.Lists.{set_here, set_else}
 use Rattle.version_core.specs.declared.state.Shelf.{Shelf}
 use Rattle.version_core.specs.declared.state.Worker.{Worker}
+use Rattle.version_core.specs.Invariants.{version_of}
 use Rattle.shelf_steps.specs.declared.edition.Edition.{Edition}
 use Rattle.shelf_steps.specs.Slots.{Slot, IsFilled, IsSpare, SlotFits, SlotsFit}
 use Rattle.shelf_steps.proofs.Courses.{edition_later, prefix_same}
@@ -28,6 +29,19 @@ filled_on images more workers ws k u v slot p holds held f = elim f as (λ _. Is
 spare_on : (hand hand' : Option ℕ) (k : ℕ) (slot : Slot) → (hand ≡ Some k → hand' ≡ Some k)
     → (hand' ≡ Some k → hand ≡ Some k) → IsSpare hand k slot → IsSpare hand' k slot
 spare_on hand hand' k slot to from f = elim f as (λ _. IsSpare hand' k slot) [ inl a ↦ inl ((λ e. a.0 (from e)), a.1) | inr b ↦ inr (to b.0, b.1) ]
+
+-- a slot of a shelf with a version is filled, and the loader has none of that shelf in its hand
+pub slot_filled : (images : List ImageValue) (workers : List Worker) (hand : Option ℕ) (x : Shelf) (k u v : ℕ) (slot : Slot)
+    → version_of x ≡ Some v → SlotFits images workers hand x k u slot → (hand ≢ Some k) × IsFilled images workers k u v slot
+slot_filled images workers hand Shelf.Free k u v slot e f = absurd (cc)
+slot_filled images workers hand (Shelf.Open x) k u v slot e f = let same : x ≡ v = cc in (f.0, subst (λ n. IsFilled images workers k u n slot) same f.1)
+slot_filled images workers hand (Shelf.Closing x) k u v slot e f = let same : x ≡ v = cc in (f.0, subst (λ n. IsFilled images workers k u n slot) same f.1)
+
+pub filled_fits : (images : List ImageValue) (workers : List Worker) (hand : Option ℕ) (x : Shelf) (k u v : ℕ) (slot : Slot)
+    → version_of x ≡ Some v → hand ≢ Some k → IsFilled images workers k u v slot → SlotFits images workers hand x k u slot
+filled_fits images workers hand Shelf.Free k u v slot e away f = absurd (cc)
+filled_fits images workers hand (Shelf.Open x) k u v slot e away f = let same : v ≡ x = cc in (away, subst (λ n. IsFilled images workers k u n slot) same f)
+filled_fits images workers hand (Shelf.Closing x) k u v slot e away f = let same : v ≡ x = cc in (away, subst (λ n. IsFilled images workers k u n slot) same f)
 
 -- a slot that stays where it is
 pub slot_on : (images more : List ImageValue) (workers ws : List Worker) (hand hand' : Option ℕ) (x : Shelf) (k u : ℕ) (slot : Slot) → IsPrefix images more

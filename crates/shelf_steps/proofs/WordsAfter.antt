@@ -54,8 +54,7 @@ words_after words k new s t w small a b others here = record {
 
 pub word_up : (x : Shelf) (count : ℕ) → shelf_word x count + 1 ≡ shelf_word x (count + 1)
 word_up Shelf.Free count = refl
-word_up (Shelf.Open x) count = omega arith
-word_up (Shelf.Closing x) count = omega arith
+word_up _ count = omega arith
 
 word_small : (x : Shelf) (count : ℕ) → count < 256
     → ((v : ℕ) → (x ≡ Shelf.Open v) ⊎ (x ≡ Shelf.Closing v) → v ≤ 1000000000)

@@ -35,7 +35,7 @@ use Rattle.shelf_steps.proofs.Courses.{begins_longer, happened, goes_same, loade
 use Rattle.shelf_steps.proofs.Frames.{there, worker_moves}
 use Rattle.shelf_steps.proofs.WordsAfter.{current_word, words_same, words_after, word_rises, word_falls, word_tells, found_at}
 use Rattle.shelf_steps.proofs.NoteLists.{notices_worker}
-use Rattle.shelf_steps.proofs.SlotsAfter.{slots_worker, slots_one}
+use Rattle.shelf_steps.proofs.SlotsAfter.{slots_worker, slots_one, slot_filled, filled_fits}
 
 -- a step of a worker changes what is so of that worker alone
 module _ (table : Table (Option Edition) View) (r : KeepsRule table) (id : ℕ) (v v' : WorkerView)
@@ -46,9 +46,6 @@ module _ (table : Table (Option Edition) View) (r : KeepsRule table) (id : ℕ) 
     ≡ r.history.state.editions)
     (rest : (w : ℕ) → w ≢ v.number → (slice_get t.workers w ≡ slice_get r.history.state.workers w) × (get_or t.seen w 0 ≡ get_or r.history.state.seen w 0))
   where
-    pub next : EventHistory
-    next = extended r.history e reply t r.history.images
-
     pub next_goes : LeadsToItsState (extended r.history e reply t r.history.images)
     next_goes = goes_same r.history e reply t r.goes is_step
         (workers_event e v.number whose (let a = (r.seats.each id (View.Working v) at).0 in let b = r.seats.few in omega arith)) editions
@@ -85,6 +82,8 @@ module _ (table : Table (Option Edition) View) (r : KeepsRule table) (id : ℕ) 
         → SlotsFit homes' t.shelves t.workers r.history.images r.loader.hand → t.notices ≡ r.history.state.notices
         → (after : KeepsRule record { words = words'; homes = homes'; views = set table.views id (View.Working v') })
         × IsLonger r.history e reply after.history × (v'.known ≡ all_of after.history)
+        × Happened v.known e reply (all_of (extended r.history e reply t r.history.images))
+        × LeadsToItsState (extended r.history e reply t r.history.images)
     next_ruled words' homes' knows fits words slots notices = (
       record {
         history = extended r.history e reply t r.history.images;
@@ -97,12 +96,11 @@ module _ (table : Table (Option Edition) View) (r : KeepsRule table) (id : ℕ) 
       },
       record { is_step = is_step; events = refl; replies = refl; images = prefix_same r.history.images },
       knows,
+      happened r.history e reply t r.history.images v.known
+          (subst (λ (a : Option ℕ). IsKnownBeginning v.known a r.history) (sym whose) (r.seats.each id (View.Working v) at).2.known) next_goes
+          (prefix_same r.history.images),
+      next_goes,
     )
-
-    pub next_happened : Happened v.known e reply (all_of (extended r.history e reply t r.history.images))
-    next_happened = happened r.history e reply t r.history.images v.known
-        (subst (λ (a : Option ℕ). IsKnownBeginning v.known a r.history) (sym whose) (r.seats.each id (View.Working v) at).2.known) next_goes
-        (prefix_same r.history.images)
 
 -- what the kit asks of an operation on a word, where the history grows by its event
 pub allows : (slots id : ℕ) (me : SeatAndSlots) (i : ℕ) (f : ℕ → ℕ) (e : Event) (reply : ℕ → Reply) (tells : ℕ → SeatAndSlots → Type 0)
@@ -146,28 +144,18 @@ looks_add slots id v c idle table r full at small =
       (
         all_of d,
         refl,
-        next_happened table r id v v' at refl e reply t refl is_step refl refl refl refl rest,
+        after.3,
         seen_less,
         (λ p. let q = f.passed p in let q' = z.1 in omega arith),
-        (
-          t,
-          next_goes table r id v v' at refl e reply t refl is_step refl refl refl
-              refl rest,
-          fits.shows,
-        ),
+        (t, after.4, fits.shows),
       ),
     )
 
-looks_as : (slots id : ℕ) (u : View) (c : List (ℕ × Option Edition)) → IsIdle u → Allows KeepsRule slots id (u, c) 0 (λ n. n) (Looks (u, c))
-looks_as slots id (View.Loading l) c idle = absurd idle
-looks_as slots id (View.Noting x') c idle = absurd idle
-looks_as slots id View.Spent c idle = absurd idle
-looks_as slots id (View.Working v) c idle =
+pub looks : (slots id : ℕ) (me : SeatAndSlots) → IsIdle me.0 → Allows KeepsRule slots id me 0 (λ n. n) (Looks me)
+looks slots id (View.Working v, c) idle =
     allows slots id (View.Working v, c) 0 (λ n. n) (Event.Look v.number) (λ n. Reply.Looked (n / 8) (n % 8)) (Looks (View.Working v, c))
     (looks_add slots id v c idle)
-
-pub looks : (slots id : ℕ) (me : SeatAndSlots) → IsIdle me.0 → Allows KeepsRule slots id me 0 (λ n. n) (Looks me)
-looks slots id me idle = looks_as slots id me.0 me.1 idle
+looks slots id (_, c) idle = absurd idle
 
 -- the count of the shelf k becomes another, and its word with it
 words_counted : (words : List ℕ) (k new count : ℕ) (ws : List Worker) (s : State) → KeepsInvariants s → WordsShow words s → k < 8
@@ -242,9 +230,9 @@ takes_found id k v version c table r at now true stands =
         edition,
         all_of d,
         refl,
-        next_happened table r id v v' at refl e reply t refl is_step refl refl refl refl rest,
+        after.3,
         is_its,
-        (t, next_goes table r id v v' at refl e reply t refl is_step refl refl refl refl rest, fits.shows),
+        (t, after.4, fits.shows),
         found_at table.words r.history r.goes r.words k e d refl z.1,
       ),
     )
@@ -281,7 +269,7 @@ takes_found id k v version c table r at now false shut =
       (
         all_of d,
         refl,
-        next_happened table r id v v' at refl e reply t refl is_step refl refl refl refl rest,
+        after.3,
         (t, goes', fits.shows),
         found_at table.words r.history r.goes r.words k e d refl z.1,
       ),
@@ -296,17 +284,11 @@ takes_add slots id k version v c now table r full at fits =
     let t = takes_found id k v version c table r at now (is_open n version) (word_tells table.words s k version kept r.words z.1) in
     (t.0, t.1, t.2, t.3, t.4, t.5, subst (λ (x : Worker). TakesAs v c x n (t.0, carried_after c t.1)) (sym now) t.6)
 
-takes_as : (slots id k : ℕ) (u : View) (c : List (ℕ × Option Edition)) → HasLooked k u
-    → Allows KeepsRule slots id (u, c) (k + 1) (λ n. (n + 1) % 18446744073709551616) (Takes (u, c))
-takes_as slots id k (View.Loading l) c has = absurd has
-takes_as slots id k (View.Noting x') c has = absurd has
-takes_as slots id k View.Spent c has = absurd has
-takes_as slots id k (View.Working v) c has =
+pub takings : (slots id k : ℕ) (me : SeatAndSlots) → HasLooked k me.0 → Allows KeepsRule slots id me (k + 1) (λ n. (n + 1) % 18446744073709551616) (Takes me)
+takings slots id k (View.Working v, c) has =
     allows slots id (View.Working v, c) (k + 1) (λ n. (n + 1) % 18446744073709551616) (Event.Take v.number)
     (λ n. cond (is_open n has.0) (Reply.Holds has.0) Reply.Late) (Takes (View.Working v, c)) (takes_add slots id k has.0 v c has.1)
-
-pub takings : (slots id k : ℕ) (me : SeatAndSlots) → HasLooked k me.0 → Allows KeepsRule slots id me (k + 1) (λ n. (n + 1) % 18446744073709551616) (Takes me)
-takings slots id k me has = takes_as slots id k me.0 me.1 has
+takings slots id k (_, c) has = absurd has
 
 -- a worker leaves the shelf k, and something is done with the slots
 leaves_with : (id k : ℕ) (v : WorkerView) (table : Table (Option Edition) View) (r : KeepsRule table)
@@ -345,8 +327,8 @@ leaves_with id k v table r at stays c a small slots =
       after.0,
       after.1,
       after.2,
-      next_happened table r id v v' at refl e reply t refl is_step refl refl refl refl rest,
-      (t, next_goes table r id v v' at refl e reply t refl is_step refl refl refl refl rest, fits.shows),
+      after.3,
+      (t, after.4, fits.shows),
     )
 
 pub leaves_add : LeavesAdd
@@ -359,19 +341,12 @@ leaves_add slots id k v c late table r full at small =
     Worker.Idle here (λ j x q. cc) (λ j x q. cc) r.slots) in
     (View.Working (gone v t.0), keeps, tt, t.1, t.2, t.3, (t.0, refl, t.4, t.5))
 
-leaves_as : (slots id k : ℕ) (u : View) (c : List (ℕ × Option Edition)) → IsLate k u
-    → Allows KeepsRule slots id (u, c) (k + 1) (λ n. (n + (18446744073709551616 - 1)) % 18446744073709551616)
-    (λ _. Leaves (u, c))
-leaves_as slots id k (View.Loading l) c late = absurd late
-leaves_as slots id k (View.Noting x') c late = absurd late
-leaves_as slots id k View.Spent c late = absurd late
-leaves_as slots id k (View.Working v) c late =
-    allows slots id (View.Working v, c) (k + 1) (λ n. (n + (18446744073709551616 - 1)) % 18446744073709551616) (Event.Drop v.number)
-    (λ _. Reply.Dropped) (λ _. Leaves (View.Working v, c)) (leaves_add slots id k v c late)
-
 pub leavings : (slots id k : ℕ) (me : SeatAndSlots) → IsLate k me.0
     → Allows KeepsRule slots id me (k + 1) (λ n. (n + (18446744073709551616 - 1)) % 18446744073709551616) (λ _. Leaves me)
-leavings slots id k me late = leaves_as slots id k me.0 me.1 late
+leavings slots id k (View.Working v, c) late =
+    allows slots id (View.Working v, c) (k + 1) (λ n. (n + (18446744073709551616 - 1)) % 18446744073709551616) (Event.Drop v.number)
+    (λ _. Reply.Dropped) (λ _. Leaves (View.Working v, c)) (leaves_add slots id k v c late)
+leavings slots id k (_, c) late = absurd late
 
 -- the shelf that a worker holds
 pub held_on : (shelves : List Shelf) (k version : ℕ) → version_on shelves k ≡ Some version
@@ -389,13 +364,9 @@ fills : (y : Shelf) (images : List ImageValue) (before ws : List Worker) (hand :
     (edition : Option Edition) → version_of y ≡ Some version → IsEdition images version edition
     → ((x : ℕ) → slice_get ws w ≢ Some (Worker.Holding k x)) → SlotFits images before hand y k w slot
     → SlotFits images ws hand y k w (some (some edition))
-fills Shelf.Free images before ws hand k w version slot edition e its away was = absurd (cc)
-fills (Shelf.Open v) images before ws hand k w version slot edition e its away was =
-    let same : version ≡ v = cc in
-    (was.0, inl (edition, refl, subst (λ n. IsEdition images n edition) same its, away v))
-fills (Shelf.Closing v) images before ws hand k w version slot edition e its away was =
-    let same : version ≡ v = cc in
-    (was.0, inl (edition, refl, subst (λ n. IsEdition images n edition) same its, away v))
+fills y images before ws hand k w version slot edition e its away was =
+    filled_fits images ws hand y k w version (some (some edition)) e (slot_filled images before hand y k w version slot e was).0
+    (inl (edition, refl, its, away version))
 
 pub gives_add : GivingsAdd
 gives_add slots id k version v many now table r full at small =
@@ -416,13 +387,9 @@ gives_add slots id k version v many now table r full at small =
     (get_elem? table.homes (16 * k + w)) v.edition stands.2 its away (r.slots k w stands.0 stands.1 z.0)) r.slots) in
     (View.Working (gone v t.0), gives, tt, t.1, t.2, t.3, (t.0, refl, t.4, t.5))
 
-givings_as : (slots id k : ℕ) (u : View) (c : List (ℕ × Option Edition)) → slots ≡ 128 → HoldsOut k u c
-    → Allows KeepsRule slots id (u, c) (k + 1) (λ n. (n + (18446744073709551616 - 1)) % 18446744073709551616)
-    (λ _. GivesBack (u, c))
-givings_as slots id k (View.Loading l) c many h = absurd h
-givings_as slots id k (View.Noting x') c many h = absurd h
-givings_as slots id k View.Spent c many h = absurd h
-givings_as slots id k (View.Working v) c many h =
+pub givings : (slots id k : ℕ) (me : SeatAndSlots) → slots ≡ 128 → HoldsOut k me.0 me.1
+    → Allows KeepsRule slots id me (k + 1) (λ n. (n + (18446744073709551616 - 1)) % 18446744073709551616) (λ _. GivesBack me)
+givings slots id k (View.Working v, c) many h =
     subst (λ (x : List (ℕ × Option Edition)). Allows KeepsRule slots id (
       View.Working v,
       x,
@@ -431,8 +398,4 @@ givings_as slots id k (View.Working v) c many h =
     (allows slots id (View.Working v, (16 * k + v.number, v.edition) ∷ []) (k + 1)
     (λ n. (n + (18446744073709551616 - 1)) % 18446744073709551616) (Event.Drop v.number) (λ _. Reply.Dropped)
     (λ _. GivesBack (View.Working v, (16 * k + v.number, v.edition) ∷ [])) (gives_add slots id k h.0 v many h.1))
-
-pub givings : (slots id k : ℕ) (me : SeatAndSlots) → slots ≡ 128 → HoldsOut k me.0 me.1
-    → Allows KeepsRule slots id me (k + 1) (λ n. (n + (18446744073709551616 - 1)) % 18446744073709551616)
-    (λ _. GivesBack me)
-givings slots id k me many h = givings_as slots id k me.0 me.1 many h
+givings slots id k (_, c) many h = absurd h

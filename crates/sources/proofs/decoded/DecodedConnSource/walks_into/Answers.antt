@@ -12,10 +12,6 @@ returns-clause-order c =
     let first : c.index.result.now ≡ get_or s.starts.items stop 0 =
     c.index.ensures ∙ get_or_default_zero s.starts.items stop _ (omega (arith, c.requires, s.indexed.each)) in
     let end : c.index-2.result.now ≡ get_or s.starts.items (stop + 1) 0 =
-    c.index-2.ensures ∙ get_or_default_zero s.starts.items (stop + 1) _ (omega (
-      arith,
-      c.requires,
-      s.indexed.each,
-    )) in
+    c.index-2.ensures ∙ get_or_default_zero s.starts.items (stop + 1) _ (omega (arith, c.requires, s.indexed.each)) in
     let order = start_order t stop _ _ (s.indexed.start stop (omega (arith, c.requires))) (s.indexed.start (stop + 1) (omega (arith, c.requires))) in
     omega (arith, first, end, order)
