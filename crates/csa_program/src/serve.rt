@@ -183,6 +183,16 @@ pub fn run<
     serve_at(rt, &bound, image, &folders, output, errors)
 }
 
+// The largest block whose return glibc's malloc takes note of, less the room that it needs itself.
+const LARGEST_NOTED_BLOCK: usize = 32 * 1024 * 1024 - 65536;
+
+// Lets the process keep memory that is freed, so that the next query needn't have it mapped again: glibc's malloc keeps
+// up to twice the size of the largest block that it saw freed, for each thread. The block itself is never touched.
+fn keep_freed_memory(alloc: Global) {
+    let block: Result<Vec<u8>, AllocError> = Vec::with_capacity(alloc, LARGEST_NOTED_BLOCK);
+    drop(block);
+}
+
 // Serves at the port, while a thread of its own writes what the server's threads report.
 fn serve_at<H: Disk + Explains + Clock + Threads + Wait + Sync, O: Write, E: Write + Send>(
     rt: &H,
@@ -193,6 +203,7 @@ fn serve_at<H: Disk + Explains + Clock + Threads + Wait + Sync, O: Write, E: Wri
     errors: &mut E,
 ) -> u8 {
     let alloc = folders.alloc;
+    keep_freed_memory(alloc);
     let Ok((queue, writer)) = LineQueue::new(alloc) else {
         return status::OUT_OF_MEMORY;
     };
