@@ -1,7 +1,7 @@
 -- What nodes spell, from one node to the next.
 use Rattle.std.proofs.Common.{◌≡◌, ℕ, suc, ◌+◌, ◌<◌, ◌≤◌, List, [], ◌∷◌, ◌++◌, length, slice_get, Option, Some, None, MatchOption, refl, sym, ◌∙◌, ap}
 use Rattle.std.proofs.Common.{Contains}
-use Rattle.std.proofs.Common.{subst, inl, inr, arith}
+use Rattle.std.proofs.Common.{subst, inl, inr}
 use Rattle.std.proofs.lemmas.Option.{slice_get_cases, same_Some}
 use Rattle.reasoning.proofs.ListLemmas.{contains_at}
 use Rattle.criteria.specs.Laws.{Rules}
@@ -265,9 +265,6 @@ pub record AreBetween (nodes : List Node) (from number rides : ℕ) : Type 0 whe
   pub room : rides + number ≤ from
   pub same : (x : Aboard) → (spelled nodes from).aboard ≡ Some x
       → (y : Aboard) × ((spelled nodes number).aboard ≡ Some y) × (length x.rides ≡ rides + length y.rides)
-
-pub none_between : (nodes : List Node) (from : ℕ) → AreBetween nodes from from 0
-none_between nodes from = record { room = omega arith; same = λ x e. (x, e, omega arith) }
 
 one_less : (last first : ℕ) (walk : Footpath) (o : Option Aboard) (y : Aboard) → changed_at last (boarded_after walk first o) ≡ Some y
     → (z : Aboard) × (o ≡ Some z) × (length y.rides ≡ suc (length z.rides))

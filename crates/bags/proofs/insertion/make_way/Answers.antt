@@ -1,5 +1,5 @@
 use Rattle.std.proofs.Common.{sym, subst}
-use Rattle.bags.specs.Arrangement.{AreFalling, AreLater}
+use Rattle.bags.specs.Arrangement.{AreFalling}
 use Rattle.bags.proofs.Entries.{falling_in, admitted_in}
 use Rattle.bags.proofs.Insertions.{points_left}
 use Rattle.bags.proofs.OneInsertion.{way_made}
@@ -8,10 +8,6 @@ use Rattle.bags.proofs.insertion.make_way.Goals as goal
 pub count_after-first-requires : goal.count_after-first-requires
 count_after-first-requires g c = subst AreFalling (sym c.deref.ensures.value)
     (falling_in (g.C.Criterion.rules c.args.criterion.now) c.args.entries.now.items c.requires.arranged.listed)
-
-pub drop_dominated-requires-clause-later : goal.drop_dominated-requires-clause-later
-drop_dominated-requires-clause-later g c =
-    subst (λ es. AreLater es c.args.point.now.departure c.count_after-first.result) c.deref.ensures.value c.count_after-first.ensures
 
 pub drop_dominated-requires-clause-admitted : goal.drop_dominated-requires-clause-admitted
 drop_dominated-requires-clause-admitted g c = admitted_in (g.C.Criterion.rules c.args.criterion.now) c.args.entries.now.items c.requires.arranged.bag

@@ -1,12 +1,6 @@
-use Rattle.std.proofs.Common.{◌≤◌, length, sym, subst}
-use Rattle.bags.specs.Arrangement.{AwaitPoint}
+use Rattle.std.proofs.Common.{◌≤◌, length, subst}
 use Rattle.bags.proofs.OneInsertion.{admitted_new, linked_new, put_new, listed_new}
 use Rattle.bags.proofs.insertion.put_in.Goals as goal
-
-pub index_of-index-requires : goal.index_of-index-requires
-index_of-index-requires g c = record {
-  ready = subst (λ es. AwaitPoint (g.C.Criterion.rules c.args.criterion.now) es c.args.first c.args.point) (sym c.deref.ensures.value) c.requires.ready;
-}
 
 pub link-requires-clause-admitted : goal.link-requires-clause-admitted
 link-requires-clause-admitted g c =

@@ -1,5 +1,5 @@
 use Rattle.std.proofs.Math.Logic.{∥∥₁_map}
-use Rattle.profile_scan.specs.Found.{criterion_between, listed_between, nodes_between, query_between, timetable_between}
+use Rattle.profile_scan.specs.Found.{criterion_between, nodes_between, query_between, timetable_between}
 use Rattle.profile_scan.specs.Nodes.{spelled}
 use Rattle.journeys.proofs.SpellLemmas.{some_is, none_is, between_answers_its_own, between_attains, between_always_spelled}
 use Rattle.journeys.proofs.extraction.extract_between.Goals as goal
