@@ -175,14 +175,6 @@ module _ {V : Type 0} (rules : Rules V) where
     })
   ]
 
-  pub late_each : (points : List (Point V)) (from until time : ℕ) (old new : List V)
-      → ((k : ℕ) (p : Point V) → until ≤ k → slice_get points k ≡ Some p → p.departure < time) → TakesPoints rules points from until old new
-      → (k : ℕ) (p : Point V) → from ≤ k → slice_get points k ≡ Some p → time ≤ p.departure → any_no_worse rules new p.value ≡ true
-  late_each points from until time old new rest takes k p low at late = elim (cases_lt k until) [
-    | inl lt ↦ takes.each k p low lt at
-    | inr ge ↦ (let early = rest k p (omega arith) at in absurd (omega arith))
-  ]
-
 -- a bag's points stand by falling departure
 pub falls : {V : Type 0} (rules : Rules V) (points : List (Point V)) → AreListed rules points → (i j : ℕ) (p q : Point V)
     → i ≤ j → slice_get points i ≡ Some p → slice_get points j ≡ Some q → q.departure ≤ p.departure

@@ -15,6 +15,7 @@ use Rattle.profile_scan.specs.ScanState.{AreStops}
 use Rattle.fronts.specs.Labels.{HasTrip}
 use Rattle.fronts.specs.Lists.{steps_of}
 use Rattle.profile_scan.specs.SetQuery.{SetQueryValue}
+use Rattle.profile_scan.specs.declared.starts.Starts.{Starts}
 use Rattle.profile_scan.specs.declared.stops.Stops.{Stops}
 use Rattle.profile_scan.specs.declared.hop.Hop.{Hop}
 use Rattle.profile_scan.specs.declared.origin.Origin.{Origin}
@@ -53,8 +54,8 @@ module _ {K V : Type 0} (rules_of : K → Rules V) (criterion : K) (count : ℕ)
   }
 
 -- a hop of a timetable within the limits is of times and seconds that laws speak of
-pub hop_within : {V : Type 0} (rules : Rules V) (t : TimetableValue) → IsWithinLimits t → (q : SetQueryValue) (hop : Hop V) → IsHopOf rules t q hop
-    → IsHop rules q hop
+pub hop_within : {V : Type 0} {starts : Starts} (rules : Rules V) (t : TimetableValue) → IsWithinLimits t → (q : SetQueryValue) (hop : Hop V)
+    → IsHopOf rules t q starts hop → IsHop rules q hop
 hop_within rules t limits q hop is = record {
   arrival = subst (λ (x : Connection). IsTime x.arr) (sym is.stands.is) (arrival_limit t limits hop.place is.stands.in_range);
   by = is.by;

@@ -16,6 +16,7 @@ use Rattle.profile_scan.specs.ScanRecords.{SourceValue, scan_records, spelling_o
 use Rattle.profile_scan.specs.Adding.{changes_from, endings, endings_and_changes, label_points, only_if, trip_points}
 use Rattle.profile_scan.specs.ScanState.{scan_value_of, points_at, scan_records_of}
 use Rattle.profile_scan.specs.Hops.{IsHop, IsHopOf}
+use Rattle.profile_scan.specs.declared.starts.Starts.{Starts}
 use Rattle.fronts.specs.Labels.{HasTrip}
 use Rattle.profile_scan.specs.Parts.{SourceTakes, StopTakes, TripTakes}
 use Rattle.profile_scan.specs.LawStatements.{CanScan}
@@ -127,7 +128,7 @@ boarded_none rules t sources kept q hop labels state none = record {
 
 -- so a connection's step is made
 module _ {K V O : Type 0} (rules : Rules V) (laws : Laws rules) (t : TimetableValue) (q : SetQueryValue) (can : CanScan t q)
-    (sources : List ℕ → ℕ → List ℕ) (kept : O → ℕ → SourceValue V) (hop : Hop V) (is_hop : IsHopOf rules t q hop) where
+    (sources : List ℕ → ℕ → List ℕ) (kept : O → ℕ → SourceValue V) (starts : Starts) (hop : Hop V) (is_hop : IsHopOf rules t q starts hop) where
   pub is_step : (old new : State K O V) → HasLeft rules q hop old.stops old.trips new.trips
       → HasBoarded rules t sources kept q hop (trip_points new.trips.labels hop.connection.trip)
       (record { trips = new.trips; stops = old.stops; origin = old.origin }) new

@@ -1,5 +1,5 @@
 -- What a scan leaves out because of its bound. The bound has values of points found, none of which departs earlier than the connections to come.
-use Rattle.std.specs.Prelude.{◌≡◌, ◌⊎◌, ℕ, ◌<◌, ◌≤◌, Bool, true, false, not, List, filter, Contains, slice_get, Some}
+use Rattle.std.specs.Prelude.{◌≡◌, ◌⊎◌, ℕ, ◌<◌, ◌≤◌, Bool, true, false, not, List, filter, length, Contains, slice_get, Some}
 use Rattle.std.specs.List.{list_any}
 use Rattle.criteria.specs.Laws.{Rules, Admits, RidingWorsens}
 use Rattle.bags.specs.declared.point.Point.{Point}
@@ -35,15 +35,12 @@ pub record IsRenewed {V : Type 0} (rules : Rules V) (found : List (Point V)) (ti
   pub only : (b : V) → Contains new b → Contains old b ⊎ IsLateValue rules found time b
   pub kept : (v : V) → Admits rules v → any_no_worse rules old v ≡ true → any_no_worse rules new v ≡ true
 
--- the same; and from index `from` on, exactly the points before `until` depart at the time or later, and for each of these one of the new values is no worse
-pub record ReadsLate {V : Type 0} (rules : Rules V) (found : List (Point V)) (from time until : ℕ) (old new : List V)
-    : Type 0 where
-  pub only : (b : V) → Contains new b → Contains old b ⊎ IsLateValue rules found time b
-  pub kept : (v : V) → Admits rules v → any_no_worse rules old v ≡ true → any_no_worse rules new v ≡ true
-  pub each : (k : ℕ) (p : Point V) → from ≤ k → slice_get found k ≡ Some p → time ≤ p.departure
-      → any_no_worse rules new p.value ≡ true
-  pub late : (k : ℕ) (p : Point V) → from ≤ k → k < until → slice_get found k ≡ Some p → time ≤ p.departure
-  pub rest : (k : ℕ) (p : Point V) → until ≤ k → slice_get found k ≡ Some p → p.departure < time
+-- from index `begin` on, exactly the points before `until` depart at a time or later
+pub record AreLateUntil {V : Type 0} (points : List (Point V)) (begin time until : ℕ) : Type 0 where
+  pub from : begin ≤ until
+  pub within : until ≤ length points
+  pub late : (k : ℕ) (p : Point V) → begin ≤ k → k < until → slice_get points k ≡ Some p → time ≤ p.departure
+  pub rest : (k : ℕ) (p : Point V) → until ≤ k → slice_get points k ≡ Some p → p.departure < time
 
 -- a value is added to others: nothing else is; if one of the old values was no worse than v, so is one of the new; and one of the new is no worse than the
 -- value

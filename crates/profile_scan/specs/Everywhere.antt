@@ -16,8 +16,9 @@ use Rattle.profile_scan.specs.Matching.{IsAttained}
 use Rattle.profile_scan.specs.ScanRecords.{ScanRecords, spelling_of}
 use Rattle.profile_scan.specs.ScanState.{IsDirectSecs, scan_records_of, walk_by, final_walks_of}
 use Rattle.profile_scan.specs.Destinations.{query_from, question_to}
-use Rattle.profile_scan.specs.Origins.{AreOrigins, from_stop, scan_value_from}
+use Rattle.profile_scan.specs.Origins.{AreOrigins, found_from, from_stop, scan_value_from}
 use Rattle.profile_scan.specs.declared.destination.Destination.{Destination}
+use Rattle.profile_scan.specs.declared.origins.Origins.{Origins}
 use Rattle.profile_scan.specs.declared.profiles.Profiles.{Profiles}
 use Rattle.profile_scan.specs.declared.to_any.ProfilesToAny.{ProfilesToAny}
 
@@ -34,6 +35,11 @@ pub record AreInOrder {V : Type 0} (rules : Rules V) (found points : List (Point
 abbrev pub points_in : {V : Type 0} → Option (Vec (Point V)) → List (Point V)
 points_in None = []
 points_in (Some points) = points.items
+
+-- lists are the points found from each stop, in order
+pub record AreStopLists {K V : Type 0} {c : _} (rules : Rules V) (origins : Origins K V c) (listed : List (Vec (Point V))) : Type 0 where
+  pub long : length listed ≡ length origins.each.items
+  pub lists : (stop : ℕ) → AreInOrder rules (found_from origins stop) (points_in (slice_get listed stop))
 
 -- the points of a stop, in order
 abbrev pub listed_to_any : {K V : Type 0} {c : _} → ProfilesToAny K V c → ℕ → List (Point V)

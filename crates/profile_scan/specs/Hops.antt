@@ -20,6 +20,11 @@ pub record IsAsked {K : Type 0} (t : TimetableValue) (asked : ScanQuery K) : Typ
   pub starts : AreStarts t (question asked.query).sources asked.starts
   pub final_walks : AreFinalWalks t (question asked.query).targets (final_walks_of asked.final_walks)
 
+-- the same of a query, by a criterion
+pub record Asks {K : Type 0} (t : TimetableValue) (criterion : K) (q : SetQueryValue) (scan : ScanQuery K) : Type 0 where
+  pub asked : IsAsked t scan
+  pub keeps : (scan.criterion ≡ criterion) × (question scan.query ≡ q)
+
 -- the indices from `start` on, before `end`, which is the first of a connection that departs at the latest arrival or later
 pub record IsWindow {K : Type 0} (t : TimetableValue) (asked : ScanQuery K) (start end : ℕ) : Type 0 where
   pub can_ask : IsAsked t asked
@@ -44,11 +49,12 @@ pub record KnowsSources {V : Type 0} (sources : List ℕ) (hop : Hop V) (starts 
   pub within : IfSome start (λ walk. walk.from < length starts.leads.items)
   pub says : (stop : ℕ) (lead : StopAccess) → slice_get starts.leads.items stop ≡ Some lead → SaysSource sources stop lead.here
 
--- the connection is at its index, it is known whether it begins at a source and whether a footpath leads there from one, and the way leads from where it ends
--- to a target
-pub record IsHopOf {V : Type 0} (rules : Rules V) (t : TimetableValue) (q : SetQueryValue) (hop : Hop V) : Type 0 where
+-- the connection is at its index, the starts lead from the sources, it is known whether it begins at a source and whether a footpath leads there from
+-- one, and the way leads from where it ends to a target
+pub record IsHopOf {V : Type 0} (rules : Rules V) (t : TimetableValue) (q : SetQueryValue) (known : Starts) (hop : Hop V) : Type 0 where
   pub stands : StandsAt t hop.place hop.connection
   pub by : IsTime q.by
+  pub starts : AreStarts t q.sources known
   pub access : IsStopAccess t q.sources hop.connection.from hop.access
   pub final_walk : IsFinalWalk t q.targets hop.connection.to hop.final_walk
   pub bound : (b : V) → Contains hop.bound.now b → Admits rules b

@@ -1,11 +1,12 @@
 -- Journeys written as nodes.
-use Rattle.std.specs.Prelude.{◌≡◌, ℕ, List, [], ◌∷◌, Option, Some, None, slice_get, Contains}
+use Rattle.std.specs.Prelude.{◌≡◌, ℕ, List, [], ◌∷◌, Option, Some, None, map, slice_get, Contains}
 use Rattle.bags.specs.declared.point.Point.{Point}
 use Rattle.timetable.specs.declared.network.Footpath.{Footpath}
 use Rattle.timetable.specs.JourneyValue.{JourneyValue}
 use Rattle.fronts.specs.declared.entry.Step.{Step}
 use Rattle.profile_scan.specs.Continuations.{Aboard}
 use Rattle.profile_scan.specs.Nodes.{spelling}
+use Rattle.profile_scan.specs.Points.{untagged}
 use Rattle.profile_scan.specs.ScanRecords.{ScanRecords, spelling_of}
 use Rattle.profile_scan.specs.declared.nodes.Node.{Node}
 use Rattle.profile_scan.specs.declared.journey_nodes.Change.{Change}
@@ -66,3 +67,8 @@ pub record IsSpelledAgain {V : Type 0} (walks : List Footpath) (s : ScanRecords)
   pub departs : p.departure ≡ of.departure
   pub worth : p.value ≡ of.value
   pub says : SaysJourney walks s of.tag nodes p.tag
+
+-- the points are these, and the nodes say the same journeys for them
+pub record AreSpelledAgain {V : Type 0} (walks : List Footpath) (s : ScanRecords) (points spelled : List (Point V)) (nodes : List Node) : Type 0 where
+  pub same : map untagged spelled ≡ map untagged points
+  pub says : (p : Point V) → Contains spelled p → IsSpelledAgain walks s points nodes p

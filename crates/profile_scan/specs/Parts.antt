@@ -1,6 +1,6 @@
 -- What each part of a scan's state takes in at a connection, and what it keeps.
-use Rattle.std.specs.Prelude.{◌≡◌, ℕ, List, Contains, slice_get, Some}
-use Rattle.criteria.specs.Laws.{Rules, Admits}
+use Rattle.std.specs.Prelude.{◌≡◌, ◌≢◌, ◌<◌, ℕ, List, Contains, slice_get, vec_len, Option, Some, IfSome}
+use Rattle.criteria.specs.Laws.{Rules, Admits, IsSecs}
 use Rattle.bags.specs.Bag.{criterion_of}
 use Rattle.bags.specs.declared.point.Point.{Point}
 use Rattle.timetable.specs.declared.network.Footpath.{Footpath}
@@ -18,11 +18,12 @@ use Rattle.profile_scan.specs.Adding.{Takes, IsRelabelled, AreRidden, StandsBetw
 use Rattle.profile_scan.specs.Adding.{label_points, trip_points}
 use Rattle.profile_scan.specs.ScanRecords.{SourceValue, scan_records}
 use Rattle.profile_scan.specs.Hops.{IsHop}
-use Rattle.profile_scan.specs.Origins.{kept_of}
+use Rattle.profile_scan.specs.Origins.{AreUnder, ChangesOrigins, kept_of, scan_value_from}
 use Rattle.profile_scan.specs.ScanState.{AreStops, points_at}
 use Rattle.profile_scan.specs.SetQuery.{SetQueryValue}
 use Rattle.profile_scan.specs.declared.hop.Hop.{Hop}
 use Rattle.profile_scan.specs.declared.origin.Origin.{Origin}
+use Rattle.profile_scan.specs.declared.origins.Origins.{Origins}
 use Rattle.profile_scan.specs.declared.stops.Stops.{Stops}
 use Rattle.profile_scan.specs.declared.scan_records.Exit.{Exit}
 use Rattle.profile_scan.specs.declared.scan_records.SetOut.{SetOut}
@@ -65,6 +66,34 @@ pub record OriginTakes {A K V : Type 0} {c : _} (rules_of : K → Rules V) (crit
     (old new : Origin K V c) : Type 0 where
   pub origin : ChangesOrigin criterion old new
   pub takes : (walks : List Footpath) → SourceTakes (rules_of criterion) walks offer (kept_of old) (kept_of new)
+
+-- a start may be tried with the labels of a trip: its seconds and their values are within what the laws are about, and the points found are under the criterion
+pub record CanSetOut {K V : Type 0} {c : _} (rules_of : K → Rules V) (criterion : K) (start : Option Footpath) (of_trip : List (Label V))
+    (origin : Origin K V c) : Type 0 where
+  pub secs : IfSome start (λ walk. IsSecs walk.secs)
+  pub found : criterion_of origin.found ≡ criterion
+  pub labels : AdmitsLabels (rules_of criterion) of_trip
+
+-- the same from one of several stops
+pub record CanSetOutFrom {K V : Type 0} {c : _} (rules_of : K → Rules V) (criterion : K) (from : ℕ) (start : Option Footpath) (of_trip : List (Label V))
+    (kept : Origins K V c) : Type 0 where
+  pub secs : IfSome start (λ walk. IsSecs walk.secs)
+  pub stop : from < vec_len kept.each
+  pub origins : AreUnder criterion kept
+  pub labels : AdmitsLabels (rules_of criterion) of_trip
+
+-- the points found from a stop take an offer in, and those from others stay
+pub record StopSourceTakes {A K V : Type 0} {c : _} (rules_of : K → Rules V) (criterion : K) (stop : ℕ) (offer : Spellings → Offer A V)
+    (old new : Origins K V c) : Type 0 where
+  pub origins : ChangesOrigins criterion old new
+  pub takes : (walks : List Footpath) → SourceTakes (rules_of criterion) walks offer (scan_value_from old stop) (scan_value_from new stop)
+  pub others : (other : ℕ) → other ≢ stop → slice_get new.each.items other ≡ slice_get old.each.items other
+
+-- the points found from each stop take its offer in
+pub record OriginsTake {A K V : Type 0} {c : _} (rules_of : K → Rules V) (criterion : K) (offer : ℕ → Spellings → Offer A V)
+    (old new : Origins K V c) : Type 0 where
+  pub origins : ChangesOrigins criterion old new
+  pub takes : (walks : List Footpath) (stop : ℕ) → SourceTakes (rules_of criterion) walks (offer stop) (scan_value_from old stop) (scan_value_from new stop)
 
 -- `count` stops, and the ridden values are admitted
 pub record AreReady {K V : Type 0} (rules_of : K → Rules V) (criterion : K) (count : ℕ)

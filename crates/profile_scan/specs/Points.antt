@@ -1,6 +1,6 @@
 -- The points of a query, and its answer. (Pareto dominance, as in the Connection Scan Algorithm's profiles; the window
 -- is our own.)
-use Rattle.std.specs.Prelude.{◌≡◌, ◌⊎◌, ◌↔◌, ◌&&◌, ◌||◌, ◌==◌, ℕ, ◌<◌, ◌≤◌, Bool, nat_lt, List, Contains, AllPairs}
+use Rattle.std.specs.Prelude.{◌≡◌, ◌⊎◌, ◌↔◌, ◌&&◌, ◌||◌, ◌==◌, ℕ, ◌<◌, ◌≤◌, Bool, nat_lt, List, Contains, AllPairs, length, slice_index_or}
 use Rattle.std.specs.Ordering.{is_lt}
 use Rattle.std.specs.declared.cmp.Ordering.TheVariants.{Less}
 use Rattle.criteria.specs.Laws.{Rules, Admits, NoWorse}
@@ -62,3 +62,14 @@ pub record CanPut {V : Type 0} (rules : Rules V) (points : List (Point V)) (poin
   pub admitted : (p : Point V) → Contains points p → Admits rules p.value
   pub value : Admits rules point.value
   pub comparable : (p : Point V) → Contains points p → Before rules p point ⊎ Before rules point p
+
+-- the index at which to put the point
+pub record IsIndexFor {V : Type 0} (rules : Rules V) (points : List (Point V)) (point : Point V) (index : ℕ) : Type 0 where
+  pub within : index ≤ length points
+  pub before : (k : ℕ) (d : Point V) → k < index → Before rules (slice_index_or points k d) point
+  pub after : (k : ℕ) (d : Point V) → index ≤ k → k < length points → Before rules point (slice_index_or points k d)
+
+-- the point is put among them
+pub record IsPut {V : Type 0} (rules : Rules V) (point : Point V) (old new : List (Point V)) : Type 0 where
+  pub ordered : AllPairs (Before rules) new
+  pub put : (p : Point V) → Contains new p ↔ ((point ≡ p) ⊎ Contains old p)

@@ -1,5 +1,5 @@
 -- What the vectors of a scan keep for each stop and each trip.
-use Rattle.std.specs.Prelude.{◌≡◌, ◌⊎◌, ℕ, ◌<◌, ◌≤◌, List, length, vec_len, Contains, slice_get, slice_index, slice_index_or}
+use Rattle.std.specs.Prelude.{◌≡◌, ◌⊎◌, ℕ, ◌<◌, ◌≤◌, List, [], length, vec_len, Contains, slice_get, slice_index, slice_index_or}
 use Rattle.std.specs.Prelude.{Option, Some, None, Bool, true, false, nat_le, map}
 use Rattle.bags.specs.declared.point.Point.{Point}
 use Rattle.timetable.specs.declared.network.Footpath.{Footpath}
@@ -18,6 +18,7 @@ use Rattle.profile_scan.specs.Matching.{Matches, ScanValue}
 use Rattle.profile_scan.specs.ScanRecords.{SourceValue, ScanRecords, scan_records, spelling_of}
 use Rattle.profile_scan.specs.declared.last_offers.LastOffer.{LastOffer}
 use Rattle.profile_scan.specs.declared.stops.Stops.{Stops}
+use Rattle.profile_scan.specs.declared.trips.Trips.{Trips}
 use Rattle.profile_scan.specs.Bound.{AreBounds}
 use Rattle.profile_scan.specs.declared.scan.Scan.{Scan}
 use Rattle.profile_scan.specs.declared.scan.State.{State}
@@ -33,6 +34,11 @@ pub record IsLastOffer {V : Type 0} (rules : Rules V) (points : List (Point V)) 
   pub admitted : Admits rules offered.value
   pub covers : (time : ℕ) → time < offered.before → IsCovered rules points time offered.value
 
+-- the records of `count` stops that were offered nothing
+pub record AreNewOffers {V : Type 0} (rules : Rules V) (count : ℕ) (offers : List (LastOffer V)) : Type 0 where
+  pub long : length offers ≡ count
+  pub none : (k : ℕ) (offered : LastOffer V) → slice_get offers k ≡ Some offered → (offered.before ≡ 0) × Admits rules offered.value
+
 -- `count` lists under a criterion, each with a right `LastOffer`
 pub record AreStops {K V : Type 0} (rules_of : K → Rules V) (criterion : K) (count : ℕ)
     (stops : Stops K V) : Type 0 where
@@ -43,6 +49,18 @@ pub record AreStops {K V : Type 0} (rules_of : K → Rules V) (criterion : K) (c
   pub many : length stops.offers.items ≡ count
   pub offered : (stop : ℕ) (offered : LastOffer V) → slice_get stops.offers.items stop ≡ Some offered
       → IsLastOffer (rules_of criterion) (points_at stops stop) offered
+
+-- the same before any connection is read
+pub record AreNewStops {K V : Type 0} (rules_of : K → Rules V) (criterion : K) (count : ℕ)
+    (kept : Stops K V) : Type 0 where
+  pub stops : AreStops rules_of criterion count kept
+  pub none : (stop : ℕ) → points_at kept stop ≡ []
+
+-- `count` trips without labels
+pub record AreNewTrips {K V : Type 0} (rules : Rules V) (count : ℕ) (trips : Trips K V) : Type 0 where
+  pub long : trips_of trips.labels ≡ count
+  pub labels : AreLabels rules trips.labels
+  pub none : (trip : ℕ) → trip_points trips.labels trip ≡ []
 
 -- the seconds of the footpath from a stop to the target, if there is one
 abbrev pub IsDirectSecs : TimetableValue → ℕ → ℕ → Option ℕ → Type 0
@@ -112,6 +130,14 @@ pub record IsState {K V O : Type 0} (rules_of : K → Rules V) (IsUnder : K → 
   pub long : trips_of state.trips.labels ≡ trips
   pub labels : AreLabels (rules_of criterion) state.trips.labels
   pub origin : IsUnder criterion stops state.origin
+
+-- the same before any connection is read
+pub record IsNewState {K V O : Type 0} (rules_of : K → Rules V) (IsUnder : K → ℕ → O → Type 0) (kept : O → ℕ → SourceValue V) (criterion : K)
+    (stops trips : ℕ) (new : State K O V) : Type 0 where
+  pub state : IsState rules_of IsUnder criterion stops trips new
+  pub bags : (stop : ℕ) → points_at new.stops stop ≡ []
+  pub labels : (trip : ℕ) → trip_points new.trips.labels trip ≡ []
+  pub found : (index : ℕ) → (kept new.origin index).found ≡ []
 
 -- the shape of a scan that has read the connections of a timetable from an index on: sizes, criterion, and a bound that the points found for each question
 -- outdo. Which points were found, `MatchesFrom` says; the loop of scan_window carries it

@@ -5,7 +5,7 @@ ghost use Rattle.timetable.specs.Queries.{IsAskable};
 ghost use Rattle.profile_scan.specs.SetQuery.{IsAskableBetween, question};
 ghost use Rattle.profile_scan.specs.Window.{window, window_of};
 ghost use Rattle.profile_scan.specs.Found.{Answers, AnswersBetween};
-ghost use Rattle.profile_scan.specs.Hops.{IsAsked};
+ghost use Rattle.profile_scan.specs.Hops.{Asks};
 
 use crate::final_walks::final_walks_to;
 use crate::found::{Found, in_order};
@@ -81,7 +81,8 @@ pub fn profile_between<S: ConnSource, C: Criterion>(
 {
     let start = source.first_at(query.from);
     let end = source.first_at(query.by);
-    let asked = ask(alloc, source, criterion, query)?;
+    let own = query.copy()?;
+    let asked = ask(alloc, source, criterion, own)?;
     let scan = scan_window::<S, C, Origin<C>>(alloc, source, &asked, start..end)?;
     let points = in_order(alloc, criterion, &scan.state.origin.found)?;
     let view = ScanView {
@@ -100,21 +101,18 @@ pub fn profile_between<S: ConnSource, C: Criterion>(
     })
 }
 
-// Makes a scan's query: how one sets out from the sources, and the ways to the targets.
-fn ask<S: ConnSource, C: Criterion>(
+/// Makes a scan's query: how one sets out from the sources, and the ways to the targets.
+pub fn ask<S: ConnSource, C: Criterion>(
     alloc: Global,
     source: &S,
     criterion: &C,
-    query: &SetQuery,
+    query: SetQuery,
 ) -> Result<ScanQuery<C>, AllocError>
-    requires { IsAskableBetween (S.timetable source.now).stops (question query.now) }
-    ensures asked { IfOk result (λ asked. IsAsked (S.timetable source.now) asked) }
-    ensures keeps { IfOk result (λ asked. (asked.criterion ≡ criterion.now)
-        × (question asked.query ≡ question query.now)) }
+    requires { IsAskableBetween (S.timetable source.now).stops (question query) }
+    ensures { IfOk result (Asks (S.timetable source.now) criterion.now (question query)) }
 {
     let starts = starts_from(alloc, source, &query.sources)?;
     let final_walks = final_walks_to(alloc, source, &query.targets)?;
-    let query = query.copy()?;
     Ok(ScanQuery {
         criterion: *criterion,
         query,

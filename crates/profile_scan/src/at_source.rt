@@ -9,7 +9,6 @@ ghost use Rattle.profile_scan.specs.Adding.{label_points};
 ghost use Rattle.profile_scan.specs.Steps.{settings_out};
 ghost use Rattle.profile_scan.specs.Bound.{IsRenewed};
 ghost use Rattle.profile_scan.specs.Hops.{IsHopOf};
-ghost use Rattle.profile_scan.specs.Starts.{AreStarts};
 ghost use Rattle.profile_scan.specs.SetQuery.{asked_from, question};
 ghost use Rattle.profile_scan.specs.Parts.{AdmitsLabels, SourceTakes};
 
@@ -59,8 +58,7 @@ pub trait AtSource<C: Criterion>: Drop {
         labels: &[Label<C::V>],
     ) -> Result<(), AllocError>
         requires hop { IsHopOf (C.rules asked.now.criterion) (S.timetable source.now)
-            (question asked.now.query) hop.now }
-        requires starts { AreStarts (S.timetable source.now) (question asked.now.query).sources asked.now.starts }
+            (question asked.now.query) asked.now.starts hop.now }
         requires under { IsUnder asked.now.criterion (S.timetable source.now).stops self.old }
         requires labels { AdmitsLabels (C.rules asked.now.criterion) labels.now }
         ensures under { OnOk result (IsUnder asked.now.criterion (S.timetable source.now).stops self.new) }

@@ -1,11 +1,10 @@
 //! The bound: values of points found. A stop's point isn't carried on to labels, nor a label to stops, if one of these
 //! values is no worse than its own value with the ride.
 
-ghost use Rattle.std.specs.Prelude.{◌≡◌, ◌⊎◌, ◌<◌, ◌≤◌, ℕ, true, not, filter, length, slice_get, Some, IfOk, OnOk};
-ghost use Rattle.std.specs.Prelude.{Contains};
-ghost use Rattle.criteria.specs.Laws.{Admits, RidingWorsens};
+ghost use Rattle.std.specs.Prelude.{◌≡◌, ◌≤◌, not, filter, length, Contains, OnOk};
+ghost use Rattle.criteria.specs.Laws.{Admits};
 ghost use Rattle.bags.specs.Bag.{criterion_of, points_of};
-ghost use Rattle.profile_scan.specs.Bound.{IsLateValue, TakesPoints, TakesValue, any_no_worse};
+ghost use Rattle.profile_scan.specs.Bound.{AreLateUntil, TakesPoints, TakesValue, any_no_worse};
 
 use bags::Bag;
 use criteria::Criterion;
@@ -30,10 +29,10 @@ pub struct Bound<C: Criterion> {
 }
 
 impl<C: Criterion> Bound<C> {
-    ghost use Rattle.std.specs.Prelude.{◌≡◌, [], Contains, IfOk, OnOk};
-    ghost use Rattle.criteria.specs.Laws.{Admits, RidingWorsens};
+    ghost use Rattle.std.specs.Prelude.{◌≡◌, [], Contains, OnOk};
+    ghost use Rattle.criteria.specs.Laws.{Admits};
     ghost use Rattle.bags.specs.Bag.{criterion_of, points_of};
-    ghost use Rattle.profile_scan.specs.Bound.{IsRenewed, ReadsLate};
+    ghost use Rattle.profile_scan.specs.Bound.{IsRenewed};
 
     /// Makes a bound without values.
     pub fn new(alloc: Global) -> Self
@@ -45,21 +44,6 @@ impl<C: Criterion> Bound<C> {
             index: 0,
             next: 0,
         }
-    }
-
-    // Takes in the values of the points found from index `self.index` on that depart at a time or later. Returns the
-    // index of the first point that departs before it, or the number of points if none does.
-    fn read_late(&mut self, criterion: &C, found: &Bag<C>, time: u32) -> Result<usize, AllocError>
-        requires worsens { RidingWorsens (C.rules criterion.now) }
-        requires found { criterion_of found.now ≡ criterion.now }
-        requires values { (b : _) → Contains self.old.values.items b → Admits (C.rules criterion.now) b }
-        ensures { IfOk result (λ until. ReadsLate (C.rules criterion.now) (points_of found.now)
-            self.old.index time until self.old.values.items self.new.values.items) }
-    {
-        let from = self.index.min(found.len());
-        let until = late_until(found, from, time);
-        take_points(criterion, found, from..until, &mut self.values)?;
-        Ok(until)
     }
 
     /// Adds the values of points found that depart at `time` or later and weren't read yet. `count` is how many points
@@ -85,10 +69,15 @@ impl<C: Criterion> Bound<C> {
         if count == self.count && self.next < time {
             return Ok(());
         }
-        let until = self.read_late(criterion, found, time)?;
         let from = self.index.min(found.len());
+        let until = late_until(found, from, time);
+        take_points(criterion, found, from..until, &mut self.values)?;
         self.index = late_until(found, from, time.saturating_add(1));
-        self.next = departure_at(found, until);
+        self.next = if until < found.len() {
+            found.point(until).departure
+        } else {
+            0
+        };
         self.count = count;
         Ok(())
     }
@@ -102,20 +91,11 @@ pub fn any_no_worse<C: Criterion>(criterion: &C, values: &[C::V], value: &C::V) 
     requires value { Admits (C.rules criterion.now) value.now }
     ensures { result ≡ any_no_worse (C.rules criterion.now) values.now value.now }
 {
-    if criterion.is_total() {
-        return any_no_worse_first(criterion, values, value);
+    if !criterion.is_total() {
+        return some_no_worse(criterion, values, value);
     }
-    some_no_worse(criterion, values, value)
-}
-
-// The same, but the first value is asked before the others. Under a total criterion there are never any others: of two
-// values one is no worse than the other, and only that one is kept.
-#[inline(always)]
-fn any_no_worse_first<C: Criterion>(criterion: &C, values: &[C::V], value: &C::V) -> bool
-    requires values { (b : _) → Contains values.now b → Admits (C.rules criterion.now) b }
-    requires value { Admits (C.rules criterion.now) value.now }
-    ensures { result ≡ any_no_worse (C.rules criterion.now) values.now value.now }
-{
+    // Under a total criterion the first value is the only one: of two values one is no worse than the other, and only
+    // that one is kept.
     let Some((first, others)) = values.split_first() else {
         return false;
     };
@@ -123,15 +103,6 @@ fn any_no_worse_first<C: Criterion>(criterion: &C, values: &[C::V], value: &C::V
         return true;
     }
     some_no_worse(criterion, others, value)
-}
-
-// Whether `other` stays when `value` is added.
-fn stays<C: Criterion>(criterion: &C, value: &C::V, other: &C::V) -> bool
-    requires value { Admits (C.rules criterion.now) value.now }
-    requires other { Admits (C.rules criterion.now) other.now }
-    ensures { result ≡ not ((C.rules criterion.now).no_worse value.now other.now) }
-{
-    !criterion.no_worse(value, other)
 }
 
 // Drops each value that the given one is no worse than.
@@ -143,7 +114,7 @@ fn drop_no_better<C: Criterion>(criterion: &C, values: &mut Vec<C::V>, value: &C
     let mut kept = 0;
     for i in 0..values.len() {
         let other = values[i];
-        if stays(criterion, value, &other) {
+        if !criterion.no_worse(value, &other) {
             values[kept] = other;
             kept += 1;
         }
@@ -173,11 +144,7 @@ fn take_value<C: Criterion>(
 // points are in order of falling departure.
 fn late_until<C: Criterion>(found: &Bag<C>, from: usize, time: u32) -> usize
     requires { from ≤ length (points_of found.now) }
-    ensures from { from ≤ result }
-    ensures within { result ≤ length (points_of found.now) }
-    ensures late { (k : ℕ) (p : _) → from ≤ k → k < result → slice_get (points_of found.now) k ≡ Some p
-        → time ≤ p.departure }
-    ensures rest { (k : ℕ) (p : _) → result ≤ k → slice_get (points_of found.now) k ≡ Some p → p.departure < time }
+    ensures { AreLateUntil (points_of found.now) from time result }
 {
     for index in from..found.len() {
         if found.point(index).departure < time {
@@ -207,15 +174,4 @@ fn take_points<C: Criterion>(
         take_value(criterion, point.value, values)?;
     }
     Ok(())
-}
-
-// The departure of the point at an index, or 0 past the last.
-fn departure_at<C: Criterion>(found: &Bag<C>, index: usize) -> u32
-    ensures there { (p : _) → slice_get (points_of found.now) index ≡ Some p → result ≡ p.departure }
-    ensures past { length (points_of found.now) ≤ index → result ≡ 0 }
-{
-    if index >= found.len() {
-        return 0;
-    }
-    found.point(index).departure
 }

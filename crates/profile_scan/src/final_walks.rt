@@ -1,10 +1,10 @@
 //! The footpaths to a query's targets.
 
-ghost use Rattle.std.specs.Prelude.{◌≡◌, ◌+◌, ◌<◌, ℕ, IfOk, Contains, MatchBool, None, length, map, replicate};
+ghost use Rattle.std.specs.Prelude.{◌≡◌, ◌+◌, ◌<◌, ℕ, IfOk, Contains, MatchBool, None, length, map};
 ghost use Rattle.std.specs.Prelude.{slice_index_or};
 ghost use Rattle.criteria.specs.Laws.{IsSecs};
 ghost use Rattle.profile_scan.specs.ScanState.{AreFinalWalks, final_walk_in, final_walks_of};
-ghost use Rattle.profile_scan.specs.Nearest.{AreNearest, IsDoneTo, Replaces, TakesWalk, no_entry, shorter_of};
+ghost use Rattle.profile_scan.specs.Nearest.{AreNearest, IsDoneTo, Replaces, TakesWalk, shorter_of};
 
 use fronts::copies;
 use sources::ConnSource;
@@ -158,20 +158,14 @@ pub fn final_walks_to<S: ConnSource>(
     ensures { IfOk result (λ final_walks. AreFinalWalks (S.timetable source.now) targets.now
         (final_walks_of final_walks)) }
 {
-    let mut entries = no_final_walks(alloc, source.stops() as usize)?;
-    for k in 0..targets.len() {
-        take_target(source, targets, k, &mut entries);
-    }
-    Ok(FinalWalks { entries })
-}
-
-// Returns the entries of `stops` stops without a footpath.
-fn no_final_walks(alloc: Global, stops: usize) -> Result<Vec<FinalWalk>, AllocError>
-    ensures { IfOk result (λ entries. entries.items ≡ replicate stops no_entry) }
-{
+    // no footpath takes as long
     let none = FinalWalk {
         to: 0,
         secs: u32::MAX,
     };
-    copies(alloc, none, stops)
+    let mut entries = copies(alloc, none, source.stops() as usize)?;
+    for k in 0..targets.len() {
+        take_target(source, targets, k, &mut entries);
+    }
+    Ok(FinalWalks { entries })
 }

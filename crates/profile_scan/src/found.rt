@@ -1,10 +1,8 @@
 //! The answer of a query.
 
-ghost use Rattle.std.specs.Prelude.{◌≡◌, ◌<◌, ◌≤◌, ◌⊎◌, ◌↔◌, ℕ, IfOk, OnOk, Contains, AllPairs, length, slice_get};
-ghost use Rattle.std.specs.Prelude.{slice_index_or, Some};
-ghost use Rattle.criteria.specs.Laws.{Admits};
+ghost use Rattle.std.specs.Prelude.{◌≡◌, ◌<◌, IfOk, OnOk, Contains, AllPairs, length, slice_get, Some};
 ghost use Rattle.bags.specs.Bag.{criterion_of, points_of};
-ghost use Rattle.profile_scan.specs.Points.{Before, CanPut};
+ghost use Rattle.profile_scan.specs.Points.{Before, CanPut, IsIndexFor, IsPut};
 ghost use Rattle.profile_scan.specs.Answered.{Answer};
 
 use crate::nodes::Node;
@@ -97,8 +95,7 @@ fn put<C: Criterion>(
     point: Point<C::V>,
 ) -> Result<(), AllocError>
     requires { CanPut (C.rules criterion.now) points.old.items point }
-    ensures ordered { OnOk result (AllPairs (Before (C.rules criterion.now)) points.new.items) }
-    ensures put { OnOk result ((p : _) → Contains points.new.items p ↔ ((point ≡ p) ⊎ Contains points.old.items p)) }
+    ensures { OnOk result (IsPut (C.rules criterion.now) point points.old.items points.new.items) }
 {
     let index = index_for(criterion, points, &point);
     points.insert(index, point)?;
@@ -108,11 +105,7 @@ fn put<C: Criterion>(
 // The index at which to put a point among points in order.
 fn index_for<C: Criterion>(criterion: &C, points: &[Point<C::V>], point: &Point<C::V>) -> usize
     requires { CanPut (C.rules criterion.now) points.now point.now }
-    ensures within { result ≤ length points.now }
-    ensures before { (k : ℕ) (d : _) → k < result
-        → Before (C.rules criterion.now) (slice_index_or points.now k d) point.now }
-    ensures after { (k : ℕ) (d : _) → result ≤ k → k < length points.now
-        → Before (C.rules criterion.now) point.now (slice_index_or points.now k d) }
+    ensures { IsIndexFor (C.rules criterion.now) points.now point.now result }
 {
     let mut index = points.len();
     while index > 0 {

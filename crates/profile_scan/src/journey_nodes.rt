@@ -3,11 +3,10 @@
 ghost use Rattle.std.specs.Prelude.{◌≡◌, ◌++◌, ◌∷◌, [], ℕ, IfOk, Contains, Some, None, length, map};
 ghost use Rattle.bags.specs.declared.point.Point.{Point};
 ghost use Rattle.fronts.specs.Front.{Extends};
-ghost use Rattle.profile_scan.specs.Points.{untagged};
 ghost use Rattle.profile_scan.specs.Views.{scan_records_seen};
 ghost use Rattle.profile_scan.specs.declared.journey_nodes.Change.{Change};
 ghost use Rattle.profile_scan.specs.JourneyNodes.{IsRoute, change, ending, IsLabelSpelled, SaysLabel, IsJourneySpelled};
-ghost use Rattle.profile_scan.specs.JourneyNodes.{SaysJourney, IsSpelledAgain};
+ghost use Rattle.profile_scan.specs.JourneyNodes.{SaysJourney, AreSpelledAgain};
 
 use crate::nodes::Node;
 use crate::scan_records::Exit;
@@ -38,7 +37,6 @@ impl<'a, C: Criterion> ScanView<'a, C> {
     ghost use Rattle.std.specs.Prelude.{◌≡◌, ◌++◌, ◌∷◌, [], ℕ, IfOk, Contains, Some, None, length, map};
     ghost use Rattle.bags.specs.declared.point.Point.{Point};
     ghost use Rattle.fronts.specs.Front.{Extends};
-    ghost use Rattle.profile_scan.specs.Points.{untagged};
     ghost use Rattle.profile_scan.specs.Views.{scan_records_seen};
     ghost use Rattle.profile_scan.specs.declared.journey_nodes.Change.{Change};
     ghost use Rattle.profile_scan.specs.JourneyNodes.{IsRoute, change, ending};
@@ -209,10 +207,8 @@ pub fn journeys_as_nodes<S: ConnSource, C: Criterion>(
 ) -> Result<NodePoints<C::V>, AllocError>
     requires { (p : Point _) → Contains points.now p
         → IsJourneySpelled (S.timetable source.now).footpaths (scan_records_seen view.now) p.tag }
-    ensures same { IfOk result (λ spelled. map untagged spelled.points.items ≡ map untagged points.now) }
-    ensures says { IfOk result (λ spelled. (p : Point _) → Contains spelled.points.items p
-        → IsSpelledAgain (S.timetable source.now).footpaths (scan_records_seen view.now) points.now spelled.nodes.items
-        p) }
+    ensures { IfOk result (λ spelled. AreSpelledAgain (S.timetable source.now).footpaths (scan_records_seen view.now)
+        points.now spelled.points.items spelled.nodes.items) }
 {
     let mut spelled = Vec::with_capacity(alloc, points.len())?;
     let mut nodes = Vec::new(alloc);

@@ -4,9 +4,8 @@
 //! nor an entry has to be read. The record may be old but is never false: what a list covers it still covers after
 //! each insertion, perhaps by another point. So boarding by several labels may leave the record as it is.
 
-ghost use Rattle.std.specs.Prelude.{◌≡◌, ℕ, IfOk, length, slice_get, Some};
-ghost use Rattle.criteria.specs.Laws.{Admits};
-ghost use Rattle.profile_scan.specs.declared.last_offers.LastOffer.{LastOffer};
+ghost use Rattle.std.specs.Prelude.{IfOk};
+ghost use Rattle.profile_scan.specs.ScanState.{AreNewOffers};
 
 use criteria::Criterion;
 use fronts::copies;
@@ -27,9 +26,7 @@ pub fn none_offered<C: Criterion>(
     criterion: &C,
     count: usize,
 ) -> Result<Vec<LastOffer<C::V>>, AllocError>
-    ensures long { IfOk result (λ offers. length offers.items ≡ count) }
-    ensures none { IfOk result (λ offers. (k : ℕ) (offered : LastOffer _) → slice_get offers.items k ≡ Some offered
-        → (offered.before ≡ 0) × Admits (C.rules criterion.now) offered.value) }
+    ensures { IfOk result (λ offers. AreNewOffers (C.rules criterion.now) count offers.items) }
 {
     let nothing = LastOffer {
         before: 0,

@@ -33,13 +33,11 @@ impl<C: Criterion> Origin<C> {
     ghost use Rattle.std.specs.Prelude.{◌≡◌, ◌-◌, [], OnOk, IfSome};
     ghost use Rattle.criteria.specs.Laws.{Admits, IsSecs};
     ghost use Rattle.bags.specs.Bag.{criterion_of, points_of};
-    ghost use Rattle.bags.specs.declared.point.Point.{Point};
     ghost use Rattle.timetable.specs.Journeys.{start_secs};
     ghost use Rattle.profile_scan.specs.Adding.{label_points, only_if, set_out_way, settings_out_after, MayStart};
     ghost use Rattle.profile_scan.specs.Steps.{settings_out};
-    ghost use Rattle.profile_scan.specs.Hops.{KnowsSources, IsHopOf};
-    ghost use Rattle.profile_scan.specs.Starts.{AreStarts};
-    ghost use Rattle.profile_scan.specs.Parts.{AdmitsLabels, OriginTakes};
+    ghost use Rattle.profile_scan.specs.Hops.{KnowsSources};
+    ghost use Rattle.profile_scan.specs.Parts.{CanSetOut, OriginTakes};
 
     /// Makes an origin without points.
     pub fn empty(alloc: Global, criterion: C) -> Self
@@ -84,9 +82,7 @@ impl<C: Criterion> Origin<C> {
         departure: SourceDeparture,
         labels: &[Label<C::V>],
     ) -> Result<(), AllocError>
-        requires secs { IfSome departure.start (λ walk. IsSecs walk.secs) }
-        requires found { criterion_of self.old.found ≡ asked.now.criterion }
-        requires labels { AdmitsLabels (C.rules asked.now.criterion) labels.now }
+        requires { CanSetOut C.rules asked.now.criterion departure.start labels.now self.old }
         ensures { OnOk result (OriginTakes C.rules asked.now.criterion
             (λ tags. settings_out_after (C.rules asked.now.criterion) tags place
             departure.time departure.start (label_points labels.now)) self.old self.new) }
@@ -114,10 +110,8 @@ impl<C: Criterion> Origin<C> {
         start: Option<Footpath>,
         labels: &[Label<C::V>],
     ) -> Result<(), AllocError>
-        requires secs { IfSome start (λ walk. IsSecs walk.secs) }
         requires lead { KnowsSources (question asked.now.query).sources hop.now asked.now.starts start }
-        requires found { criterion_of self.old.found ≡ asked.now.criterion }
-        requires labels { AdmitsLabels (C.rules asked.now.criterion) labels.now }
+        requires can { CanSetOut C.rules asked.now.criterion start labels.now self.old }
         ensures { OnOk result (OriginTakes C.rules asked.now.criterion
             (λ tags. only_if (MayStart (question asked.now.query) hop.now.connection start)
             (settings_out_after (C.rules asked.now.criterion) tags hop.now.place

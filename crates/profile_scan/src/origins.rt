@@ -21,15 +21,10 @@ pub struct Origins<C: Criterion> {
 
 impl<C: Criterion> Origins<C> {
     ghost use Rattle.profile_scan.specs.SetQuery.{question};
-    ghost use Rattle.std.specs.Prelude.{◌≡◌, ◌≢◌, ◌-◌, ◌<◌, [], ℕ, List, IfOk, IfSome, OnOk, vec_len, slice_get};
-    ghost use Rattle.criteria.specs.Laws.{IsSecs};
-    ghost use Rattle.timetable.specs.declared.network.Footpath.{Footpath};
+    ghost use Rattle.std.specs.Prelude.{◌-◌, OnOk};
     ghost use Rattle.timetable.specs.Journeys.{start_secs};
     ghost use Rattle.profile_scan.specs.Adding.{label_points, only_if, settings_out_after, MayStart};
-    ghost use Rattle.profile_scan.specs.Steps.{settings_out};
-    ghost use Rattle.profile_scan.specs.Hops.{IsHopOf};
-    ghost use Rattle.profile_scan.specs.Parts.{AdmitsLabels, SourceTakes};
-    ghost use Rattle.profile_scan.specs.Origins.{AreUnder, ChangesOrigins, scan_value_from};
+    ghost use Rattle.profile_scan.specs.Parts.{CanSetOutFrom, OriginsTake, StopSourceTakes};
     ghost use Rattle.profile_scan.specs.Origins.{from_stop, starts_at};
 
     // For each label of the connection's trip, offers a point to those found from a stop: leave it at this departure,
@@ -42,17 +37,10 @@ impl<C: Criterion> Origins<C> {
         departure: SourceDeparture,
         labels: &[Label<C::V>],
     ) -> Result<(), AllocError>
-        requires secs { IfSome departure.start (λ walk. IsSecs walk.secs) }
-        requires stop { stop < vec_len self.old.each }
-        requires origins { AreUnder asked.now.criterion self.old }
-        requires labels { AdmitsLabels (C.rules asked.now.criterion) labels.now }
-        ensures origins { OnOk result (ChangesOrigins asked.now.criterion self.old self.new) }
-        ensures takes { OnOk result ((walks : List Footpath) → SourceTakes (C.rules asked.now.criterion) walks
+        requires { CanSetOutFrom C.rules asked.now.criterion stop departure.start labels.now self.old }
+        ensures { OnOk result (StopSourceTakes C.rules asked.now.criterion stop
             (λ tags. settings_out_after (C.rules asked.now.criterion) tags hop.now.place
-            departure.time departure.start (label_points labels.now))
-            (scan_value_from self.old stop) (scan_value_from self.new stop)) }
-        ensures others { OnOk result ((other : ℕ) → other ≢ stop
-            → slice_get self.new.each.items other ≡ slice_get self.old.each.items other) }
+            departure.time departure.start (label_points labels.now)) self.old self.new) }
     {
         self.each[stop as usize].set_out_after(asked, hop.place, departure, labels)
     }
@@ -67,17 +55,12 @@ impl<C: Criterion> Origins<C> {
         start: Option<Footpath>,
         labels: &[Label<C::V>],
     ) -> Result<(), AllocError>
-        requires secs { IfSome start (λ walk. IsSecs walk.secs) }
-        requires stop { starts_at hop.now.connection start < vec_len self.old.each }
-        requires origins { AreUnder asked.now.criterion self.old }
-        requires labels { AdmitsLabels (C.rules asked.now.criterion) labels.now }
-        ensures origins { OnOk result (ChangesOrigins asked.now.criterion self.old self.new) }
-        ensures takes { OnOk result ((walks : List Footpath) (stop : ℕ)
-            → SourceTakes (C.rules asked.now.criterion) walks
-            (λ tags. only_if (MayStart (from_stop (question asked.now.query) stop) hop.now.connection start)
+        requires { CanSetOutFrom C.rules asked.now.criterion (starts_at hop.now.connection start) start labels.now
+            self.old }
+        ensures { OnOk result (OriginsTake C.rules asked.now.criterion
+            (λ stop tags. only_if (MayStart (from_stop (question asked.now.query) stop) hop.now.connection start)
             (settings_out_after (C.rules asked.now.criterion) tags hop.now.place
-            (hop.now.connection.dep - start_secs start) start (label_points labels.now)))
-            (scan_value_from self.old stop) (scan_value_from self.new stop)) }
+            (hop.now.connection.dep - start_secs start) start (label_points labels.now))) self.old self.new) }
     {
         if is_loop(start) {
             return Ok(());

@@ -25,23 +25,20 @@ pub struct State<C: Criterion, O> {
 
 impl<C: Criterion, O: AtSource<C>> State<C, O> {
     ghost use Rattle.profile_scan.specs.SetQuery.{asked_from, question};
-    ghost use Rattle.std.specs.Prelude.{◌≡◌, ◌+◌, [], ℕ, IfOk, OnOk, Contains, true};
+    ghost use Rattle.std.specs.Prelude.{◌≡◌, ◌+◌, ℕ, IfOk, OnOk, true};
     ghost use Rattle.profile_scan.specs.Matching.{from_to};
     ghost use Rattle.profile_scan.specs.Steps.{IsIdle, IsStep};
     ghost use Rattle.profile_scan.specs.Adding.{trip_points};
     ghost use Rattle.profile_scan.specs.Bound.{AreBounds};
     ghost use Rattle.profile_scan.specs.ScanRecords.{spelling_of};
-    ghost use Rattle.profile_scan.specs.ScanState.{HasStop, IsState, scan_value_of, points_at, scan_records_of};
+    ghost use Rattle.profile_scan.specs.ScanState.{HasStop, IsNewState, IsState, points_at};
+    ghost use Rattle.profile_scan.specs.ScanState.{scan_value_of, scan_records_of};
     ghost use Rattle.profile_scan.specs.Hops.{IsHopOf};
-    ghost use Rattle.profile_scan.specs.Starts.{AreStarts};
     ghost use Rattle.fronts.specs.Labels.{HasTrip};
 
     // A state for `stops` stops and `trips` trips, before any connection is read.
     fn new(alloc: Global, criterion: &C, stops: u32, trips: u32) -> Result<Self, AllocError>
-        ensures state { IfOk result (λ state. IsState C.rules O.IsUnder criterion.now stops trips state) }
-        ensures bags { IfOk result (λ state. (stop : ℕ) → points_at state.stops stop ≡ []) }
-        ensures labels { IfOk result (λ state. (trip : ℕ) → trip_points state.trips.labels trip ≡ []) }
-        ensures found { IfOk result (λ state. (index : ℕ) → (O.kept state.origin index).found ≡ []) }
+        ensures { IfOk result (IsNewState C.rules O.IsUnder O.kept criterion.now stops trips) }
     {
         let trips = Trips::new(alloc, criterion, trips)?;
         let origin = O::new(alloc, criterion, stops)?;
@@ -81,8 +78,7 @@ impl<C: Criterion, O: AtSource<C>> State<C, O> {
         hop: &Hop<C::V>,
     ) -> Result<(), AllocError>
         requires hop { IsHopOf (C.rules asked.now.criterion) (S.timetable source.now)
-            (question asked.now.query) hop.now }
-        requires starts { AreStarts (S.timetable source.now) (question asked.now.query).sources asked.now.starts }
+            (question asked.now.query) asked.now.starts hop.now }
         requires bound { (index : ℕ) → AreBounds (C.rules asked.now.criterion) (S.timetable source.now)
             (O.kept self.old.origin index).found (hop.now.place + 1) hop.now.bound.now }
         requires state { IsState C.rules O.IsUnder asked.now.criterion

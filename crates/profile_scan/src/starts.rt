@@ -1,7 +1,7 @@
 //! Where one may set out: at a query's sources, and after a footpath from one.
 
 ghost use Rattle.std.specs.Prelude.{◌≡◌, ◌<◌, ℕ, IfOk, MatchBool, Some, Contains, length, slice_get};
-ghost use Rattle.profile_scan.specs.Starts.{AreMarked, AreStarts, IsFromMarked, IsStopAccessBy, IsLedBy};
+ghost use Rattle.profile_scan.specs.Starts.{AreMarked, AreStarts, IsFromMarked, IsLedBy};
 
 use fronts::copies;
 use sources::ConnSource;
@@ -72,18 +72,6 @@ fn is_led<S: ConnSource>(source: &S, marked: &[bool], stop: u32) -> bool
     false
 }
 
-// Whether a journey may set out for the connections that begin at a stop, from the marked stops.
-fn access_of<S: ConnSource>(source: &S, marked: &[bool], stop: u32) -> StopAccess
-    requires stop { stop < (S.timetable source.now).stops }
-    requires long { length marked.now ≡ (S.timetable source.now).stops }
-    ensures { IsStopAccessBy (S.timetable source.now) marked.now stop result }
-{
-    StopAccess {
-        here: marked[stop as usize],
-        led: is_led(source, marked, stop),
-    }
-}
-
 /// Finds for each stop whether a journey may set out from the sources for the connections that begin there.
 pub fn starts_from<S: ConnSource>(
     alloc: Global,
@@ -96,7 +84,10 @@ pub fn starts_from<S: ConnSource>(
     let marked = marks(alloc, sources, source.stops() as usize)?;
     let mut leads = Vec::new(alloc);
     for stop in 0..source.stops() {
-        let lead = access_of(source, &marked, stop);
+        let lead = StopAccess {
+            here: marked[stop as usize],
+            led: is_led(source, &marked, stop),
+        };
         leads.push(lead)?;
     }
     Ok(Starts { leads })

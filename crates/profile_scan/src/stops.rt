@@ -1,7 +1,5 @@
 //! What a scan keeps for each stop: a list of points. Boarding a connection adds to it.
 
-ghost use Rattle.std.specs.Prelude.{◌≡◌, ℕ, IfOk, replicate};
-
 use crate::bound::any_no_worse;
 use crate::hop::{Hop, ScanQuery};
 use crate::last_offers::{LastOffer, none_offered};
@@ -29,18 +27,17 @@ impl<C: Criterion> Stops<C> {
     ghost use Rattle.criteria.specs.Laws.{Admits, IsSecs};
     ghost use Rattle.bags.specs.Dominance.{IsCovered};
     ghost use Rattle.profile_scan.specs.Adding.{AreWalksInto};
-    ghost use Rattle.profile_scan.specs.ScanState.{AreStops, points_at};
+    ghost use Rattle.profile_scan.specs.ScanState.{AreNewStops, AreStops, HasStop, points_at};
     ghost use Rattle.profile_scan.specs.Hops.{IsHopOf};
     ghost use Rattle.profile_scan.specs.SetQuery.{question};
     ghost use Rattle.profile_scan.specs.Parts.{AdmitsLabels, AreReady, Boards, BoardsAfter, BoardsAfterEach};
 
     /// Makes the lists of `count` stops, which are empty.
     pub fn new(alloc: Global, criterion: &C, count: u32) -> Result<Self, AllocError>
-        ensures stops { IfOk result (λ stops. AreStops C.rules criterion.now count stops) }
-        ensures none { IfOk result (λ stops. (stop : ℕ) → points_at stops stop ≡ []) }
+        ensures { IfOk result (AreNewStops C.rules criterion.now count) }
     {
         let lists = FrontLists::new(alloc, *criterion)?;
-        let heads = no_heads(alloc, count as usize)?;
+        let heads = vec![in alloc; 0u32; count as usize]?;
         let offers = none_offered(alloc, criterion, count as usize)?;
         Ok(Stops {
             lists,
@@ -62,8 +59,7 @@ impl<C: Criterion> Stops<C> {
     // later. If not, the list may have one nonetheless.
     #[inline(always)]
     fn was_offered(&self, criterion: &C, stop: u32, time: u32, value: &C::V) -> bool
-        requires stop { stop < vec_len self.now.heads }
-        requires stops { AreStops C.rules criterion.now (vec_len self.now.heads) self.now }
+        requires has { HasStop C.rules criterion.now stop self.now }
         requires value { Admits (C.rules criterion.now) value.now }
         ensures { result ≡ true → IsCovered (C.rules criterion.now) (points_at self.now stop) time value.now }
     {
@@ -141,8 +137,7 @@ impl<C: Criterion> Stops<C> {
         ride: RiddenLabel<C::V>,
     ) -> Result<(), AllocError>
         requires secs { IsSecs walk.secs }
-        requires stop { walk.from < vec_len self.old.heads }
-        requires stops { AreStops C.rules asked.now.criterion (vec_len self.old.heads) self.old }
+        requires has { HasStop C.rules asked.now.criterion walk.from self.old }
         requires ride { Admits (C.rules asked.now.criterion) ride.value }
         ensures { OnOk result (BoardsAfter C.rules asked.now.criterion (vec_len self.old.heads) hop.now walk_index walk
             (ride ∷ []) self.old self.new) }
@@ -207,7 +202,7 @@ impl<C: Criterion> Stops<C> {
         label: &Label<C::V>,
     ) -> Result<(), AllocError>
         requires hop { IsHopOf (C.rules asked.now.criterion) (S.timetable source.now)
-            (question asked.now.query) hop.now }
+            (question asked.now.query) asked.now.starts hop.now }
         requires boards { hop.now.connection.board ≡ true }
         requires stops { AreStops C.rules asked.now.criterion (S.timetable source.now).stops self.old }
         requires label { Admits (C.rules asked.now.criterion) label.now.value }
@@ -239,7 +234,7 @@ impl<C: Criterion> Stops<C> {
         labels: &[Label<C::V>],
     ) -> Result<(), AllocError>
         requires hop { IsHopOf (C.rules asked.now.criterion) (S.timetable source.now)
-            (question asked.now.query) hop.now }
+            (question asked.now.query) asked.now.starts hop.now }
         requires stops { AreStops C.rules asked.now.criterion (S.timetable source.now).stops self.old }
         requires labels { AdmitsLabels (C.rules asked.now.criterion) labels.now }
         ensures { OnOk result
@@ -259,11 +254,4 @@ impl<C: Criterion> Stops<C> {
         self.board_walks(asked, source, hop, begin..end)?;
         Ok(())
     }
-}
-
-// Returns `count` heads of the empty list.
-fn no_heads(alloc: Global, count: usize) -> Result<Vec<u32>, AllocError>
-    ensures { IfOk result (λ heads. heads.items ≡ replicate count 0) }
-{
-    vec![in alloc; 0u32; count]
 }

@@ -1,23 +1,20 @@
 //! The answers from all stops to any of several targets, by one scan.
 
-ghost use Rattle.std.specs.Prelude.{◌≡◌, ◌++◌, ℕ, IfOk, OnOk, OnErr, length, reverse, slice_get, take};
+ghost use Rattle.std.specs.Prelude.{◌≡◌, ◌++◌, ℕ, IfOk, OnOk, OnErr, reverse, take};
 ghost use Rattle.profile_scan.specs.SetQuery.{IsAskableBetween, question};
 ghost use Rattle.profile_scan.specs.Destinations.{question_to_any};
-ghost use Rattle.profile_scan.specs.Hops.{IsAsked};
 ghost use Rattle.profile_scan.specs.Window.{window_of};
-ghost use Rattle.profile_scan.specs.Origins.{AreUnder, found_from};
-ghost use Rattle.profile_scan.specs.Everywhere.{AnswerToAny, AreInOrder, asked_to_any, criterion_to_any, points_in};
+ghost use Rattle.profile_scan.specs.Origins.{AreUnder};
+ghost use Rattle.profile_scan.specs.Everywhere.{AnswerToAny, AreStopLists, asked_to_any, criterion_to_any};
 
-use crate::answering::timetable_of;
+use crate::answering::{ask, timetable_of};
 use crate::destinations::Destinations;
-use crate::final_walks::final_walks_to;
 use crate::found::in_order;
 use crate::found_between::FoundBetween;
 use crate::hop::ScanQuery;
 use crate::journey_nodes::journeys_as_nodes;
 use crate::origins::Origins;
 use crate::scan::{State, scan_window};
-use crate::starts::starts_from;
 use crate::view::ScanView;
 use bags::Point;
 use criteria::Criterion;
@@ -103,29 +100,6 @@ impl<C: Criterion> ProfilesToAny<C> {
     }
 }
 
-// Makes the query of a scan for all sources: it has targets, and no sources.
-fn ask_from_all<S: ConnSource, C: Criterion>(
-    alloc: Global,
-    source: &S,
-    criterion: &C,
-    destinations: &Destinations,
-) -> Result<ScanQuery<C>, AllocError>
-    requires { IsAskableBetween (S.timetable source.now).stops (question_to_any destinations.now) }
-    ensures asked { IfOk result (λ asked. IsAsked (S.timetable source.now) asked) }
-    ensures keeps { IfOk result (λ asked. (asked.criterion ≡ criterion.now)
-        × (question asked.query ≡ question_to_any destinations.now)) }
-{
-    let query = destinations.query(alloc)?;
-    let starts = starts_from(alloc, source, &query.sources)?;
-    let final_walks = final_walks_to(alloc, source, &query.targets)?;
-    Ok(ScanQuery {
-        criterion: *criterion,
-        query,
-        starts,
-        final_walks,
-    })
-}
-
 // Returns the points found from each stop, in order.
 fn lists_in_order<C: Criterion>(
     alloc: Global,
@@ -133,9 +107,7 @@ fn lists_in_order<C: Criterion>(
     origins: &Origins<C>,
 ) -> Result<Vec<Vec<Point<C::V>>>, AllocError>
     requires { AreUnder criterion.now origins.now }
-    ensures long { IfOk result (λ lists. length lists.items ≡ length origins.now.each.items) }
-    ensures lists { IfOk result (λ lists. (stop : ℕ)
-        → AreInOrder (C.rules criterion.now) (found_from origins.now stop) (points_in (slice_get lists.items stop))) }
+    ensures { IfOk result (λ lists. AreStopLists (C.rules criterion.now) origins.now lists.items) }
 {
     let mut lists = Vec::with_capacity(alloc, origins.each.len())?;
     for stop in 0..origins.each.len() {
@@ -174,7 +146,8 @@ pub fn profiles_to_any<S: ConnSource, C: Criterion>(
 {
     let start = source.first_at(destinations.from);
     let end = source.first_at(destinations.by);
-    let asked = ask_from_all(alloc, source, criterion, destinations)?;
+    let query = destinations.query(alloc)?;
+    let asked = ask(alloc, source, criterion, query)?;
     let scan = scan_window::<S, C, Origins<C>>(alloc, source, &asked, start..end)?;
     let lists = lists_in_order(alloc, criterion, &scan.state.origin)?;
     Ok(ProfilesToAny {

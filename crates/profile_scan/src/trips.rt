@@ -7,12 +7,11 @@ ghost use Rattle.std.specs.Prelude.{◌≡◌, ◌+◌, ◌≤◌, [], ℕ, true
 ghost use Rattle.criteria.specs.Laws.{Admits, IsTime, IsSecs};
 ghost use Rattle.timetable.specs.declared.network.Footpath.{Footpath};
 ghost use Rattle.timetable.specs.Journeys.{start_secs};
-ghost use Rattle.fronts.specs.Labels.{AreLabels, trips_of};
 ghost use Rattle.profile_scan.specs.Values.{started};
 ghost use Rattle.profile_scan.specs.Bound.{any_no_worse, survivors};
 ghost use Rattle.profile_scan.specs.ScanRecords.{IsExit};
 ghost use Rattle.profile_scan.specs.declared.scan_records.Exit.TheVariants.{Changes};
-ghost use Rattle.profile_scan.specs.Adding.{IsEnding, trip_points};
+ghost use Rattle.profile_scan.specs.Adding.{IsEnding};
 ghost use Rattle.profile_scan.specs.SetQuery.{question};
 
 use crate::bound::any_no_worse;
@@ -38,20 +37,17 @@ impl<C: Criterion> Trips<C> {
     ghost use Rattle.profile_scan.specs.SetQuery.{question};
     ghost use Rattle.std.specs.Prelude.{◌≡◌, [], ℕ, true, false, IfOk, OnOk};
     ghost use Rattle.criteria.specs.Laws.{Admits};
-    ghost use Rattle.fronts.specs.Labels.{AreLabels, HasTrip, trips_of};
+    ghost use Rattle.fronts.specs.Labels.{HasTrip};
     ghost use Rattle.profile_scan.specs.Bound.{any_no_worse, survivors};
     ghost use Rattle.profile_scan.specs.ScanRecords.{IsExit};
     ghost use Rattle.profile_scan.specs.declared.scan_records.Exit.TheVariants.{Changes};
     ghost use Rattle.profile_scan.specs.Adding.{one_way, only_if, changes_from, endings};
-    ghost use Rattle.profile_scan.specs.Adding.{trip_points};
-    ghost use Rattle.profile_scan.specs.ScanState.{HasStop, points_at};
+    ghost use Rattle.profile_scan.specs.ScanState.{AreNewTrips, HasStop, points_at};
     ghost use Rattle.profile_scan.specs.Parts.{CanLeave, TripTakes};
 
     /// Makes `count` trips without labels.
     pub fn new(alloc: Global, criterion: &C, count: u32) -> Result<Self, AllocError>
-        ensures long { IfOk result (λ trips. trips_of trips.labels ≡ count) }
-        ensures labels { IfOk result (λ trips. AreLabels (C.rules criterion.now) trips.labels) }
-        ensures none { IfOk result (λ trips. (trip : ℕ) → trip_points trips.labels trip ≡ []) }
+        ensures { IfOk result (AreNewTrips (C.rules criterion.now) count) }
     {
         let labels = no_labels(alloc, criterion, count)?;
         Ok(Trips {

@@ -1,6 +1,4 @@
-use Rattle.std.proofs.Common.{ℕ, List, Contains, sym, ap, subst}
-use Rattle.criteria.specs.Laws.{IsTime}
-use Rattle.profile_scan.specs.SetQuery.{SetQueryValue, question}
+use Rattle.std.proofs.Common.{ℕ, List, Contains, refl, subst}
 use Rattle.profile_scan.specs.ScanState.{AreFinalWalks, final_walks_of}
 use Rattle.profile_scan.specs.Starts.{AreStarts}
 use Rattle.profile_scan.proofs.answering.ask.Goals as goal
@@ -11,15 +9,15 @@ starts_from-requires g c = λ stop is. c.requires.sources stop (subst (λ (xs : 
 pub final_walks_to-requires : goal.final_walks_to-requires
 final_walks_to-requires g c = λ stop is. c.requires.targets stop (subst (λ (xs : List ℕ). Contains xs stop) c.deref-2.ensures.value is)
 
-pub returns-clause-asked : goal.returns-clause-asked
-returns-clause-asked g c =
+pub returns : goal.returns
+returns g c =
     let t = g.S.ConnSource.timetable c.args.source.now in
-    let same = sym c.in_ok-query.ensures in
-    let starts = subst (λ (xs : List ℕ). AreStarts t xs c.in_ok-starts.starts) c.deref.ensures.value c.in_ok-starts.ensures in
-    let final_walks = subst (λ (xs : List ℕ). AreFinalWalks t xs (final_walks_of c.in_ok-final_walks.final_walks)) c.deref-2.ensures.value
-    c.in_ok-final_walks.ensures in
     record {
-      by = subst (λ (b : SetQueryValue). IsTime b.by) same c.requires.small.2;
-      starts = subst (λ (b : SetQueryValue). AreStarts t b.sources c.in_ok-starts.starts) same starts;
-      final_walks = subst (λ (b : SetQueryValue). AreFinalWalks t b.targets (final_walks_of c.in_ok-final_walks.final_walks)) same final_walks;
+      asked = record {
+        by = c.requires.small.2;
+        starts = subst (λ (xs : List ℕ). AreStarts t xs c.in_ok-starts.starts) c.deref.ensures.value c.in_ok-starts.ensures;
+        final_walks = subst (λ (xs : List ℕ). AreFinalWalks t xs (final_walks_of c.in_ok-final_walks.final_walks)) c.deref-2.ensures.value
+            c.in_ok-final_walks.ensures;
+      };
+      keeps = (refl, refl);
     }

@@ -4,7 +4,7 @@ use Rattle.bags.specs.Bag.{criterion_of, points_of}
 use Rattle.bags.specs.declared.point.Point.{Point}
 use Rattle.timetable.specs.TimetableValue.{TimetableValue}
 use Rattle.sources.specs.FirstAt.{IsFirstAt}
-use Rattle.profile_scan.specs.SetQuery.{SetQueryValue, question}
+use Rattle.profile_scan.specs.SetQuery.{IsAskableBetween, SetQueryValue, question}
 use Rattle.profile_scan.specs.declared.set_query.SetQuery.{SetQuery}
 use Rattle.profile_scan.specs.Answered.{IsAnsweredBetween}
 use Rattle.profile_scan.specs.Nearest.{IsShortestWalk}
@@ -74,7 +74,8 @@ found_is g c =
     let told = scan_records_of (λ origin index. kept_of origin) state 0 in
     let found = points_of state.origin.found in
     subst (λ criterion. HasFound (g.C.Criterion.rules criterion) t (question c.args.query.now) c.first_at-start.result told found) keeps.0
-    (subst (λ (b : SetQueryValue). HasFound (g.C.Criterion.rules c.in_ok-asked.asked.criterion) t b c.first_at-start.result told found) keeps.1
+    (subst (λ (b : SetQueryValue). HasFound (g.C.Criterion.rules c.in_ok-asked.asked.criterion) t b c.first_at-start.result told found)
+    (keeps.1 ∙ c.in_ok-own.ensures)
     (c.in_ok-scan.ensures.found 0))
 
 under : (g : given.Over) (c : goal.In_ok-scan g) → criterion_of c.in_ok-scan.scan.state.origin.found ≡ c.args.criterion.now
@@ -103,7 +104,7 @@ ways_are : (g : given.Over) (c : goal.In_ok-scan g) → AreFinalWalks (g.S.ConnS
     (final_walks_of c.in_ok-asked.asked.final_walks)
 ways_are g c = subst (λ (b : SetQueryValue). AreFinalWalks (g.S.ConnSource.timetable c.args.source.now) b.targets
     (final_walks_of c.in_ok-asked.asked.final_walks))
-    c.in_ok-asked.ensures.keeps.1 c.in_ok-asked.ensures.asked.final_walks
+    (c.in_ok-asked.ensures.keeps.1 ∙ c.in_ok-own.ensures) c.in_ok-asked.ensures.asked.final_walks
 
 pub direct_walk-requires : goal.direct_walk-requires
 direct_walk-requires g c stop is =
@@ -168,11 +169,14 @@ returns-clause-answers g c = record {
   keeps = (refl, c.timetable_of.ensures ∙ c.in_ok-scan.ensures.timetable, ap question c.of.ensures);
 }
 
+pub ask-requires : goal.ask-requires
+ask-requires g c = subst (IsAskableBetween (g.S.ConnSource.timetable c.args.source.now).stops) (sym c.in_ok-own.ensures) c.requires
+
 pub scan_window-requires : goal.scan_window-requires
 scan_window-requires g c =
     let t = g.S.ConnSource.timetable c.args.source.now in
     let q = c.args.query.now in
-    let same_by = ap (λ (b : SetQueryValue). b.by) c.in_ok-asked.ensures.keeps.1 in
+    let same_by = ap (λ (b : SetQueryValue). b.by) (c.in_ok-asked.ensures.keeps.1 ∙ c.in_ok-own.ensures) in
     record {
       can_ask = c.in_ok-asked.ensures.asked;
       order = firsts_rise t q.from q.by c.first_at-start.result c.first_at-end.result c.requires.in_time c.first_at-start.ensures c.first_at-end.ensures;

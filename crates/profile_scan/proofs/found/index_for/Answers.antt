@@ -14,8 +14,8 @@ loop-index-preserved g c =
           (before_by_test rules c.args.point.now last (sym c.comes_first.ensures ∙ c.if-not-comes_first.false)) inv.after;
     }
 
-pub returns-then-not-comes_first-clause-before : goal.returns-then-not-comes_first-clause-before
-returns-then-not-comes_first-clause-before g c =
+pub returns-then-not-comes_first : goal.returns-then-not-comes_first
+returns-then-not-comes_first g c =
     let rules = g.C.Criterion.rules c.args.criterion.now in
     let last = c.index-points-index.result in
     let inv = c.loop-index.invariant in
@@ -26,6 +26,20 @@ returns-then-not-comes_first-clause-before g c =
       omega arith,
       sym c.index-points-index.is,
     )) [ inl first ↦ first | inr second ↦ absurd (not second) ] in
-    before_here rules (g.met.C.Criterion.laws c.args.criterion.now) c.args.points.now c.args.point.now last
-    c.loop-index.index c.requires.ordered c.requires.admitted c.requires.value (omega arith) inv.within
-    c.index-points-index.is is
+    record {
+      within = inv.within;
+      before = before_here rules (g.met.C.Criterion.laws c.args.criterion.now) c.args.points.now c.args.point.now last
+          c.loop-index.index c.requires.ordered c.requires.admitted c.requires.value (omega arith) inv.within
+          c.index-points-index.is is;
+      after = inv.after;
+    }
+
+pub returns : goal.returns
+returns g c =
+    let inv = c.loop-index.invariant in
+    let over = c.loop-index-test.false in
+    record {
+      within = omega arith;
+      before = λ k d low. absurd (omega arith);
+      after = λ k d low. inv.after k d (omega arith);
+    }

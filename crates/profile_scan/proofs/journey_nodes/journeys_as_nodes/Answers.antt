@@ -17,5 +17,8 @@ loop-i-preserved g c =
     c.loop-i.invariant.same c.loop-i.invariant.says in
     record { same = m.0; says = m.1 }
 
-pub returns-clause-same : goal.returns-clause-same
-returns-clause-same g c = c.loop-i.invariant.same ∙ ap (map untagged) (take_all c.loop-i.i c.args.points.now (omega arith))
+pub returns : goal.returns
+returns g c = record {
+  same = c.loop-i.invariant.same ∙ ap (map untagged) (take_all c.loop-i.i c.args.points.now (omega arith));
+  says = c.loop-i.invariant.says;
+}

@@ -5,18 +5,17 @@ use Rattle.criteria.specs.Laws.{Admits}
 use Rattle.profile_scan.specs.declared.last_offers.LastOffer.{LastOffer}
 use Rattle.profile_scan.proofs.last_offers.none_offered.Goals as goal
 
-pub returns-clause-long : goal.returns-clause-long
-returns-clause-long g c =
-    let nothing : LastOffer g.row.C-V.Denot = record { before = 0; value = c.arrive.result } in
-    ap length c.in_ok-offers.ensures ∙ length-replicate c.args.count nothing
-
-pub returns-clause-none : goal.returns-clause-none
-returns-clause-none g c k offered at =
+pub returns : goal.returns
+returns g c =
     let rules = g.C.Criterion.rules c.args.criterion.now in
     let nothing : LastOffer g.row.C-V.Denot = record { before = 0; value = c.arrive.result } in
-    let is = slice_get-replicate-is c.args.count k nothing offered
-    (subst (λ (xs : List (LastOffer g.row.C-V.Denot)). slice_get xs k ≡ Some offered) c.in_ok-offers.ensures at) in (
-      ap (λ (x : LastOffer g.row.C-V.Denot). x.before) is,
-      subst (λ (x : LastOffer g.row.C-V.Denot). Admits rules x.value) (sym is)
-          (subst (Admits rules) (sym c.arrive.ensures) ((g.met.C.Criterion.laws c.args.criterion.now).arrive_admits 0 (omega arith))),
-    )
+    let admitted = subst (Admits rules) (sym c.arrive.ensures) ((g.met.C.Criterion.laws c.args.criterion.now).arrive_admits 0 (omega arith)) in
+    record {
+      long = ap length c.in_ok-offers.ensures ∙ length-replicate c.args.count nothing;
+      none = λ k offered at.
+          let is = slice_get-replicate-is c.args.count k nothing offered
+          (subst (λ (xs : List (LastOffer g.row.C-V.Denot)). slice_get xs k ≡ Some offered) c.in_ok-offers.ensures at) in (
+            ap (λ (x : LastOffer g.row.C-V.Denot). x.before) is,
+            subst (λ (x : LastOffer g.row.C-V.Denot). Admits rules x.value) (sym is) admitted,
+          );
+    }

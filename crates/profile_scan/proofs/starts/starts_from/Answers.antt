@@ -1,27 +1,37 @@
-use Rattle.std.proofs.Common.{◌≡◌, ◌<◌, ◌+◌, ◌∷◌, [], ℕ, length, length-append, sym, ◌∙◌, ap, subst, arith}
-use Rattle.std.proofs.lemmas.Option.{slice_get_within}
-use Rattle.profile_scan.specs.Starts.{AreMarked, IsStopAccessBy}
+use Rattle.std.proofs.Common.{◌≡◌, ◌<◌, ◌+◌, ◌∷◌, [], ℕ, false, length, length-append, slice_index_or, refl, sym, ◌∙◌, ap, subst, arith}
+use Rattle.std.specs.Prelude.{MatchBool}
+use Rattle.std.proofs.lemmas.Option.{same_Some, slice_get-get_or, slice_get_read, slice_get_within}
+use Rattle.profile_scan.specs.Starts.{AreMarked, IsLedBy, IsStopAccessBy}
+use Rattle.profile_scan.specs.declared.starts.StopAccess.{StopAccess}
 use Rattle.profile_scan.proofs.StartLemmas.{leads_more, leads_of_sources}
 use Rattle.profile_scan.proofs.starts.starts_from.Goals as goal
 
 pub marks-requires : goal.marks-requires
 marks-requires g c = λ stop is. subst (λ (n : ℕ). stop < n) (sym c.stops.ensures) (c.requires stop is)
 
-pub access_of-lead-requires-clause-long : goal.access_of-lead-requires-clause-long
-access_of-lead-requires-clause-long g c = ap length c.deref.ensures.value ∙ c.in_ok-marked.ensures.long ∙ c.stops.ensures
+pub is_led-requires-clause-long : goal.is_led-requires-clause-long
+is_led-requires-clause-long g c = ap length c.deref.ensures.value ∙ c.in_ok-marked.ensures.long ∙ c.stops.ensures
 
 pub loop-stop-preserved : goal.loop-stop-preserved
 loop-stop-preserved g c =
     let t = g.S.ConnSource.timetable c.args.source.now in
     let inv = c.loop-stop.invariant in
-    let lead = c.access_of-lead.result in
+    let stop = c.loop-stop.stop in
+    let here = c.index.result.now in
+    let lead : StopAccess = record { here = here; led = c.is_led.result } in
     let marked = c.in_ok-marked.marked.items in
-    let by = subst (λ ms. IsStopAccessBy t ms c.loop-stop.stop lead) c.deref.ensures.value c.access_of-lead.ensures in
-    let here = subst (λ (n : ℕ). IsStopAccessBy t marked n lead) (sym inv.long) by in
+    let test = c.loop-stop-test.true in
+    let within : stop < length marked = subst (λ (n : ℕ). stop < n) (c.stops-stop-end.ensures ∙ sym (c.in_ok-marked.ensures.long ∙ c.stops.ensures)) test in
+    let at = slice_get_read marked (length marked) stop here refl within c.index.ensures in
+    let by : IsStopAccessBy t marked stop lead = record {
+      here = sym (same_Some (slice_index_or marked stop false) here (sym (slice_get-get_or marked stop false within) ∙ at));
+      led = subst (λ ms. MatchBool lead.led (IsLedBy t ms stop) (IsLedBy t ms stop → ⊥)) c.deref.ensures.value c.is_led.ensures;
+    } in
     let longer = ap length c.in_ok-push.ensures.items ∙ length-append c.loop-stop.leads.items (lead ∷ []) in
     record {
       long = longer ∙ ap (λ (n : ℕ). n + 1) inv.long;
-      says = leads_more t marked c.loop-stop.leads.items c.push.new.self.items lead c.in_ok-push.ensures.items here inv.says;
+      says = leads_more t marked c.loop-stop.leads.items c.push.new.self.items lead c.in_ok-push.ensures.items
+          (subst (λ (n : ℕ). IsStopAccessBy t marked n lead) (sym inv.long) by) inv.says;
     }
 
 pub returns : goal.returns

@@ -33,17 +33,14 @@ loop-stop-preserved g c =
     (record { ordered = points.ordered; only = points.only; each = points.each }))
     c.in_ok-push.ensures.items
 
-pub returns-clause-long : goal.returns-clause-long
-returns-clause-long g c =
+pub returns : goal.returns
+returns g c =
     let over = c.loop-stop-test.false in
     let within = c.loop-stop.auto.stop-end in
     let long = c.args.origins.now.each.ok.0 in
     let all : c.loop-stop.stop ≡ length c.args.origins.now.each.items = omega (arith, over, within, long) in
-    c.loop-stop.invariant.long ∙ all
-
-pub returns-clause-lists : goal.returns-clause-lists
-returns-clause-lists g c =
-    let over = c.loop-stop-test.false in
-    let long = c.args.origins.now.each.ok.0 in
-    all_listed_to (g.C.Criterion.rules c.args.criterion.now) (found_from c.args.origins.now) c.loop-stop.stop c.loop-stop.lists.items c.loop-stop.invariant
-    (λ stop past. found_past c.args.origins.now stop (omega (arith, over, long, past)))
+    record {
+      long = c.loop-stop.invariant.long ∙ all;
+      lists = all_listed_to (g.C.Criterion.rules c.args.criterion.now) (found_from c.args.origins.now) c.loop-stop.stop c.loop-stop.lists.items
+          c.loop-stop.invariant (λ stop past. found_past c.args.origins.now stop (omega (arith, over, long, past)));
+    }

@@ -1,7 +1,7 @@
 use Rattle.std.proofs.Common.{◌++◌, ℕ, List, None, get_or, length, reverse, take, slice_get, sym, ◌∙◌, ap, subst}
 use Rattle.reasoning.proofs.OptionLemmas.{on_err}
 use Rattle.sources.specs.FirstAt.{IsFirstAt}
-use Rattle.profile_scan.specs.SetQuery.{SetQueryValue, question}
+use Rattle.profile_scan.specs.SetQuery.{IsAskableBetween, SetQueryValue, question}
 use Rattle.profile_scan.specs.LawStatements.{CanScan}
 use Rattle.profile_scan.specs.Window.{window_of}
 use Rattle.profile_scan.specs.ScanState.{scan_records_of, final_walks_of}
@@ -14,11 +14,14 @@ use Rattle.profile_scan.proofs.LogLemmas.{taken_all}
 use Rattle.profile_scan.proofs.FinalWalkLemmas.{nearest_direct, target_loop}
 use Rattle.profile_scan.proofs.to_any.profiles_to_any.Goals as goal
 
+pub ask-requires : goal.ask-requires
+ask-requires g c = subst (IsAskableBetween (g.S.ConnSource.timetable c.args.source.now).stops) (sym c.in_ok-query.ensures) c.requires
+
 pub scan_window-requires : goal.scan_window-requires
 scan_window-requires g c =
     let t = g.S.ConnSource.timetable c.args.source.now in
     let d = c.args.destinations.now in
-    let same_by = ap (λ (b : SetQueryValue). b.by) c.in_ok-asked.ensures.keeps.1 in
+    let same_by = ap (λ (b : SetQueryValue). b.by) (c.in_ok-asked.ensures.keeps.1 ∙ c.in_ok-query.ensures) in
     record {
       can_ask = c.in_ok-asked.ensures.asked;
       order = firsts_rise t d.from d.by c.first_at-start.result c.first_at-end.result c.requires.in_time c.first_at-start.ensures c.first_at-end.ensures;
@@ -58,7 +61,7 @@ lists_in_order-requires g c =
     subst (λ k. AreUnder k c.in_ok-scan.scan.state.origin) c.in_ok-asked.ensures.keeps.0 c.in_ok-scan.ensures.under.0.under
 
 pub returns-clause-keeps : goal.returns-clause-keeps
-returns-clause-keeps g c = (c.in_ok-asked.ensures.keeps.0, c.in_ok-asked.ensures.keeps.1)
+returns-clause-keeps g c = (c.in_ok-asked.ensures.keeps.0, c.in_ok-asked.ensures.keeps.1 ∙ c.in_ok-query.ensures)
 
 pub returns-clause-answers : goal.returns-clause-answers
 returns-clause-answers g c =
@@ -73,7 +76,7 @@ returns-clause-answers g c =
     let start = c.first_at-start.result in
     let origins = c.in_ok-scan.ensures.under in
     let asked = c.in_ok-asked.ensures.asked in
-    let same_from = ap (λ (x : SetQueryValue). x.from) c.in_ok-asked.ensures.keeps.1 in
+    let same_from = ap (λ (x : SetQueryValue). x.from) (c.in_ok-asked.ensures.keeps.1 ∙ c.in_ok-query.ensures) in
     record {
       each = λ stop lt.
           let q = from_stop b stop in

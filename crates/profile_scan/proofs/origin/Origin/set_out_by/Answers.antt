@@ -1,6 +1,5 @@
-use Rattle.std.proofs.Common.{◌-◌, ℕ, Option, IfSome, sym, subst}
+use Rattle.std.proofs.Common.{◌-◌, ℕ, Option, sym, subst}
 use Rattle.std.proofs.lemmas.Result.{on_ok_weaker}
-use Rattle.criteria.specs.Laws.{IsSecs}
 use Rattle.reasoning.proofs.ListLemmas.{extends_none}
 use Rattle.bags.specs.Bag.{points_of}
 use Rattle.timetable.specs.declared.network.Footpath.{Footpath}
@@ -9,14 +8,17 @@ use Rattle.profile_scan.specs.SetQuery.{question}
 use Rattle.profile_scan.specs.Steps.{TakesIn}
 use Rattle.profile_scan.specs.Matching.{from_to}
 use Rattle.profile_scan.specs.ScanRecords.{spelling_of}
+use Rattle.profile_scan.specs.Parts.{CanSetOut}
 use Rattle.profile_scan.specs.Adding.{label_points, MayStart, settings_out_after}
 use Rattle.reasoning.proofs.BoolLemmas.{where_true, where_false}
 use Rattle.profile_scan.proofs.Offers.{takes_if, takes_unless}
 use Rattle.profile_scan.proofs.OriginLemmas.{in_time, may_start}
 use Rattle.profile_scan.proofs.origin.Origin.set_out_by.Goals as goal
 
-pub set_out_after-requires-clause-secs : goal.set_out_after-requires-clause-secs
-set_out_after-requires-clause-secs g c = subst (λ (start : Option Footpath). IfSome start (λ walk. IsSecs walk.secs)) (sym c.in-Some.ensures.1) c.requires.secs
+pub set_out_after-requires : goal.set_out_after-requires
+set_out_after-requires g c =
+    subst (λ (start : Option Footpath). CanSetOut g.C.Criterion.rules c.args.asked.now.criterion start c.args.labels.now c.args.self.now)
+    (sym c.in-Some.ensures.1) c.requires.can
 
 pub returns-in-Some : goal.returns-in-Some
 returns-in-Some g c =
@@ -45,7 +47,7 @@ returns-in-Some g c =
 pub returns-in-None : goal.returns-in-None
 returns-in-None g c = record {
   origin =
-      record { found = c.requires.found; set_outs = extends_none c.args.self.now.set_outs.items };
+      record { found = c.requires.can.found; set_outs = extends_none c.args.self.now.set_outs.items };
   takes = λ walks exits steps before all ext_before ext.
       let rules = g.C.Criterion.rules c.args.asked.now.criterion in
       takes_unless rules (MayStart (question c.args.asked.now.query) c.args.hop.now.connection c.args.start)
@@ -59,7 +61,7 @@ returns-in-None g c = record {
 pub returns-then-not-is_from_source : goal.returns-then-not-is_from_source
 returns-then-not-is_from_source g c = record {
   origin =
-      record { found = c.requires.found; set_outs = extends_none c.args.self.now.set_outs.items };
+      record { found = c.requires.can.found; set_outs = extends_none c.args.self.now.set_outs.items };
   takes = λ walks exits steps before all ext_before ext.
       let rules = g.C.Criterion.rules c.args.asked.now.criterion in
       let not_from = where_false c.is_from_source.result _ _ c.if-not-is_from_source.true c.is_from_source.ensures in

@@ -98,12 +98,23 @@ walks_into-begin-requires g c = begins g (goal.at.walks_into-begin-requires g c)
 pub footpath_into-walk-requires-clause-stop : goal.footpath_into-walk-requires-clause-stop
 footpath_into-walk-requires-clause-stop g c = begins g (goal.at.footpath_into-walk-requires-clause-stop g c).Start
 
+pub set_out_by-requires-clause-can : goal.set_out_by-requires-clause-can
+set_out_by-requires-clause-can g c = record { secs = tt; found = c.requires.under; labels = c.requires.labels }
+
+pub set_out_by-requires-in-loop-walk_index-clause-can : goal.set_out_by-requires-in-loop-walk_index-clause-can
+set_out_by-requires-in-loop-walk_index-clause-can g c = record {
+  secs =
+      (g.met.S.ConnSource.limits c.args.source.now).walks c.loop-walk_index.walk_index c.footpath_into-walk.result c.footpath_into-walk.ensures;
+  found = c.loop-walk_index.invariant.origin.found;
+  labels = c.requires.labels;
+}
+
 -- of a start it can be looked up whether it is from a source
 pub set_out_by-requires-clause-lead : goal.set_out_by-requires-clause-lead
 set_out_by-requires-clause-lead g c = record {
   here = c.requires.hop.access.here;
   within = tt;
-  says = λ stop lead at. (c.requires.starts.each stop lead at).here;
+  says = λ stop lead at. (c.requires.hop.starts.each stop lead at).here;
 }
 
 pub set_out_by-requires-in-loop-walk_index-clause-lead : goal.set_out_by-requires-in-loop-walk_index-clause-lead
@@ -112,6 +123,6 @@ set_out_by-requires-in-loop-walk_index-clause-lead g c =
     c.footpath_into-walk.ensures).0 in
     record {
       here = c.requires.hop.access.here;
-      within = subst (λ (n : ℕ). c.footpath_into-walk.result.from < n) (sym c.requires.starts.long) from_in;
-      says = λ stop lead at. (c.requires.starts.each stop lead at).here;
+      within = subst (λ (n : ℕ). c.footpath_into-walk.result.from < n) (sym c.requires.hop.starts.long) from_in;
+      says = λ stop lead at. (c.requires.hop.starts.each stop lead at).here;
     }

@@ -14,33 +14,27 @@ at_stop g c =
     slice_get_read each.items (length each.items) c.args.stop c.index_mut.result.now refl
     (subst (λ (n : ℕ). c.args.stop < n) each.ok.0 c.requires.stop) c.index_mut.ensures.value
 
-pub set_out_after-requires-clause-found : goal.set_out_after-requires-clause-found
-set_out_after-requires-clause-found g c = c.requires.origins c.args.stop c.index_mut.result.now
-    (at_stop g (goal.at.set_out_after-requires-clause-found g c).After-index_mut)
+pub set_out_after-requires : goal.set_out_after-requires
+set_out_after-requires g c = record {
+  secs = c.requires.secs;
+  found = c.requires.origins c.args.stop c.index_mut.result.now (at_stop g (goal.at.set_out_after-requires g c).After-index_mut);
+  labels = c.requires.labels;
+}
 
-pub returns-clause-origins : goal.returns-clause-origins
-returns-clause-origins g c =
-    let at = at_stop g (goal.at.returns-clause-origins g c).After-index_mut in
-    on_ok_more c.set_out_after.result _ _
-    (λ done. origins_set c.args.stop c.args.self.now _ c.index_mut.result.now c.set_out_after.new.self at refl c.args.asked.now.criterion
-    c.requires.origins done.origin)
-    c.set_out_after.ensures
-
-pub returns-clause-takes : goal.returns-clause-takes
-returns-clause-takes g c =
+pub returns : goal.returns
+returns g c =
     let rules = g.C.Criterion.rules c.args.asked.now.criterion in
-    let at = at_stop g (goal.at.returns-clause-takes g c).After-index_mut in
+    let at = at_stop g (goal.at.returns g c).After-index_mut in
+    let stop = c.args.stop in
+    let olds = c.args.self.now.each.items in
+    let old = c.index_mut.result.now in
+    let new = c.set_out_after.new.self in
     on_ok_more c.set_out_after.result _ _
-    (λ done walks. source_takes c.args.stop c.args.self.now.each.items
-    (set c.args.self.now.each.items c.args.stop c.set_out_after.new.self) c.index_mut.result.now c.set_out_after.new.self at refl rules walks
-    (λ tags. settings_out_after rules tags c.args.hop.now.place c.args.departure.time c.args.departure.start (label_points c.args.labels.now))
-    (done.takes walks))
-    c.set_out_after.ensures
-
-pub returns-clause-others : goal.returns-clause-others
-returns-clause-others g c =
-    let at = at_stop g (goal.at.returns-clause-others g c).After-index_mut in
-    on_ok_more c.set_out_after.result _ _
-    (λ done other differs. set_others c.args.stop c.args.self.now.each.items
-    (set c.args.self.now.each.items c.args.stop c.set_out_after.new.self) c.index_mut.result.now c.set_out_after.new.self at refl other differs)
+    (λ done. record {
+      origins = origins_set stop c.args.self.now _ old new at refl c.args.asked.now.criterion c.requires.origins done.origin;
+      takes = λ walks. source_takes stop olds (set olds stop new) old new at refl rules walks
+          (λ tags. settings_out_after rules tags c.args.hop.now.place c.args.departure.time c.args.departure.start (label_points c.args.labels.now))
+          (done.takes walks);
+      others = set_others stop olds (set olds stop new) old new at refl;
+    })
     c.set_out_after.ensures

@@ -28,23 +28,27 @@ walks_into-begin-requires g c = begins g (goal.at.walks_into-begin-requires g c)
 pub footpath_into-walk-requires-clause-stop : goal.footpath_into-walk-requires-clause-stop
 footpath_into-walk-requires-clause-stop g c = begins g (goal.at.footpath_into-walk-requires-clause-stop g c).Start
 
-pub set_out_by-requires-clause-stop : goal.set_out_by-requires-clause-stop
-set_out_by-requires-clause-stop g c =
-    subst (λ (n : ℕ). c.args.hop.now.connection.from < n) (sym (c.args.self.now.each.ok.0 ∙ c.requires.under.0.long))
-    (begins g (goal.at.set_out_by-requires-clause-stop g c).Start)
+pub set_out_by-requires : goal.set_out_by-requires
+set_out_by-requires g c = record {
+  secs = tt;
+  stop = subst (λ (n : ℕ). c.args.hop.now.connection.from < n) (sym (c.args.self.now.each.ok.0 ∙ c.requires.under.0.long))
+      (begins g (goal.at.set_out_by-requires g c).Start);
+  origins = c.requires.under.0.under;
+  labels = c.requires.labels;
+}
 
-pub set_out_by-requires-clause-origins : goal.set_out_by-requires-clause-origins
-set_out_by-requires-clause-origins g c = c.requires.under.0.under
-
-pub set_out_by-requires-in-loop-walk_index-clause-stop : goal.set_out_by-requires-in-loop-walk_index-clause-stop
-set_out_by-requires-in-loop-walk_index-clause-stop g c =
-    let from_in = ((g.met.S.ConnSource.legal c.args.source.now).ends_in_range c.loop-walk_index.walk_index c.footpath_into-walk.result
-    c.footpath_into-walk.ensures).0 in
-    subst (λ (n : ℕ). c.footpath_into-walk.result.from < n) (sym (c.loop-walk_index.self.each.ok.0 ∙ c.loop-walk_index.invariant.origins.long
-    ∙ c.requires.under.0.long)) from_in
-
-pub set_out_by-requires-in-loop-walk_index-clause-origins : goal.set_out_by-requires-in-loop-walk_index-clause-origins
-set_out_by-requires-in-loop-walk_index-clause-origins g c = c.loop-walk_index.invariant.origins.under
+pub set_out_by-requires-in-loop-walk_index : goal.set_out_by-requires-in-loop-walk_index
+set_out_by-requires-in-loop-walk_index g c =
+    let walk = c.footpath_into-walk.result in
+    let at = c.footpath_into-walk.ensures in
+    record {
+      secs = (g.met.S.ConnSource.limits c.args.source.now).walks c.loop-walk_index.walk_index walk at;
+      stop = subst (λ (n : ℕ). walk.from < n)
+          (sym (c.loop-walk_index.self.each.ok.0 ∙ c.loop-walk_index.invariant.origins.long ∙ c.requires.under.0.long))
+          ((g.met.S.ConnSource.legal c.args.source.now).ends_in_range c.loop-walk_index.walk_index walk at).0;
+      origins = c.loop-walk_index.invariant.origins.under;
+      labels = c.requires.labels;
+    }
 
 pub loop-walk_index-init : goal.loop-walk_index-init
 loop-walk_index-init g c =

@@ -108,6 +108,7 @@ take-requires-clause-hop g c =
     record {
       stands = c.requires.stands;
       by = c.requires.asked.by;
+      starts = c.requires.asked.starts;
       access = c.requires.asked.starts.each c.args.connection.now.from c.access_to.result c.access_to.ensures;
       final_walk = way_is g (goal.at.take-requires-clause-hop g c).After-final_walk_from-way;
       bound =

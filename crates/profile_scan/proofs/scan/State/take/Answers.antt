@@ -189,7 +189,7 @@ stepped g c new same under boarded index =
     (slice_index old.stops.heads.items (connection_at t hop.place).to)) in
     let has_left = subst (HasLeft rules q hop old.stops old.trips) (sym same) is.0 in
     let from_left = is.1 ∙ ap (λ (trips : Trips g.row.C.Denot g.row.C-V.Denot). record { trips = trips; stops = old.stops; origin = old.origin }) (sym same) in
-    is_step rules laws t q can sources kept hop c.requires.hop old new has_left
+    is_step rules laws t q can sources kept c.args.asked.now.starts hop c.requires.hop old new has_left
     (subst (λ (s : State g.row.C.Denot g.row.O.Denot g.row.C-V.Denot). HasBoarded rules t sources kept q hop
     (trip_points new.trips.labels hop.connection.trip) s new) from_left boarded)
     index bag_admitted (g.met.O.AtSource.bags criterion t.stops old.origin c.requires.state.origin index).admitted

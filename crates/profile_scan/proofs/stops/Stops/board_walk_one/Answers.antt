@@ -21,7 +21,7 @@ use Rattle.profile_scan.proofs.stops.Stops.board_walk_one.Goals as goal
 -- the list covers the value already
 pub returns-then-was_offered : goal.returns-then-was_offered
 returns-then-was_offered g c = record {
-  stops = lists_none g.C.Criterion.rules c.args.asked.now.criterion (vec_len c.args.self.now.heads) c.args.self.now c.requires.stops;
+  stops = lists_none g.C.Criterion.rules c.args.asked.now.criterion (vec_len c.args.self.now.heads) c.args.self.now c.requires.has.stops;
   takes = λ labels are walks at stop exits set_outs before all ext_before ext.
       let rules = g.C.Criterion.rules c.args.asked.now.criterion in
       let covers = subst (IsCovered rules (points_at c.args.self.now c.args.walk.from)
@@ -37,7 +37,7 @@ pub returns : goal.returns
 returns g c =
     let rules_of = g.C.Criterion.rules in
     let criterion = c.args.asked.now.criterion in
-    let are = c.requires.stops in
+    let are = c.requires.has.stops in
     let lists = c.args.self.now.lists in
     let new = c.insert_one.new.self in
     let heads = c.args.self.now.heads in
@@ -46,7 +46,7 @@ returns g c =
     let bound = length (entries_of lists) in
     let departure = hop.connection.dep - walk.secs in
     let points = list_points new c.in_ok-new.new in
-    let within : walk.from < length heads.items = subst (λ n. walk.from < n) heads.ok.0 c.requires.stop in
+    let within : walk.from < length heads.items = subst (λ n. walk.from < n) heads.ok.0 c.requires.has.there in
     let same = same_lists rules_of lists new are.sound c.insert_one.ensures.more in
     let taken = c.in_ok-new.ensures.taken in
     let kept = kept_under rules_of (lists_criterion lists) criterion are.under (list_points lists c.head-head.result) points
@@ -91,7 +91,7 @@ returns g c =
 
 pub returns-then-walk-dep : goal.returns-then-walk-dep
 returns-then-walk-dep g c = record {
-  stops = lists_none g.C.Criterion.rules c.args.asked.now.criterion (vec_len c.args.self.now.heads) c.args.self.now c.requires.stops;
+  stops = lists_none g.C.Criterion.rules c.args.asked.now.criterion (vec_len c.args.self.now.heads) c.args.self.now c.requires.has.stops;
   takes = λ labels are walks at stop exits set_outs before all ext_before ext.
       takes_unless (g.C.Criterion.rules c.args.asked.now.criterion)
       ((c.args.walk.from ≡ stop) × (c.args.walk.secs ≤ c.args.hop.now.connection.dep))

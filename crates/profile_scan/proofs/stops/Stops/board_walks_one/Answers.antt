@@ -23,17 +23,15 @@ loop-walk_index-init g c =
           c.args.walks.start (points_at c.args.self.now stop);
     }
 
-pub board_walk_one-requires-clause-stop : goal.board_walk_one-requires-clause-stop
-board_walk_one-requires-clause-stop g c =
-    let from_in : c.footpath_into-walk.result.from < (g.S.ConnSource.timetable c.args.source.now).stops =
-    ((g.met.S.ConnSource.legal c.args.source.now).ends_in_range c.loop-walk_index.walk_index c.footpath_into-walk.result
-    c.footpath_into-walk.ensures).0 in
-    subst (λ (n : ℕ). c.footpath_into-walk.result.from < n) (sym c.loop-walk_index.invariant.stops.stops.long) from_in
-
-pub board_walk_one-requires-clause-stops : goal.board_walk_one-requires-clause-stops
-board_walk_one-requires-clause-stops g c =
+pub board_walk_one-requires-clause-has : goal.board_walk_one-requires-clause-has
+board_walk_one-requires-clause-has g c =
     let inv = c.loop-walk_index.invariant.stops in
-    subst (λ (n : ℕ). AreStops g.C.Criterion.rules c.args.asked.now.criterion n c.loop-walk_index.self) (sym inv.stops.long) inv.stops
+    let walk = c.footpath_into-walk.result in
+    record {
+      there = subst (λ (n : ℕ). walk.from < n) (sym inv.stops.long)
+          ((g.met.S.ConnSource.legal c.args.source.now).ends_in_range c.loop-walk_index.walk_index walk c.footpath_into-walk.ensures).0;
+      stops = subst (λ (n : ℕ). AreStops g.C.Criterion.rules c.args.asked.now.criterion n c.loop-walk_index.self) (sym inv.stops.long) inv.stops;
+    }
 
 pub loop-walk_index-preserved : goal.loop-walk_index-preserved
 loop-walk_index-preserved g c =

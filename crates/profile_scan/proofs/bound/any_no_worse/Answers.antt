@@ -1,9 +1,9 @@
 use Rattle.std.proofs.Common.{List, Contains, sym, subst}
 use Rattle.reasoning.proofs.ListLemmas.{contains_rest}
-use Rattle.profile_scan.proofs.bound.any_no_worse_first.Goals as goal
+use Rattle.profile_scan.proofs.bound.any_no_worse.Goals as goal
 
-pub some_no_worse-requires-clause-points : goal.some_no_worse-requires-clause-points
-some_no_worse-requires-clause-points g c p is =
+pub some_no_worse-requires-2-clause-points : goal.some_no_worse-requires-2-clause-points
+some_no_worse-requires-2-clause-points g c p is =
     let first = c.in-Some.first.now in
     let others = c.in-Some.others.now in
     c.requires.values p
