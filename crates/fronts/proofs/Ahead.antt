@@ -1,8 +1,8 @@
 -- One value taken in before a list that begins no earlier.
 use Rattle.std.proofs.Common.{◌≡◌, ◌⊎◌, ℕ, zero, suc, ◌<◌, ◌≤◌, Bool, true, false, List, [], ◌∷◌, ◌++◌, length}
 use Rattle.std.proofs.Common.{Contains, inl, inr, refl, sym, ◌∙◌, ap, subst, arith}
-use Rattle.std.proofs.lemmas.List.Elements.{Contains-push, Contains-push_cases}
-use Rattle.reasoning.proofs.ListLemmas.{not_in_nil}
+use Rattle.std.proofs.lemmas.List.Elements.{Contains-push}
+use Rattle.reasoning.proofs.ListLemmas.{contains_only, not_in_nil}
 use Rattle.criteria.specs.Laws.{Rules, Laws, Admits}
 use Rattle.fronts.specs.declared.entry.Boarding.{Boarding}
 use Rattle.fronts.specs.declared.entry.Item.{Item}
@@ -35,10 +35,7 @@ read_fresh rules entries met items met_items m v test met_is items_are is fresh 
 
 module _ {V : Type 0} (rules : Rules V) (ride : RiddenLabel V) where
   pub fair_one : Admits rules ride.value → (r : RiddenLabel V) → Contains (ride ∷ []) r → Admits rules r.value
-  fair_one fair r h = elim (Contains-push_cases [] ride r h) [
-    | inl n ↦ absurd (not_in_nil r n)
-    | inr e ↦ subst (λ (z : RiddenLabel V). Admits rules z.value) e fair
-  ]
+  fair_one fair r h = subst (λ (z : RiddenLabel V). Admits rules z.value) (sym (contains_only ride r h)) fair
 
   one_walked : (secs : ℕ) (points kept : List (Item V))
       → Betters rules kept (rules.walk secs ride.value) ⊎ Betters rules points (rules.walk secs ride.value)
@@ -98,10 +95,8 @@ module _ {V : Type 0} (rules : Rules V) (laws : Laws rules) (entries : List (Fro
           keeps = record {
             boarded = m.0;
             few = omega arith;
-            fresh = λ p h. elim (Contains-push_cases [] (record { departure = boarding.departure; value = v; tag = length steps }) p h) [
-              | inl n ↦ absurd (not_in_nil p n)
-              | inr e ↦ subst (λ (z : Item V). betters rules (front entries items head) z.value ≡ false) e fresh
-            ];
+            fresh = λ p h. subst (λ (z : Item V). betters rules (front entries items head) z.value ≡ false)
+                (sym (contains_only (record { departure = boarding.departure; value = v; tag = length steps }) p h)) fresh;
             all = one_walked rules ride boarding.secs (front entries items head) (value_kept (length steps))
                 (inl (subst (Betters rules (value_kept (length steps))) worth m.2));
           };

@@ -2,8 +2,7 @@
 use Rattle.std.proofs.Common.{◌≡◌, ◌⊎◌, ℕ, ◌+◌, ◌<◌, List, [], ◌∷◌, length, get_or, Contains, inl, inr, sym, ◌∙◌, ap, subst, arith}
 use Rattle.std.proofs.lemmas.Bool.{cases_order}
 use Rattle.std.proofs.lemmas.List.{get_or_default}
-use Rattle.std.proofs.lemmas.List.Elements.{Contains-push_cases}
-use Rattle.reasoning.proofs.ListLemmas.{not_in_nil, contains_first}
+use Rattle.reasoning.proofs.ListLemmas.{contains_first, contains_only}
 use Rattle.criteria.specs.Laws.{Rules, Laws, Admits, IsSecs}
 use Rattle.bags.specs.declared.point.Point.{Point}
 use Rattle.bags.specs.Dominance.{IsCovered}
@@ -61,10 +60,7 @@ module _ {V : Type 0} (rules : Rules V) (boarding : Boarding) (ridden : List (Ri
             b.1,
             record {
               by = at.by;
-              is_ridden = elim (Contains-push_cases [] ride at.by at.is_ridden) [
-                | inl none ↦ absurd (not_in_nil at.by none)
-                | inr e ↦ subst (Contains ridden) e (n, lt, sym is)
-              ];
+              is_ridden = subst (Contains ridden) (sym (contains_only ride at.by at.is_ridden)) (n, lt, sym is);
               departs = at.departs;
               worth = at.worth;
               goes_on = at.goes_on;

@@ -1,7 +1,6 @@
 -- An insertion as a whole.
 use Rattle.std.proofs.Common.{◌≡◌, ◌⊎◌, ℕ, ◌<◌, ◌≤◌, List, [], ◌∷◌, length, get_or, Contains, false, inl, inr, ap, sym, ◌∙◌, subst, arith}
-use Rattle.std.proofs.lemmas.List.Elements.{Contains-append_cases, Contains-push_cases}
-use Rattle.reasoning.proofs.ListLemmas.{extends_none, not_in_nil}
+use Rattle.reasoning.proofs.ListLemmas.{contains_cases, extends_none, not_in_nil}
 use Rattle.criteria.specs.Laws.{Rules, Laws, Admits}
 use Rattle.fronts.specs.declared.entry.Boarding.{Boarding}
 use Rattle.fronts.specs.declared.entry.Item.{Item}
@@ -19,8 +18,8 @@ use Rattle.fronts.proofs.Points.{of_front}
 
 path_within : {V : Type 0} (entries : List (FrontEntry V)) (head : ℕ) (bs : List ℕ) (m b : ℕ) → IsPath entries head bs m → Contains bs b → b < length entries
 path_within entries head [] m b path h = absurd (not_in_nil b h)
-path_within entries head (x ∷ xs) m b path h = elim (Contains-append_cases (x ∷ []) xs b h) [
-  | inl a ↦ elim (Contains-push_cases [] x b a) [ inl n ↦ absurd (not_in_nil b n) | inr e ↦ subst (λ k. k < length entries) e path.2 ]
+path_within entries head (x ∷ xs) m b path h = elim (contains_cases b x xs h) [
+  | inl e ↦ subst (λ k. k < length entries) e path.2
   | inr later ↦ path_within entries (next_of entries x) xs m b path.3 later
 ]
 

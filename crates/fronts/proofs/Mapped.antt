@@ -1,9 +1,8 @@
 -- Items as points.
 use Rattle.std.proofs.Common.{◌≡◌, ℕ, ◌<◌, ◌≤◌, true, List, [], ◌∷◌, length, take, drop, map, Contains, Result, Ok, Err, IfOk, inl, inr}
 use Rattle.std.proofs.Common.{sym, ◌∙◌, ap, subst, arith}
-use Rattle.std.proofs.lemmas.List.Elements.{Contains-append_cases, Contains-append_left, Contains-append_right, Contains-push, Contains-push_cases}
 use Rattle.std.proofs.lemmas.Option.{slice_get_cases}
-use Rattle.reasoning.proofs.ListLemmas.{not_in_nil}
+use Rattle.reasoning.proofs.ListLemmas.{contains_cases, contains_first, contains_rest, not_in_nil}
 use Rattle.criteria.specs.Laws.{Rules, Laws, Admits}
 use Rattle.bags.specs.declared.point.Point.{Point}
 use Rattle.bags.specs.Dominance.{IsCovered}
@@ -24,23 +23,16 @@ use Rattle.fronts.proofs.Points.{front_at, front_from, points_admitted}
 module _ {V : Type 0} where
   pub into_points : (xs : List (Item V)) (x : Item V) → Contains xs x → Contains (map point_of xs) (point_of x)
   into_points [] x h = absurd (not_in_nil x h)
-  into_points (y ∷ ys) x h = elim (Contains-append_cases (y ∷ []) ys x h) [
-    | inl a ↦ elim (Contains-push_cases [] y x a) [
-      | inl n ↦ absurd (not_in_nil x n)
-      | inr e ↦ subst (λ z. Contains (map point_of (y ∷ ys)) (point_of z)) e
-          (Contains-append_left (point_of y ∷ []) (map point_of ys) (point_of y) (Contains-push [] (point_of y)))
-    ]
-    | inr b ↦ Contains-append_right (point_of y ∷ []) (map point_of ys) (point_of x) (into_points ys x b)
+  into_points (y ∷ ys) x h = elim (contains_cases x y ys h) [
+    | inl e ↦ subst (λ z. Contains (map point_of (y ∷ ys)) (point_of z)) e (contains_first (point_of y) (map point_of ys))
+    | inr b ↦ contains_rest (point_of x) (point_of y) (map point_of ys) (into_points ys x b)
   ]
 
   pub from_points : (xs : List (Item V)) (p : Point V) → Contains (map point_of xs) p → (x : Item V) × Contains xs x × (point_of x ≡ p)
   from_points [] p h = absurd (not_in_nil p h)
-  from_points (y ∷ ys) p h = elim (Contains-append_cases (point_of y ∷ []) (map point_of ys) p h) [
-    | inl a ↦ elim (Contains-push_cases [] (point_of y) p a) [
-      | inl n ↦ absurd (not_in_nil p n)
-      | inr e ↦ (y, Contains-append_left (y ∷ []) ys y (Contains-push [] y), e)
-    ]
-    | inr b ↦ (let x = from_points ys p b in (x.0, Contains-append_right (y ∷ []) ys x.0 x.1, x.2))
+  from_points (y ∷ ys) p h = elim (contains_cases p (point_of y) (map point_of ys) h) [
+    | inl e ↦ (y, contains_first y ys, e)
+    | inr b ↦ (let x = from_points ys p b in (x.0, contains_rest x.0 y ys x.1, x.2))
   ]
 
   covered_points : (rules : Rules V) (xs : List (Item V)) (d : ℕ) (v : V) → Covers rules xs d v → IsCovered rules (map point_of xs) d v
@@ -67,15 +59,15 @@ module _ {V : Type 0} where
 
   -- the same, of an insertion that may have run out of memory
   pub taken_if_ok : {K E : Type 0} (rules_of : K → Rules V) (boarding : Boarding) (ridden : List (RiddenLabel V))
-      (old new : FrontLists K V) (head : ℕ) (result : Result ℕ E) → IfOk result (λ taken. taken < length (entries_of new))
-      → IfOk result (λ taken. TakesBoardings (rules_of (lists_criterion old)) (steps_of new) boarding ridden
+      (old new : FrontLists K V) (head : ℕ) (result : Result ℕ E)
+      → IfOk result (λ taken. (taken < length (entries_of new)) × TakesBoardings (rules_of (lists_criterion old)) (steps_of new) boarding ridden
       (points_from (entries_of old) (items_of old) head) (points_from (entries_of new) (items_of new) taken))
       → IfOk result (HasTaken rules_of boarding ridden old head new)
-  taken_if_ok rules_of boarding ridden old new head (Err e) within takes = tt
-  taken_if_ok rules_of boarding ridden old new head (Ok taken) within takes = record {
-    within = within;
+  taken_if_ok rules_of boarding ridden old new head (Err e) takes = tt
+  taken_if_ok rules_of boarding ridden old new head (Ok taken) takes = record {
+    within = takes.0;
     takes = takes_points (rules_of (lists_criterion old)) (steps_of new) boarding ridden
-        (points_from (entries_of old) (items_of old) head) (points_from (entries_of new) (items_of new) taken) takes;
+        (points_from (entries_of old) (items_of old) head) (points_from (entries_of new) (items_of new) taken) takes.1;
   }
 
   -- under a total order a front is one point

@@ -15,17 +15,15 @@ use Rattle.fronts.specs.declared.run_labels.RunLabels.{RunLabels}
 use Rattle.fronts.specs.Offered.{others}
 use Rattle.fronts.proofs.Growth.{extends_long, same_part}
 
--- what is in a part is in the whole
-pub in_part : {X : Type 0} (xs : List X) (r c : ℕ) (x : X) → Contains (take c (drop r xs)) x → Contains xs x
-in_part {X} xs r c x h =
-    let behind = subst (λ (ys : List X). Contains ys x) (take-append-drop c (drop r xs)) (Contains-append_left (take c (drop r xs)) (drop c (drop r xs)) x h) in
-    subst (λ (ys : List X). Contains ys x) (take-append-drop r xs) (Contains-append_right (take r xs) (drop r xs) x behind)
-
 in_front : {X : Type 0} (xs : List X) (n : ℕ) (x : X) → Contains (take n xs) x → Contains xs x
 in_front {X} xs n x h = subst (λ (ys : List X). Contains ys x) (take-append-drop n xs) (Contains-append_left (take n xs) (drop n xs) x h)
 
 in_rest : {X : Type 0} (xs : List X) (n : ℕ) (x : X) → Contains (drop n xs) x → Contains xs x
 in_rest {X} xs n x h = subst (λ (ys : List X). Contains ys x) (take-append-drop n xs) (Contains-append_right (take n xs) (drop n xs) x h)
+
+-- what is in a part is in the whole
+pub in_part : {X : Type 0} (xs : List X) (r c : ℕ) (x : X) → Contains (take c (drop r xs)) x → Contains xs x
+in_part xs r c x h = in_rest xs r x (in_front (drop r xs) c x h)
 
 module _ {V : Type 0} where
   -- over what stood in the run

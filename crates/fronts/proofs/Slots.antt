@@ -3,17 +3,16 @@ use Rattle.std.proofs.Common.{◌≡◌, ℕ, zero, suc, ◌+◌, ◌<◌, Bool,
 use Rattle.std.proofs.Common.{inl, inr, refl, sym, ◌∙◌, ap, subst, arith}
 use Rattle.std.specs.Prelude.{Option, Some, None, slice_get, replicate}
 use Rattle.std.proofs.lemmas.Bool.{cases_eq, cases_lt, eq-eqb, false≢true, ne_eqb}
-use Rattle.std.proofs.lemmas.List.Elements.{Contains-push_cases}
 use Rattle.std.proofs.lemmas.Option.{slice_get_past}
 use Rattle.std.proofs.Math.Bool.{or-false}
-use Rattle.reasoning.proofs.ListLemmas.{at_below, not_in_nil, same_at, slice_get-replicate-is, slice_get-set_same, slice_get-set_other}
+use Rattle.reasoning.proofs.ListLemmas.{at_below, contains_only, not_in_nil, same_at, slice_get-replicate-is, slice_get-set_same, slice_get-set_other}
 use Rattle.criteria.specs.Laws.{Rules, Admits, IsTotal}
 use Rattle.fronts.specs.declared.labels.Label.{Label}
 use Rattle.fronts.specs.declared.labels.Labels.{Labels}
 use Rattle.fronts.specs.Offered.{TakesOffer, LosesOffer, is_beaten, others}
-use Rattle.fronts.specs.RunLabels.{run_at, run_labels}
+use Rattle.fronts.specs.RunLabels.{HasRun, run_at, run_labels, runs_of}
 use Rattle.fronts.specs.SlotLabels.{AreSlots, label_in, no_tag, slot_label, slot_or}
-use Rattle.fronts.specs.Labels.{AreLabels, labels_at}
+use Rattle.fronts.specs.Labels.{AreLabels, HasTrip, SaysTotal, labels_at}
 use Rattle.fronts.proofs.Runs.{in_part}
 
 -- slots and runs
@@ -43,13 +42,30 @@ pub says_not : {answer said : Bool} → answer ≡ said → answer ≡ false →
 says_not is unsaid said = false≢true (sym unsaid ∙ is ∙ said)
 
 -- under a total criterion each trip has a slot, and under any other there are none
-pub in_slots : (P : Type 0) (trip slots runs : ℕ) → trip < slots + runs → (0 < runs → P → ⊥) → P → trip < slots
+in_slots : (P : Type 0) (trip slots runs : ℕ) → trip < slots + runs → (0 < runs → P → ⊥) → P → trip < slots
 in_slots P trip slots zero in_range partial total = omega arith
 in_slots P trip slots (suc n) in_range partial total = absurd (partial (omega arith) total)
 
-pub no_slots : (P : Type 0) (slots : ℕ) → (0 < slots → P) → (P → ⊥) → slots ≡ 0
+no_slots : (P : Type 0) (slots : ℕ) → (0 < slots → P) → (P → ⊥) → slots ≡ 0
 no_slots P zero total partial = refl
 no_slots P (suc n) total partial = absurd (partial (total (omega arith)))
+
+-- a trip has a slot under a total criterion, and a run under any other
+module _ {V : Type 0} (rules : Rules V) (labels : Labels V) (trip : ℕ) (has : HasTrip rules labels trip) where
+  pub slot_there : SaysTotal rules → trip < length labels.slots.items
+  slot_there total = in_slots (SaysTotal rules) trip (length labels.slots.items) (length (runs_of labels.runs)) has.there has.sound.partial total
+
+  pub at_slot : SaysTotal rules → labels_at labels trip ≡ slot_label labels.slots.items trip
+  at_slot total = in_slot labels.slots.items (run_labels labels.runs trip) trip (slot_there total)
+
+  pub slots_gone : (SaysTotal rules → ⊥) → length labels.slots.items ≡ 0
+  slots_gone partial = no_slots (SaysTotal rules) (length labels.slots.items) has.sound.total partial
+
+  pub has_run : (SaysTotal rules → ⊥) → HasRun rules labels.runs trip
+  has_run partial = let none = slots_gone partial in let there = has.there in record { there = omega arith; sound = has.sound.runs }
+
+  pub at_run : (SaysTotal rules → ⊥) → labels_at labels trip ≡ run_labels labels.runs trip
+  at_run partial = no_slot labels.slots.items (run_labels labels.runs trip) trip (slots_gone partial)
 
 pub no_slots_are : {V : Type 0} (rules : Rules V) (slots : List (Label V)) → slots ≡ [] → AreSlots rules slots
 no_slots_are rules slots none k slot at =
@@ -70,10 +86,6 @@ module _ {V : Type 0} (slots : List (Label V)) (count : ℕ) (none : Label V) (a
       ap (λ (b : Bool). cond b [] (slot ∷ [])) (eq-eqb slot.tag no_tag e)
 
 -- the label in a slot, as a part of the slots
-length_by : {X : Type 0} (empty : Bool) (x : X) → length (cond empty [] (x ∷ [])) ≡ cond empty 0 1
-length_by true x = refl
-length_by false x = refl
-
 part_by : {X : Type 0} (empty : Bool) (x y : X) (ys : List X) → y ≡ x → take (length (cond empty [] (x ∷ []))) (y ∷ ys) ≡ cond empty [] (x ∷ [])
 part_by true x y ys e = refl
 part_by false x y ys e = ap (λ z. z ∷ []) e
@@ -88,8 +100,11 @@ module _ {V : Type 0} (slots : List (Label V)) (trip : ℕ) (slot : Label V) (at
   label_is : slot_label slots trip ≡ label_in slot
   label_is = ap (λ (o : Option (Label V)). slot_or o []) at
 
-  pub count_is : (n : ℕ) → n ≡ cond (nat_eq slot.tag no_tag) 0 1 → n ≡ length (slot_label slots trip)
-  count_is n is = is ∙ sym (length_by (nat_eq slot.tag no_tag) slot) ∙ sym (ap length label_is)
+  pub none_in : slot.tag ≡ no_tag → 0 ≡ length (slot_label slots trip)
+  none_in e = sym (ap length label_is ∙ ap (λ (b : Bool). length (cond b [] (slot ∷ []))) (eq-eqb slot.tag no_tag e))
+
+  pub one_in : (slot.tag ≡ no_tag → ⊥) → 1 ≡ length (slot_label slots trip)
+  one_in some = sym (ap length label_is ∙ ap (λ (b : Bool). length (cond b [] (slot ∷ []))) (ne_eqb slot.tag no_tag some))
 
   pub part_is : take (length (slot_label slots trip)) (drop trip slots) ≡ slot_label slots trip
   part_is =
@@ -113,10 +128,12 @@ module _ {V : Type 0} (rules : Rules V) (total : IsTotal rules) (slot : Label V)
   none_else : is_beaten rules (label_in slot) v ≡ false → others rules v (label_in slot) ≡ []
   none_else free = none_else_by (nat_eq slot.tag no_tag) free
 
--- a label that doesn't beat a value, in its slot
-pub slot_free : {V : Type 0} (rules : Rules V) (slots : List (Label V)) (trip : ℕ) (slot : Label V) (v : V)
-    → slice_get slots trip ≡ Some slot → is_beaten rules (label_in slot) v ≡ false → is_beaten rules (slot_label slots trip) v ≡ false
-slot_free rules slots trip slot v at free = ap (λ (o : Option (Label _)). is_beaten rules (slot_or o []) v) at ∙ free
+-- an offer is lost where the label in the slot doesn't beat the value
+pub slot_lost : {V : Type 0} (rules : Rules V) (slots : List (Label V)) (trip : ℕ) (slot : Label V) (v : V)
+    → slice_get slots trip ≡ Some slot → is_beaten rules (label_in slot) v ≡ false
+    → LosesOffer rules trip v (slot_label slots) (slot_label slots)
+slot_lost rules slots trip slot v at free =
+    record { free = ap (λ (o : Option (Label _)). is_beaten rules (slot_or o []) v) at ∙ free; stay = λ k. refl }
 
 -- a label written over that in a slot
 module _ {V : Type 0} (rules : Rules V) (slots : List (Label V)) (trip : ℕ) (slot new : Label V) (at : slice_get slots trip ≡ Some slot)
@@ -151,7 +168,7 @@ module _ {V : Type 0} (rules : Rules V) (slots : List (Label V)) (trip : ℕ) (s
 -- the labels of a trip are of values that the laws speak of
 in_one : {X : Type 0} (empty : Bool) (x l : X) → Contains (cond empty [] (x ∷ [])) l → x ≡ l
 in_one true x l h = absurd (not_in_nil l h)
-in_one false x l h = elim (Contains-push_cases [] x l h) [ inl n ↦ absurd (not_in_nil l n) | inr e ↦ e ]
+in_one false x l h = sym (contains_only x l h)
 
 module _ {V : Type 0} (rules : Rules V) (labels : Labels V) (are : AreLabels rules labels) (trip : ℕ) (l : Label V) where
   admitted_by : (o : Option (Label V)) → slice_get labels.slots.items trip ≡ o → Contains (slot_or o (run_labels labels.runs trip)) l → Admits rules l.value

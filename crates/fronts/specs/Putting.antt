@@ -87,6 +87,16 @@ pub record MayJoin {V : Type 0} (rules : Rules V) (entries : List (FrontEntry V)
   pub early : departure_of entries from < departure_of entries index
   pub covers : CoversAll rules (points_from entries items (next_of entries from)) (points_from entries items index)
 
+-- these entries lead from `head` to `after`, and may be joined to the list from a later entry on, which covers what there is from `after` on
+pub record MayJoinAll {V : Type 0} (rules : Rules V) (entries : List (FrontEntry V)) (items : List (Item V)) (head : ℕ)
+    (passed : List ℕ) (after index : ℕ) : Type 0 where
+  pub sound : AreEntries rules entries items
+  pub path : IsPath entries head passed after
+  pub after_within : after < length entries
+  pub within : index < length entries
+  pub early : DepartBefore entries (departure_of entries index) passed
+  pub covers : CoversAll rules (points_from entries items after) (points_from entries items index)
+
 -- `after` is the entry that follows a front put before the list from `index` on: `next` if the entry at `index` departs together with the front, and `index` if
 -- it departs later
 abbrev pub Follows : ℕ → ℕ → ℕ → ℕ → ℕ → Type 0

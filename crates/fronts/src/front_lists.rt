@@ -27,10 +27,9 @@ pub struct FrontLists<C: Criterion> {
 
 impl<C: Criterion> FrontLists<C> {
     ghost use Rattle.std.specs.Prelude.{◌≡◌, [], ◌∷◌, ◌<◌, ◌≤◌, IfOk, length, slice_get, Some};
-    ghost use Rattle.fronts.specs.Front.{departure_of, points_from};
-    ghost use Rattle.fronts.specs.Lists.{lists_criterion, entries_of, items_of, steps_of, front_at};
+    ghost use Rattle.fronts.specs.Front.{departure_of};
+    ghost use Rattle.fronts.specs.Lists.{entries_of, steps_of, front_at};
     ghost use Rattle.fronts.specs.Lists.{HasList, IsEmptyAlone, IsFrontFrom, MayTake, AreMoreLists, HasTaken};
-    ghost use Rattle.fronts.specs.Putting.{MayPut, IsJoined};
 
     /// Makes the empty list, and no other.
     pub fn new(alloc: Global, criterion: C) -> Result<Self, AllocError>
@@ -81,7 +80,7 @@ impl<C: Criterion> FrontLists<C> {
             return 1;
         }
         let entry = self.entries[index as usize];
-        with_own(entry.count)
+        entry.count as usize + 1
     }
 
     /// The point at index `k` of the front of entry `index`.
@@ -236,7 +235,7 @@ impl<C: Criterion> FrontLists<C> {
     }
 
     // Takes one ridden value in before a list whose first entry departs no earlier: no entry is passed, and only this
-    // value can be kept.
+    // value can be kept. Mostly it betters all of the list's front, and then it is put alone.
     #[inline(always)]
     fn insert_ahead(
         &mut self,
@@ -268,24 +267,6 @@ impl<C: Criterion> FrontLists<C> {
             value,
             tag,
         };
-        self.put_one(head, point)
-    }
-
-    // Puts a front before a list whose first entry departs no earlier: one point, and those of the list's front that
-    // it doesn't better. Mostly there are none of these, and then the point is put alone.
-    #[inline(always)]
-    fn put_one(&mut self, head: u32, point: Item<C::V>) -> Result<u32, AllocError>
-        requires may { MayPut (C.rules (lists_criterion self.old)) (entries_of self.old) (items_of self.old)
-            point.departure head (point ∷ []) }
-        ensures more { AreMoreLists C.rules self.old self.new }
-        ensures steps { steps_of self.new ≡ steps_of self.old }
-        ensures joined { IfOk result (IsJoined (C.rules (lists_criterion self.old)) (point ∷ [])
-            (points_from (entries_of self.old) (items_of self.old) head) (entries_of self.new) (items_of self.new)) }
-    {
-        let arena = Arena {
-            entries: &self.entries,
-            items: &self.items,
-        };
         if outdoes(&self.criterion, arena, head, &point.value) {
             return put_alone(&self.criterion, &mut self.entries, &self.items, point, head);
         }
@@ -313,13 +294,6 @@ fn point<V>(departure: u32, value: V, tag: u32) -> Point<V>
         value,
         tag: tag as usize,
     }
-}
-
-// The number of points of an entry's front: its own and `count` items.
-fn with_own(count: u32) -> usize
-    ensures { result ≡ count + 1 }
-{
-    count as usize + 1
 }
 
 // The item at index `rest + k`.

@@ -2,8 +2,8 @@
 
 ghost use Rattle.std.specs.Prelude.{◌<◌, ◌≤◌, length, IfOk};
 ghost use Rattle.fronts.specs.Front.{departure_of, points_from, Extends};
-ghost use Rattle.fronts.specs.Entries.{AreEntries, AreMore};
-ghost use Rattle.fronts.specs.Putting.{IsPath, DepartBefore, CoversAll, IsJoined, MayJoin};
+ghost use Rattle.fronts.specs.Entries.{AreMore};
+ghost use Rattle.fronts.specs.Putting.{IsJoined, MayJoin, MayJoinAll};
 ghost use Rattle.fronts.specs.Walking.{MayInsert, TakesBoardings};
 ghost use Rattle.fronts.specs.Labels.{SaysTotal};
 
@@ -55,13 +55,8 @@ fn join<C: Criterion>(
     after: u32,
     index: u32,
 ) -> Result<u32, AllocError>
-    requires entries { AreEntries (C.rules criterion.now) entries.old.items items.old.items }
-    requires index { index < length entries.old.items }
-    requires path { IsPath entries.old.items head passed.old.items after }
-    requires after { after < length entries.old.items }
-    requires early { DepartBefore entries.old.items (departure_of entries.old.items index) passed.old.items }
-    requires covers { CoversAll (C.rules criterion.now) (points_from entries.old.items items.old.items after)
-        (points_from entries.old.items items.old.items index) }
+    requires may { MayJoinAll (C.rules criterion.now) entries.old.items items.old.items head passed.old.items after
+        index }
     ensures more { AreMore (C.rules criterion.now) entries.old.items items.old.items entries.new.items items.new.items }
     ensures joined { IfOk result (IsJoined (C.rules criterion.now)
         (points_from entries.old.items items.old.items head) (points_from entries.old.items items.old.items index)
@@ -91,8 +86,8 @@ pub fn insert<C: Criterion>(
     requires few { SaysTotal (C.rules criterion.now) → length ridden.now ≤ 1 }
     ensures more { AreMore (C.rules criterion.now) entries.old.items items.old.items entries.new.items items.new.items }
     ensures steps { Extends steps.old.items steps.new.items }
-    ensures within { IfOk result (λ new. new < length entries.new.items) }
-    ensures takes { IfOk result (λ new. TakesBoardings (C.rules criterion.now) steps.new.items boarding ridden.now
+    ensures takes { IfOk result (λ new. (new < length entries.new.items)
+        × TakesBoardings (C.rules criterion.now) steps.new.items boarding ridden.now
         (points_from entries.old.items items.old.items head) (points_from entries.new.items items.new.items new)) }
 {
     let after = pass(

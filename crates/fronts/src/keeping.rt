@@ -4,7 +4,7 @@ ghost use Rattle.std.specs.Prelude.{◌≡◌, ◌++◌, ◌∷◌, [], ◌<◌,
 ghost use Rattle.criteria.specs.Laws.{Admits};
 ghost use Rattle.fronts.specs.Front.{front, Extends};
 ghost use Rattle.fronts.specs.Entries.{HasEntry};
-ghost use Rattle.fronts.specs.Putting.{left_by};
+ghost use Rattle.fronts.specs.Putting.{left_by, MayJoin};
 ghost use Rattle.fronts.specs.Walking.{IsKept, MayInsert, AreKept};
 
 use crate::entry::{Arena, Boarding, Item, RiddenLabel, Step};
@@ -44,9 +44,7 @@ pub fn keep_front<C: Criterion>(
     index: u32,
     kept: &mut Vec<Item<C::V>>,
 ) -> Result<(), AllocError>
-    requires entry { HasEntry (C.rules criterion.now) arena.entries.now arena.items.now index }
-    requires some { 0 < from }
-    requires from { from < length arena.entries.now }
+    requires may { MayJoin (C.rules criterion.now) arena.entries.now arena.items.now from index }
     ensures { OnOk result (kept.new.items ≡ left_by (C.rules criterion.now)
         (front arena.entry.entries.now arena.entry.items.now index)
         (front arena.entry.entries.now arena.entry.items.now from)) }

@@ -9,8 +9,9 @@ ghost use Rattle.criteria.specs.Laws.{Admits};
 ghost use Rattle.fronts.specs.Offered.{TakesOffer, LosesOffer};
 ghost use Rattle.fronts.specs.Labels.{AreLabels, HasTrip, labels_at, trips_of};
 
+use crate::copying::copies;
 use crate::run_labels::{RunLabels, offer_run};
-use crate::slot_labels::{count_at, empty_slots, label_of, offer_slot};
+use crate::slot_labels::{NO_TAG, count_at, label_of, offer_slot};
 use criteria::Criterion;
 use std::alloc::{AllocError, Global};
 
@@ -42,7 +43,11 @@ pub fn no_labels<C: Criterion>(
     ensures none { IfOk result (λ labels. (trip : ℕ) → labels_at labels trip ≡ []) }
 {
     if criterion.is_total() {
-        let slots = empty_slots(alloc, criterion, trips as usize)?;
+        let none = Label {
+            value: criterion.arrive(0),
+            tag: NO_TAG,
+        };
+        let slots = copies(alloc, none, trips as usize)?;
         let runs = RunLabels::new(alloc, 0)?;
         return Ok(Labels { slots, runs });
     }

@@ -4,7 +4,7 @@ ghost use Rattle.std.specs.Prelude.{◌≡◌, ◌+◌, ◌++◌, ◌∷◌, [],
 ghost use Rattle.std.specs.Prelude.{Contains, IfOk, OnOk, OnErr};
 ghost use Rattle.criteria.specs.Laws.{Admits};
 ghost use Rattle.fronts.specs.Front.{front, departure_of, points_from, Extends};
-ghost use Rattle.fronts.specs.Entries.{AreEntries, AreMore};
+ghost use Rattle.fronts.specs.Entries.{HasEntry, AreMore};
 ghost use Rattle.fronts.specs.Putting.{Follows, left_by, outdoes_alone, MayPut, IsJoined};
 
 use crate::entry::{FrontEntry, Item};
@@ -77,8 +77,7 @@ fn leave_front<C: Criterion>(
     points: &[Item<C::V>],
     index: u32,
 ) -> Result<(), AllocError>
-    requires entries { AreEntries (C.rules criterion.now) entries.now items.old.items }
-    requires index { index < length entries.now }
+    requires entry { HasEntry (C.rules criterion.now) entries.now items.old.items index }
     requires points { (p : _) → Contains points.now p → Admits (C.rules criterion.now) p.value }
     ensures extends { Extends items.old.items items.new.items }
     ensures left { OnOk result (items.new.items ≡ items.old.items

@@ -47,7 +47,12 @@ impl<V: Copy> RunLabels<V> {
         ensures labels { IfOk result (λ labels. (rules : Rules _) → AreRunLabels rules labels) }
         ensures none { IfOk result (λ labels. (trip : ℕ) → run_labels labels trip ≡ []) }
     {
-        let runs = no_runs(alloc, trips as usize)?;
+        let none = LabelRun {
+            first: 0,
+            count: 0,
+            room: 0,
+        };
+        let runs = vec![in alloc; none; trips as usize]?;
         Ok(RunLabels {
             runs,
             labels: Vec::new(alloc),
@@ -72,41 +77,12 @@ impl<V: Copy> RunLabels<V> {
     }
 }
 
-// Returns `count` runs without labels or room.
-fn no_runs(alloc: Global, count: usize) -> Result<Vec<LabelRun>, AllocError>
-    ensures { IfOk result (λ runs. runs.items ≡ replicate count no_run) }
-{
-    let none = LabelRun {
-        first: 0,
-        count: 0,
-        room: 0,
-    };
-    vec![in alloc; none; count]
-}
-
 // The labels of a run.
 fn part<V>(labels: &[Label<V>], run: LabelRun) -> &[Label<V>]
     requires { run.first + run.count ≤ length labels.now }
     ensures { result.now ≡ labels_in labels.now run }
 {
     &labels[run.first as usize..run.first as usize + run.count as usize]
-}
-
-// Adds a label to those kept, unless `value` is no worse.
-fn keep_other<C: Criterion>(
-    criterion: &C,
-    label: Label<C::V>,
-    value: &C::V,
-    kept: &mut Vec<Label<C::V>>,
-) -> Result<(), AllocError>
-    requires label { Admits (C.rules criterion.now) label.value }
-    requires value { Admits (C.rules criterion.now) value.now }
-    ensures { OnOk result (kept.new.items ≡ kept.old.items ++ others (C.rules criterion.now) value.now (label ∷ [])) }
-{
-    if !criterion.no_worse(value, &label.value) {
-        kept.push(label)?;
-    }
-    Ok(())
 }
 
 // Keeps each label unless `value` is no worse, instead of those kept before.
@@ -123,7 +99,9 @@ fn keep_others<C: Criterion>(
     kept.clear();
     for k in 0..labels.len() {
         let label = labels[k];
-        keep_other(criterion, label, value, kept)?;
+        if !criterion.no_worse(value, &label.value) {
+            kept.push(label)?;
+        }
     }
     Ok(())
 }
@@ -139,22 +117,8 @@ fn write_over<V: Copy>(labels: &mut Vec<Label<V>>, first: u32, new: &[Label<V>])
     }
 }
 
-// Puts labels at the end, with room for nearly as many again. Returns where they are.
-fn append<V: Copy>(labels: &mut Vec<Label<V>>, new: &[Label<V>]) -> Result<LabelRun, AllocError>
-    requires some { 0 < length new.now }
-    ensures put { IfOk result (λ placed. (run : LabelRun)
-        → ArePut labels.old.items run new.now placed labels.new.items) }
-    ensures err { OnErr result (ArePartlyPut labels.old.items new.now labels.new.items) }
-{
-    let first = index_of(labels.len())?;
-    labels.extend_from_slice(new)?;
-    labels.extend_from_slice(&new[1..])?;
-    let room = index_of(labels.len() - first as usize)?;
-    let count = index_of(new.len())?;
-    Ok(LabelRun { first, count, room })
-}
-
-// Puts labels where a run is, if it has room for them, or else at the end. Returns where they are.
+// Puts labels where a run is, if it has room for them, or else at the end, with room for nearly as many again. Returns
+// where they are.
 fn put<V: Copy>(
     labels: &mut Vec<Label<V>>,
     run: LabelRun,
@@ -166,11 +130,15 @@ fn put<V: Copy>(
     ensures err { OnErr result (ArePartlyPut labels.old.items new.now labels.new.items) }
 {
     let count = index_of(new.len())?;
-    if count > run.room {
-        return append(labels, new);
+    if count <= run.room {
+        write_over(labels, run.first, new);
+        return Ok(LabelRun { count, ..run });
     }
-    write_over(labels, run.first, new);
-    Ok(LabelRun { count, ..run })
+    let first = index_of(labels.len())?;
+    labels.extend_from_slice(new)?;
+    labels.extend_from_slice(&new[1..])?;
+    let room = index_of(labels.len() - first as usize)?;
+    Ok(LabelRun { first, count, room })
 }
 
 /// Adds a value with its tag to the labels of a trip, unless one of them is no worse, and drops those that it is no

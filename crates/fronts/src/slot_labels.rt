@@ -2,40 +2,18 @@
 //!
 //! One label is enough if the criterion is total: of two labels the better one stays.
 
-ghost use Rattle.std.specs.Prelude.{◌≡◌, [], ℕ, ◌<◌, ◌≤◌, cond, nat_eq, length};
-ghost use Rattle.std.specs.Prelude.{IfOk, OnErr, slice_get, Some};
+ghost use Rattle.std.specs.Prelude.{◌≡◌, ◌<◌, ◌≤◌, length, IfOk, OnErr};
 ghost use Rattle.criteria.specs.Laws.{Admits, IsTotal};
-ghost use Rattle.fronts.specs.declared.labels.Label.{Label};
 ghost use Rattle.fronts.specs.Offered.{TakesOffer, LosesOffer, is_beaten};
-ghost use Rattle.fronts.specs.SlotLabels.{AreSlots, label_in, no_tag, slot_label};
+ghost use Rattle.fronts.specs.SlotLabels.{AreSlots, label_in, slot_label};
 
-use crate::copying::copies;
 use crate::labels::Label;
 use crate::putting::index_of;
 use criteria::Criterion;
-use std::alloc::{AllocError, Global};
+use std::alloc::AllocError;
 
-// The tag of a slot without a label.
-const NO_TAG: u32 = u32::MAX;
-
-/// Returns `count` empty slots.
-pub fn empty_slots<C: Criterion>(
-    alloc: Global,
-    criterion: &C,
-    count: usize,
-) -> Result<Vec<Label<C::V>>, AllocError>
-    ensures long { IfOk result (λ slots. length slots.items ≡ count) }
-    ensures slots { IfOk result (λ slots. AreSlots (C.rules criterion.now) slots.items) }
-    ensures none { IfOk result (λ slots. (k : ℕ) (slot : Label _) → slice_get slots.items k ≡ Some slot
-        → label_in slot ≡ []) }
-{
-    let none = Label {
-        value: criterion.arrive(0),
-        tag: NO_TAG,
-    };
-    let slots = copies(alloc, none, count)?;
-    Ok(slots)
-}
+/// The tag of a slot without a label.
+pub const NO_TAG: u32 = u32::MAX;
 
 /// The number of labels in a trip's slot, 0 or 1.
 #[inline(always)]
@@ -45,16 +23,7 @@ pub fn count_at<V: Copy>(slots: &[Label<V>], trip: u32) -> u32
     ensures most { result ≤ 1 }
 {
     let slot = slots[trip as usize];
-    count_in(slot.tag)
-}
-
-// The number of labels in a slot with this tag, 0 or 1.
-#[inline(always)]
-fn count_in(tag: u32) -> u32
-    ensures count { result ≡ cond (nat_eq tag no_tag) 0 1 }
-    ensures most { result ≤ 1 }
-{
-    if tag == NO_TAG {
+    if slot.tag == NO_TAG {
         return 0;
     }
     1
@@ -81,18 +50,6 @@ fn beats<C: Criterion>(criterion: &C, slot: &Label<C::V>, value: &C::V) -> bool
         return false;
     }
     criterion.no_worse(&slot.value, value)
-}
-
-// Returns a number as the tag of a label. From 2^32 - 1 on it fails, as if memory had run out.
-fn slot_tag(number: usize) -> Result<u32, AllocError>
-    ensures tag { IfOk result (λ tag. (tag ≡ number) × (tag < no_tag)) }
-    ensures full { OnErr result (no_tag ≤ number) }
-{
-    let tag = index_of(number)?;
-    if tag >= NO_TAG {
-        return Err(AllocError);
-    }
-    Ok(tag)
 }
 
 /// Replaces the label in a trip's slot by a value with its tag, unless the label there is no worse. Returns whether
@@ -123,7 +80,10 @@ pub fn offer_slot<C: Criterion>(
     if beats(criterion, &slot, &value) {
         return Ok(false);
     }
-    let tag = slot_tag(tag)?;
+    let tag = index_of(tag)?;
+    if tag >= NO_TAG {
+        return Err(AllocError);
+    }
     slots[trip as usize] = Label { value, tag };
     Ok(true)
 }

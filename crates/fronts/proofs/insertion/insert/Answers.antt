@@ -51,11 +51,13 @@ union g c =
     c.deref-5.ensures.value c.in_ok-index.ensures.joined.union
 
 pub returns-then-len-eq0-clause-takes : goal.returns-then-len-eq0-clause-takes
-returns-then-len-eq0-clause-takes g c =
-    takes_none (g.C.Criterion.rules c.args.criterion.now) (g.met.C.Criterion.laws c.args.criterion.now)
-    c.args.entries.now.items c.args.items.now.items c.args.head c.args.boarding c.in_ok-after.after c.args.ridden.now
-    c.keep_walked.new.steps.items c.keep_walked.new.kept.items
-    (known g (goal.at.returns-then-len-eq0-clause-takes g c).In_ok-keep_walked) (omega arith)
+returns-then-len-eq0-clause-takes g c = (
+  c.requires.may.within,
+  takes_none (g.C.Criterion.rules c.args.criterion.now) (g.met.C.Criterion.laws c.args.criterion.now)
+      c.args.entries.now.items c.args.items.now.items c.args.head c.args.boarding c.in_ok-after.after c.args.ridden.now
+      c.keep_walked.new.steps.items c.keep_walked.new.kept.items
+      (known g (goal.at.returns-then-len-eq0-clause-takes g c).In_ok-keep_walked) (omega arith),
+)
 
 pub put-requires : goal.put-requires
 put-requires g c = record {
@@ -66,37 +68,33 @@ put-requires g c = record {
       c.keep_walked.new.steps.items c.keep_walked.new.kept.items (known g (goal.at.put-requires g c).In_ok-keep_walked) (omega arith));
 }
 
-pub join-requires-clause-path : goal.join-requires-clause-path
-join-requires-clause-path g c =
+pub join-requires : goal.join-requires
+join-requires g c =
+    let rules = g.C.Criterion.rules c.args.criterion.now in
+    let entries = c.args.entries.now.items in
+    let two = c.put.new.entries.items in
+    let after = c.in_ok-after.after in
     let more = c.in_ok-index.ensures.more in
-    path_more (g.C.Criterion.rules c.args.criterion.now) c.args.entries.now.items c.put.new.entries.items
-    c.args.items.now.items c.put.new.items.items c.requires.may.sound more.entries_more more.items_more c.args.head
-    c.pass.new.passed.items c.in_ok-after.after (path g (goal.at.join-requires-clause-path g c).In_ok-index)
-
-pub join-requires-clause-after : goal.join-requires-clause-after
-join-requires-clause-after g c =
-    let within = (known g (goal.at.join-requires-clause-after g c).In_ok-keep_walked).late.within in
-    let grows = extends_long c.args.entries.now.items c.put.new.entries.items c.in_ok-index.ensures.more.entries_more in
-    omega arith
-
-pub join-requires-clause-early : goal.join-requires-clause-early
-join-requires-clause-early g c =
+    let here = (goal.at.join-requires g c).In_ok-index in
+    let are = known g (goal.at.join-requires g c).In_ok-keep_walked in
+    let grows = extends_long entries two more.entries_more in
+    let within = are.late.within in
     let early = subst (λ es. DepartBefore es c.args.boarding.departure c.pass.new.passed.items) c.deref.ensures.value c.in_ok-after.ensures.early in
-    let more = c.in_ok-index.ensures.more in
-    before_more (g.C.Criterion.rules c.args.criterion.now) c.args.entries.now.items c.put.new.entries.items
-    c.args.items.now.items c.put.new.items.items c.requires.may.sound more.entries_more more.items_more c.args.head
-    c.pass.new.passed.items c.in_ok-after.after c.args.boarding.departure
-    (departure_of c.put.new.entries.items c.in_ok-index.index) (path g (goal.at.join-requires-clause-early g c).In_ok-index) early c.in_ok-index.ensures.departs
-
-pub join-requires-clause-covers : goal.join-requires-clause-covers
-join-requires-clause-covers g c =
-    let more = c.in_ok-index.ensures.more in
-    takes_covers (g.C.Criterion.rules c.args.criterion.now) (g.met.C.Criterion.laws c.args.criterion.now)
-    c.args.entries.now.items c.args.items.now.items c.args.head c.args.boarding c.in_ok-after.after c.args.ridden.now
-    c.keep_walked.new.steps.items c.keep_walked.new.kept.items
-    (known g (goal.at.join-requires-clause-covers g c).In_ok-keep_walked) c.put.new.entries.items c.put.new.items.items
-    (points_from c.put.new.entries.items c.put.new.items.items c.in_ok-index.index) more.entries_more more.items_more (union g
-    (goal.at.join-requires-clause-covers g c).In_ok-index)
+    record {
+      may = record {
+        sound = more.sound;
+        path = path_more rules entries two c.args.items.now.items c.put.new.items.items c.requires.may.sound more.entries_more more.items_more c.args.head
+            c.pass.new.passed.items after (path g here);
+        after_within = omega arith;
+        within = c.in_ok-index.ensures.joined.within;
+        early = before_more rules entries two c.args.items.now.items c.put.new.items.items c.requires.may.sound more.entries_more more.items_more
+            c.args.head c.pass.new.passed.items after c.args.boarding.departure (departure_of two c.in_ok-index.index) (path g here) early
+            c.in_ok-index.ensures.departs;
+        covers = takes_covers rules (g.met.C.Criterion.laws c.args.criterion.now) entries c.args.items.now.items c.args.head c.args.boarding after
+            c.args.ridden.now c.keep_walked.new.steps.items c.keep_walked.new.kept.items are two c.put.new.items.items
+            (points_from two c.put.new.items.items c.in_ok-index.index) more.entries_more more.items_more (union g here);
+      };
+    }
 
 pub returns-in_err-new-clause-more : goal.returns-in_err-new-clause-more
 returns-in_err-new-clause-more g c =
@@ -112,14 +110,16 @@ returns-clause-more g c =
 
 pub returns-clause-takes : goal.returns-clause-takes
 returns-clause-takes g c =
-    let more = c.in_ok-index.ensures.more in
-    takes_all (g.C.Criterion.rules c.args.criterion.now) (g.met.C.Criterion.laws c.args.criterion.now)
-    c.args.entries.now.items c.args.items.now.items c.args.head c.args.boarding c.in_ok-after.after c.args.ridden.now
-    c.keep_walked.new.steps.items c.keep_walked.new.kept.items (known g (goal.at.returns-clause-takes g c).In_ok-keep_walked)
-    c.put.new.entries.items c.put.new.items.items
-    (points_from c.put.new.entries.items c.put.new.items.items c.in_ok-index.index)
-    (points_from c.join.new.entries.items c.join.new.items.items c.in_ok-new.new) more.entries_more more.items_more
-    (union g (goal.at.returns-clause-takes g c).In_ok-index) c.in_ok-new.ensures.joined.union
+    let more = c.in_ok-index.ensures.more in (
+      c.in_ok-new.ensures.joined.within,
+      takes_all (g.C.Criterion.rules c.args.criterion.now) (g.met.C.Criterion.laws c.args.criterion.now)
+          c.args.entries.now.items c.args.items.now.items c.args.head c.args.boarding c.in_ok-after.after c.args.ridden.now
+          c.keep_walked.new.steps.items c.keep_walked.new.kept.items (known g (goal.at.returns-clause-takes g c).In_ok-keep_walked)
+          c.put.new.entries.items c.put.new.items.items
+          (points_from c.put.new.entries.items c.put.new.items.items c.in_ok-index.index)
+          (points_from c.join.new.entries.items c.join.new.items.items c.in_ok-new.new) more.entries_more more.items_more
+          (union g (goal.at.returns-clause-takes g c).In_ok-index) c.in_ok-new.ensures.joined.union,
+    )
 
 pub returns-in_err-after-clause-more : goal.returns-in_err-after-clause-more
 returns-in_err-after-clause-more g c =

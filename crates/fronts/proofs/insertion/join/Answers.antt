@@ -39,16 +39,16 @@ pub loop-from-init : goal.loop-from-init
 loop-from-init g c =
     let rules = g.C.Criterion.rules c.args.criterion.now in
     record {
-      more = same_entries rules c.args.entries.now.items c.args.items.now.items c.requires.entries;
-      within = c.requires.index;
-      early = c.requires.early;
+      more = same_entries rules c.args.entries.now.items c.args.items.now.items c.requires.may.sound;
+      within = c.requires.may.within;
+      early = c.requires.may.early;
       joined = (
         c.args.after,
-        c.requires.path,
-        c.requires.after,
+        c.requires.may.path,
+        c.requires.may.after_within,
         inl (omega arith),
         joined_here rules (points_from c.args.entries.now.items c.args.items.now.items c.args.after)
-            (points_from c.args.entries.now.items c.args.items.now.items c.args.index) c.requires.covers,
+            (points_from c.args.entries.now.items c.args.items.now.items c.args.index) c.requires.may.covers,
       );
     }
 
@@ -68,11 +68,11 @@ join_one-requires g c =
         from_within = omega (arith, grows, p.2);
         within = c.loop-from.invariant.within;
         early = is_earlier rules first mid c.args.items.now.items c.loop-from.items.items c.args.head j.0 c.in-Some.from c.args.index
-            c.loop-from.new c.loop-from.passed.items c.pop.new.self.items c.requires.entries more.entries_more more.items_more
+            c.loop-from.new c.loop-from.passed.items c.pop.new.self.items c.requires.may.sound more.entries_more more.items_more
             c.in-Some.ensures.items j.1 c.loop-from.invariant.early j.3;
         covers = covers_on rules first mid c.args.items.now.items c.loop-from.items.items j.0 c.in-Some.from
             (points_from first c.args.items.now.items c.args.index) (points_from mid c.loop-from.items.items c.loop-from.new)
-            c.requires.entries more.entries_more more.items_more p.2 j.2 p.3 j.4;
+            c.requires.may.sound more.entries_more more.items_more p.2 j.2 p.3 j.4;
       };
     }
 
@@ -86,7 +86,7 @@ loop-from-preserved g c =
     let j = inv.joined in
     let b = c.in-Some.from in
     let p = popped first c.args.head j.0 b c.loop-from.passed.items c.pop.new.self.items c.in-Some.ensures.items j.1 in
-    let same = same_departure rules first mid c.args.items.now.items c.loop-from.items.items c.requires.entries inv.more.entries_more
+    let same = same_departure rules first mid c.args.items.now.items c.loop-from.items.items c.requires.may.sound inv.more.entries_more
     inv.more.items_more b p.2 in
     let late = c.in_ok-new.ensures.late in
     record {
@@ -101,7 +101,7 @@ loop-from-preserved g c =
         inr (p.1, omega arith),
         joined_on rules first mid c.args.items.now.items c.loop-from.items.items j.0 b c.args.index
             (points_from mid c.loop-from.items.items c.loop-from.new)
-            (points_from last c.join_one.new.items.items c.in_ok-new.new) c.requires.entries inv.more.entries_more
+            (points_from last c.join_one.new.items.items c.in_ok-new.new) c.requires.may.sound inv.more.entries_more
             inv.more.items_more p.2 p.3 j.4 c.in_ok-new.ensures.joined.union,
       );
     }

@@ -1,11 +1,18 @@
 use Rattle.std.proofs.Common.{sym, subst, arith}
 use Rattle.fronts.specs.Front.{departure_of}
-use Rattle.fronts.specs.Putting.{MayPut}
-use Rattle.fronts.specs.Putting.{IsUnion}
+use Rattle.fronts.specs.Putting.{MayJoin, MayPut, IsUnion}
 use Rattle.fronts.specs.Front.{points_from}
 use Rattle.fronts.proofs.Points.{departs_at}
 use Rattle.fronts.proofs.Joining.{joined_none, joined_may, joined_put, kept_read}
 use Rattle.fronts.proofs.insertion.join_one.Goals as goal
+
+pub keep_front-requires : goal.keep_front-requires
+keep_front-requires g c =
+    let rules = g.C.Criterion.rules c.args.criterion.now in
+    record {
+      may = subst (λ es. MayJoin rules es c.deref-2.result.now c.args.from c.args.index) (sym c.deref.ensures.value)
+          (subst (λ ps. MayJoin rules c.args.entries.now.items ps c.args.from c.args.index) (sym c.deref-2.ensures.value) c.requires.may);
+    }
 
 pub returns-then-len-eq0-clause-joined : goal.returns-then-len-eq0-clause-joined
 returns-then-len-eq0-clause-joined g c =

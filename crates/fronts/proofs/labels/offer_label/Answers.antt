@@ -1,10 +1,10 @@
 use Rattle.std.proofs.Common.{◌≡◌, ◌+◌, ◌<◌, true, false, slice_get, length, sym, ◌∙◌, ap, subst, arith}
 use Rattle.std.proofs.lemmas.Result.{IfOk-weaker, on_err_weaker}
 use Rattle.fronts.specs.declared.labels.Label.{Label}
-use Rattle.fronts.specs.Labels.{SaysTotal, labels_at}
+use Rattle.fronts.specs.Labels.{labels_at}
 use Rattle.fronts.specs.RunLabels.{run_labels, runs_of}
 use Rattle.fronts.specs.SlotLabels.{slot_label, slot_or}
-use Rattle.fronts.proofs.Slots.{in_slot, in_slots, loss_as, no_slot, no_slots, offer_as, says, says_not, slot_same}
+use Rattle.fronts.proofs.Slots.{in_slot, loss_as, no_slot, offer_as, has_run, says, says_not, slot_same, slot_there, slots_gone}
 use Rattle.fronts.proofs.labels.offer_label.Given as given
 use Rattle.fronts.proofs.labels.offer_label.Goals.{After-is_total}
 use Rattle.fronts.proofs.labels.offer_label.Goals as goal
@@ -12,15 +12,12 @@ use Rattle.fronts.proofs.labels.offer_label.Goals as goal
 -- under a total criterion the trip has a slot
 below : (g : given.Over) (c : goal.After-is_total g) → c.is_total.result ≡ true → c.args.trip < length c.args.labels.now.slots.items
 below g c total =
-    let labels = c.args.labels.now in
-    in_slots (SaysTotal (g.C.Criterion.rules c.args.criterion.now)) c.args.trip (length labels.slots.items) (length (runs_of labels.runs))
-    c.requires.trip.there c.requires.trip.sound.partial (says c.is_total.ensures total)
+    slot_there (g.C.Criterion.rules c.args.criterion.now) c.args.labels.now c.args.trip c.requires.trip (says c.is_total.ensures total)
 
 -- and under another there are none
 none : (g : given.Over) (c : goal.After-is_total g) → c.is_total.result ≡ false → length c.args.labels.now.slots.items ≡ 0
 none g c partial =
-    no_slots (SaysTotal (g.C.Criterion.rules c.args.criterion.now)) (length c.args.labels.now.slots.items)
-    c.requires.trip.sound.total (says_not c.is_total.ensures partial)
+    slots_gone (g.C.Criterion.rules c.args.criterion.now) c.args.labels.now c.args.trip c.requires.trip (says_not c.is_total.ensures partial)
 
 pub offer_slot-requires-clause-trip : goal.offer_slot-requires-clause-trip
 offer_slot-requires-clause-trip g c = below g (goal.at.offer_slot-requires-clause-trip g c).After-is_total c.if-is_total.true
@@ -71,8 +68,8 @@ returns-then-is_total-clause-err g c =
 
 pub offer_run-requires-clause-trip : goal.offer_run-requires-clause-trip
 offer_run-requires-clause-trip g c =
-    let no = none g (goal.at.offer_run-requires-clause-trip g c).After-is_total c.if-is_total.false in
-    record { there = omega (arith, no, c.requires.trip.there); sound = c.requires.trip.sound.runs }
+    has_run (g.C.Criterion.rules c.args.criterion.now) c.args.labels.now c.args.trip c.requires.trip
+    (says_not c.is_total.ensures c.if-is_total.false)
 
 pub returns-clause-labels : goal.returns-clause-labels
 returns-clause-labels g c =

@@ -2,7 +2,7 @@ use Rattle.std.proofs.Common.{drop, refl, sym, subst, arith}
 use Rattle.reasoning.proofs.ListLemmas.{extends_on}
 use Rattle.fronts.specs.declared.entry.FrontEntry.{FrontEntry}
 use Rattle.fronts.specs.Front.{Extends}
-use Rattle.fronts.specs.Entries.{AreEntries, AreMore}
+use Rattle.fronts.specs.Entries.{AreEntries, AreMore, HasEntry}
 use Rattle.fronts.proofs.Growth.{are_more, extends_long, items_added}
 use Rattle.fronts.proofs.Points.{departs_at}
 use Rattle.fronts.proofs.Leaving.{leave_behind}
@@ -21,11 +21,14 @@ returns-in_err-push_others-clause-more g c =
     items_added (g.C.Criterion.rules c.args.criterion.now) c.args.entries.now.items c.args.items.now.items
     c.push_others.new.items.items c.requires.may.sound c.in_err-push_others.ensures.extends
 
-pub leave_front-requires-clause-entries : goal.leave_front-requires-clause-entries
-leave_front-requires-clause-entries g c =
-    subst (λ es. AreEntries (g.C.Criterion.rules c.args.criterion.now) es c.push_others.new.items.items)
-    (sym c.deref.ensures.value) (are_more (g.C.Criterion.rules c.args.criterion.now) c.args.entries.now.items
-    c.args.items.now.items c.push_others.new.items.items c.requires.may.sound c.in_ok-push_others.ensures.extends)
+pub leave_front-requires-clause-entry : goal.leave_front-requires-clause-entry
+leave_front-requires-clause-entry g c =
+    let rules = g.C.Criterion.rules c.args.criterion.now in
+    let items = c.push_others.new.items.items in
+    subst (λ es. HasEntry rules es items c.args.index) (sym c.deref.ensures.value) (record {
+      sound = are_more rules c.args.entries.now.items c.args.items.now.items items c.requires.may.sound c.in_ok-push_others.ensures.extends;
+      within = c.requires.may.within;
+    })
 
 pub returns-in_err-leave_front-clause-more : goal.returns-in_err-leave_front-clause-more
 returns-in_err-leave_front-clause-more g c =

@@ -1,13 +1,27 @@
-use Rattle.std.proofs.Common.{rules, arith}
-use Rattle.std.proofs.lemmas.Result.{IfOk-weaker}
-use Rattle.fronts.proofs.Runs.{over_puts}
+use Rattle.std.proofs.Common.{rules, ◌++◌, length, ap, ◌∙◌, arith}
+use Rattle.std.proofs.lemmas.Slice.{between_to_end}
+use Rattle.reasoning.proofs.OptionLemmas.{on_err}
+use Rattle.fronts.proofs.Runs.{end_puts, over_puts, put_twice}
 use Rattle.fronts.proofs.run_labels.put.Goals as goal
 
 pub returns-then-count-run-clause-put : goal.returns-then-count-run-clause-put
-returns-then-count-run-clause-put g c = IfOk-weaker c.append.result _ _ (λ placed puts. puts c.args.run) c.append.ensures.put
+returns-then-count-run-clause-put g c =
+    let fits = c.if-count-run.true in
+    over_puts c.args.labels.now.items c.args.run c.args.new.now c.write_over.new.labels.items c.in_ok-count.count
+    (search rules) (omega arith) c.requires.within c.write_over.ensures
+
+pub returns-in_err-room-clause-err : goal.returns-in_err-room-clause-err
+returns-in_err-room-clause-err g c =
+    let new = c.args.new.now in
+    let mid = c.extend_from_slice.new.self.items in
+    on_err c.from_residual-in_err-room.result _
+    (put_twice c.args.labels.now.items new mid c.extend_from_slice-2.new.self.items c.in_ok-extend_from_slice.ensures.items
+    (c.in_ok-extend_from_slice-2.ensures.items ∙ ap (λ xs. mid ++ xs) (between_to_end new 1 (length new) (omega arith))))
 
 pub returns-clause-put : goal.returns-clause-put
 returns-clause-put g c =
-    let fits = c.if-count-run.false in
-    over_puts c.args.labels.now.items c.args.run c.args.new.now c.write_over.new.labels.items c.in_ok-count.count
-    (search rules) (omega arith) c.requires.within c.write_over.ensures
+    let new = c.args.new.now in
+    let mid = c.extend_from_slice.new.self.items in
+    end_puts c.args.labels.now.items c.args.run new mid c.extend_from_slice-2.new.self.items c.in_ok-first.first c.in_ok-count.count c.in_ok-room.room
+    (search rules) (search rules) (search rules) (search rules) (c.in_ok-extend_from_slice-2.ensures.items
+    ∙ ap (λ xs. mid ++ xs) (between_to_end new 1 (length new) (omega arith)))

@@ -6,7 +6,7 @@ use Rattle.reasoning.proofs.OptionLemmas.{on_err}
 use Rattle.fronts.specs.declared.labels.Label.{Label}
 use Rattle.fronts.specs.Offered.{others}
 use Rattle.fronts.specs.SlotLabels.{no_tag, slot_label, slot_or}
-use Rattle.fronts.proofs.Slots.{slots_put, slot_free, unbeaten, beaten, label_put}
+use Rattle.fronts.proofs.Slots.{slots_put, slot_lost, unbeaten, beaten, label_put}
 use Rattle.fronts.proofs.slot_labels.offer_slot.Goals as goal
 
 pub beats-requires-clause-slot : goal.beats-requires-clause-slot
@@ -48,8 +48,8 @@ returns-clause-taken g c =
     let slots = c.args.slots.now.items in
     let slot = c.index.result.now in
     let new : Label g.row.C-V.Denot = record { value = c.args.value; tag = c.in_ok-tag.tag } in
-    let tag_is : c.in_ok-tag.tag ≡ c.args.tag = c.in_ok-tag.ensures.tag.0 in
-    let below = c.in_ok-tag.ensures.tag.1 in
+    let tag_is : c.in_ok-tag.tag ≡ c.args.tag = c.in_ok-tag.ensures.index in
+    let below = c.if-tag-ge-NO_TAG.false in
     let named : c.in_ok-tag.tag ≡ no_tag → ⊥ = λ e. omega (arith, below, e) in
     let at = slice_get_read slots (length slots) c.args.trip slot refl c.requires.trip c.index.ensures in
     let free = sym c.beats.ensures ∙ c.if-beats.false in
@@ -64,9 +64,12 @@ pub returns-in_err-tag-clause-err : goal.returns-in_err-tag-clause-err
 returns-in_err-tag-clause-err g c =
     let slots = c.args.slots.now.items in
     let slot = c.index.result.now in
-    on_err c.from_residual.result _ (record {
-      free = slot_free (g.C.Criterion.rules c.args.criterion.now) slots c.args.trip slot c.args.value
-          (slice_get_read slots (length slots) c.args.trip slot refl c.requires.trip c.index.ensures)
-          (sym c.beats.ensures ∙ c.if-beats.false);
-      stay = λ k. refl;
-    })
+    on_err c.from_residual.result _ (slot_lost (g.C.Criterion.rules c.args.criterion.now) slots c.args.trip slot c.args.value
+    (slice_get_read slots (length slots) c.args.trip slot refl c.requires.trip c.index.ensures) (sym c.beats.ensures ∙ c.if-beats.false))
+
+pub returns-then-tag-ge-NO_TAG-clause-err : goal.returns-then-tag-ge-NO_TAG-clause-err
+returns-then-tag-ge-NO_TAG-clause-err g c =
+    let slots = c.args.slots.now.items in
+    let slot = c.index.result.now in
+    slot_lost (g.C.Criterion.rules c.args.criterion.now) slots c.args.trip slot c.args.value
+    (slice_get_read slots (length slots) c.args.trip slot refl c.requires.trip c.index.ensures) (sym c.beats.ensures ∙ c.if-beats.false)

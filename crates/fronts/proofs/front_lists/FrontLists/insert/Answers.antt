@@ -13,4 +13,4 @@ returns-clause-more g c = more_lists g.C.Criterion.rules c.args.self.now _ c.ins
 pub returns-clause-taken : goal.returns-clause-taken
 returns-clause-taken g c =
     taken_if_ok g.C.Criterion.rules c.args.boarding c.args.ridden.now c.args.self.now _ c.args.head c.insert.result
-    c.insert.ensures.within c.insert.ensures.takes
+    c.insert.ensures.takes

@@ -1,4 +1,4 @@
-use Rattle.std.proofs.Common.{[], ◌∷◌, ◌++◌, IfOk, refl, ◌∙◌, ap, subst}
+use Rattle.std.proofs.Common.{[], ◌<◌, ◌∷◌, ◌++◌, length, IfOk, refl, ◌∙◌, ap, subst}
 use Rattle.fronts.specs.Front.{points_from}
 use Rattle.fronts.specs.Lists.{lists_criterion, entries_of, items_of}
 use Rattle.fronts.specs.Walking.{TakesBoardings}
@@ -15,7 +15,7 @@ returns-clause-taken g c =
     let lists = c.args.self.now in
     let by : Boarding = record { departure = c.args.departure; first = c.args.first; walk = c.args.walk; secs = c.args.secs } in
     let alone = c.deref.ensures.value ∙ c.in_ok-push.ensures.items ∙ ap (λ rs. rs ++ c.args.ride ∷ []) c.clear.ensures.items in
-    taken_if_ok g.C.Criterion.rules by (c.args.ride ∷ []) lists _ c.args.head c.insert.result c.insert.ensures.within
-    (subst (λ rs. IfOk c.insert.result (λ taken. TakesBoardings (g.C.Criterion.rules (lists_criterion lists))
+    taken_if_ok g.C.Criterion.rules by (c.args.ride ∷ []) lists _ c.args.head c.insert.result
+    (subst (λ rs. IfOk c.insert.result (λ taken. (taken < length c.insert.new.entries.items) × TakesBoardings (g.C.Criterion.rules (lists_criterion lists))
     c.insert.new.steps.items by rs (points_from (entries_of lists) (items_of lists) c.args.head)
     (points_from c.insert.new.entries.items c.insert.new.items.items taken))) alone c.insert.ensures.takes)
