@@ -1,6 +1,6 @@
 //! Points kept for a front that is to be put before a list.
 
-ghost use Rattle.std.specs.Prelude.{◌≡◌, ◌++◌, ◌∷◌, [], ◌<◌, length, Contains, OnOk};
+ghost use Rattle.std.specs.Prelude.{◌≡◌, ◌++◌, ◌∷◌, [], OnOk};
 ghost use Rattle.criteria.specs.Laws.{Admits};
 ghost use Rattle.fronts.specs.Front.{front, Extends};
 ghost use Rattle.fronts.specs.Entries.{HasEntry};
@@ -58,25 +58,8 @@ pub fn keep_front<C: Criterion>(
     };
     keep_point(criterion, arena, index, kept, own)?;
     let others = part(arena.items, entry.rest, entry.count);
-    keep_each(criterion, arena, others, index, kept)?;
-    Ok(())
-}
-
-// Adds to those kept the points that the front of entry `index` doesn't better.
-fn keep_each<C: Criterion>(
-    criterion: &C,
-    arena: Arena<'_, '_, C::V>,
-    points: &[Item<C::V>],
-    index: u32,
-    kept: &mut Vec<Item<C::V>>,
-) -> Result<(), AllocError>
-    requires entry { HasEntry (C.rules criterion.now) arena.entries.now arena.items.now index }
-    requires points { (p : _) → Contains points.now p → Admits (C.rules criterion.now) p.value }
-    ensures { OnOk result (kept.new.items ≡ kept.old.items
-        ++ left_by (C.rules criterion.now) (front arena.entry.entries.now arena.entry.items.now index) points.now) }
-{
-    for k in 0..points.len() {
-        let point = points[k];
+    for k in 0..others.len() {
+        let point = others[k];
         keep_point(criterion, arena, index, kept, point)?;
     }
     Ok(())

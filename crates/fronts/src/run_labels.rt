@@ -4,13 +4,13 @@
 //! their number. So what a trip has left behind is no more than its run's `room`, and both together are fewer than four
 //! times the most labels that the trip had at once.
 
-ghost use Rattle.std.specs.Prelude.{◌≡◌, ◌+◌, ◌++◌, ◌∷◌, [], ℕ, ◌<◌, ◌≤◌, take, drop, length, replicate};
+ghost use Rattle.std.specs.Prelude.{◌≡◌, ◌+◌, ◌++◌, [], ℕ, ◌<◌, ◌≤◌, take, drop, length};
 ghost use Rattle.std.specs.Prelude.{Contains, IfOk, OnOk, OnErr};
 ghost use Rattle.criteria.specs.Laws.{Rules, Admits};
 ghost use Rattle.fronts.specs.declared.labels.Label.{Label};
 ghost use Rattle.fronts.specs.declared.run_labels.LabelRun.{LabelRun};
 ghost use Rattle.fronts.specs.Offered.{TakesOffer, LosesOffer, others};
-ghost use Rattle.fronts.specs.RunLabels.{AreRunLabels, ArePut, ArePartlyPut, HasRun, labels_in, no_run};
+ghost use Rattle.fronts.specs.RunLabels.{AreRunLabels, ArePut, ArePartlyPut, HasRun, labels_in};
 ghost use Rattle.fronts.specs.RunLabels.{run_labels, runs_of};
 
 use crate::labels::Label;
