@@ -1,5 +1,5 @@
 -- The command that a parse entered; the program without stop_ids that begin with a hyphen is simple.
-use Rattle.std.proofs.Common.{◌≡◌, ◌≢◌, ◌<◌, ◌∙◌, ◌∷◌, ◌⊎◌, ℕ, Bool, List, [], None, Option, Some, ap, ap₂, codes, false, get_or, inl, inr, length, map, refl}
+use Rattle.std.proofs.Common.{◌≡◌, ◌≢◌, ◌<◌, ◌∙◌, ◌∷◌, ◌⊎◌, ℕ, Bool, List, [], None, Option, Some, ap, ap₂, false, get_or, inl, inr, length, map, refl}
 use Rattle.std.proofs.Common.{subst, sym, true, ⊎_elim}
 use Rattle.std.specs.Prelude.{Err, IsSomeAnd, Ok, Result, is_some, option_map, slice_get, unwrap_or}
 use Rattle.std.proofs.lemmas.Bool.{true≢false}
@@ -7,12 +7,12 @@ use Rattle.std.proofs.lemmas.Option.{slice_get-get_or, slice_get-map}
 use Rattle.clap.specs.Words.{App, Row, Text, fault_of, is_simple, is_simple_and_free}
 use Rattle.clap.proofs.OnLiterals.{clap_on_literals}
 use Rattle.command_line.specs.Grammar.{csa_app}
-use Rattle.command_line.specs.Reading.{AsksForHelp, AsksTopic, IsRead, IsShown, Names}
-use Rattle.command_line.specs.Requests.{Finds, IsHelp}
+use Rattle.command_line.specs.Reading.{AsksForHelp, AsksOnlyForHelp, AsksTopic, IsRead, IsShown, Names}
+use Rattle.command_line.specs.Requests.{Finds, IsHelp, IsMistake}
 use Rattle.command_line.specs.declared.reading.NoCommand.{NoCommand}
 use Rattle.command_line.specs.declared.reading.NoCommand.TheVariants.{Help, Mistake, OutOfMemory}
 use Rattle.command_requests.specs.declared.requests.CommandRequest.{CommandRequest}
-use Rattle.clap.specs.Kinds.{IsAmong}
+use Rattle.clap.specs.Kinds.{IsAmong, Kinds}
 use Rattle.clap.specs.declared.error.kind.ErrorKind.{ErrorKind}
 use Rattle.clap.specs.declared.error.kind.ErrorKind.TheVariants.{DisplayHelp, DisplayVersion, OutOfMemory as SpentMemory}
 
@@ -65,18 +65,28 @@ finds_by (Ok request) P Q to from is = to request is
 finds_by (Err fault) P Q to from none = (none.0, λ memory request is. none.1 memory request (from request is))
 
 -- what is read of words that clap takes
-pub read_request : (words : List Text) (result : Result CommandRequest NoCommand) → Finds (Names words) result → IsRead words result
-read_request words (Ok request) is = is
-read_request words (Err (Help text)) none = absurd (none.0 tt)
-read_request words (Err (Mistake text)) none = none.1 (λ same. cc)
-read_request words (Err OutOfMemory) none = tt
+pub read_request : (words : List Text) (result : Result CommandRequest NoCommand) → fault_of (csa_app false) words ≡ []
+    → Finds (Names words) result → IsRead words result
+read_request words (Ok request) taken is = is
+read_request words (Err (Help text)) taken none = absurd (none.0 tt)
+read_request words (Err (Mistake text)) taken none = (
+  none.1 (λ same. cc),
+  λ help. let bad : [] ≡ help.0 ∷ [] = sym taken ∙ help.2 in cc,
+)
+read_request words (Err OutOfMemory) taken none = tt
 
 -- and of words that it refuses
 pub read_fault : (words : List Text) (fault : NoCommand) → (fault ≢ OutOfMemory → (request : CommandRequest) → ¬ (Names words request))
-    → (IsHelp fault → AsksForHelp words) → IsRead words (Err fault)
-read_fault words (Help text) none help = help tt
-read_fault words (Mistake text) none help = none (λ same. cc)
-read_fault words OutOfMemory none help = tt
+    → (IsHelp fault → AsksForHelp words) → (AsksOnlyForHelp words → ¬ (IsMistake fault)) → IsRead words (Err fault)
+read_fault words (Help text) none help shown = help tt
+read_fault words (Mistake text) none help shown = (none (λ same. cc), λ only. shown only tt)
+read_fault words OutOfMemory none help shown = tt
+
+-- a fault of words that only ask for help is that they do
+pub only_shown : (words : List Text) (kind : ErrorKind) → IsAmong kind (fault_of (csa_app false) words) → AsksOnlyForHelp words → IsShown kind
+only_shown words kind among (asked, shown, is) =
+    ⊎_elim (λ (same : kind ≡ asked). subst IsShown (sym same) shown) (λ (none : ⊥). absurd none)
+    (subst (λ (faults : Kinds). IsAmong kind faults) is among)
 
 -- `csa help` asks for help
 pub topic_is_help : (words : List Text) → AsksTopic words → AsksForHelp words

@@ -1,7 +1,7 @@
 -- The feeds that words name.
 use Rattle.std.proofs.Common.{◌≡◌, ◌≢◌, ◌+◌, ◌<◌, ◌∙◌, ◌++◌, ◌∷◌, ℕ, List, [], ap, ap₂, arith, get_or, length, map, refl, subst, suc, sym, take, zero}
 use Rattle.std.specs.Prelude.{◌==◌}
-use Rattle.std.specs.List.{All, AllZip, Any, before_first}
+use Rattle.std.specs.List.{AllZip, Any, before_first}
 use Rattle.std.proofs.lemmas.Grind.{common_steps}
 use Rattle.std.proofs.lemmas.List.{get_or-map, map-append, take_more}
 use Rattle.std.proofs.lemmas.List.Quantifiers.{all_pairs_push}

@@ -33,9 +33,9 @@ use Rattle.command_requests.specs.declared.requests.UpgradeRequest.{UpgradeReque
 use Rattle.criteria.specs.Names.{name_text}
 use Rattle.criteria.specs.declared.name.CriterionName.{CriterionName}
 use Rattle.command_line.specs.Options.{HasBits, HasClock, HasMaybeText, HasNumber, HasText, Spells, is_given, values_of}
-use Rattle.command_line.specs.Values.{SpellsFolder, SpellsNumber, SpellsZone}
+use Rattle.command_line.specs.Values.{SpellsFolder, SpellsZone}
 use Rattle.command_line.specs.declared.reading.NoCommand.{NoCommand}
-use Rattle.command_line.specs.declared.reading.NoCommand.TheVariants.{Help, OutOfMemory}
+use Rattle.command_line.specs.declared.reading.NoCommand.TheVariants.{Help, Mistake, OutOfMemory}
 
 -- no two of the texts are alike
 abbrev pub AreDistinct : List Text → Type 0
@@ -230,6 +230,11 @@ HasList _ = ⊥
 abbrev pub IsHelp : NoCommand → Type 0
 IsHelp (Help text) = Unit {0}
 IsHelp _ = ⊥
+
+-- it is a message about a mistake
+abbrev pub IsMistake : NoCommand → Type 0
+IsMistake (Mistake text) = Unit {0}
+IsMistake _ = ⊥
 
 -- such a one comes; or there is none, as a message says, or memory ran out
 abbrev pub Finds : {R : Type 0} → (R → Type 0) → Result R NoCommand → Type 0

@@ -3,7 +3,7 @@
 ghost use Rattle.std.specs.Prelude.{◌≡◌};
 ghost use Rattle.clap.specs.Words.{kind_of};
 ghost use Rattle.command_line.specs.Reading.{IsShown};
-ghost use Rattle.command_line.specs.Requests.{IsHelp};
+ghost use Rattle.command_line.specs.Requests.{IsHelp, IsMistake};
 
 use crate::commands::usage;
 use crate::reading::NoCommand;
@@ -129,6 +129,7 @@ const USAGE: &str = "\nUsage: ";
 pub(crate) fn unread_of(alloc: Global, error: &Error, command: &str) -> NoCommand
     ensures memory { kind_of error.now ≡ ErrorKind.OutOfMemory → result ≡ NoCommand.OutOfMemory }
     ensures help { IsHelp result → IsShown (kind_of error.now) }
+    ensures shown { IsShown (kind_of error.now) → ¬ (IsMistake result) }
 {
     match error.kind() {
         ErrorKind::OutOfMemory => NoCommand::OutOfMemory,

@@ -2,8 +2,9 @@
 
 ghost use Rattle.std.specs.Prelude.{◌≡◌, ◌⊎◌, IfSome, None, map, true};
 ghost use Rattle.clap.specs.Words.{kind_of};
-ghost use Rattle.command_line.specs.Reading.{AsksTopic, HasHyphenValue, IsHyphenated, IsRead, IsShown, is_stop_option};
-ghost use Rattle.command_line.specs.Requests.{IsHelp};
+ghost use Rattle.command_line.specs.Reading.{AsksTopic, HasHyphenStop, HasHyphenValue, IsHyphenated, IsRead};
+ghost use Rattle.command_line.specs.Reading.{IsShown, is_stop_option};
+ghost use Rattle.command_line.specs.Requests.{IsHelp, IsMistake};
 
 use crate::commands::{is_command, program};
 use crate::messages::unread_of;
@@ -46,22 +47,38 @@ pub fn read<'a, S: AsStr>(alloc: Global, words: &'a [S]) -> Result<CommandReques
     }
 }
 
-/// Whether a word that begins with a hyphen follows `--from` or `--to`.
+/// Whether the command that the words name has an option whose value is a stop_id, with a word behind it that begins
+/// with a hyphen.
 fn has_hyphen_value<S: AsStr>(words: &[S]) -> bool
     ensures { result ≡ true → HasHyphenValue (map S.text words.now) }
 {
+    if words.len() < 2 {
+        return false;
+    }
+    has_hyphen_stop(words[1].as_str(), words)
+}
+
+/// Whether a word that begins with a hyphen follows such an option of the command.
+fn has_hyphen_stop<S: AsStr>(command: &str, words: &[S]) -> bool
+    ensures { result ≡ true → HasHyphenStop command.now (map S.text words.now) }
+{
     for index in 1..words.len() {
-        if is_stop_option(words[index - 1].as_str()) && is_hyphenated(words[index].as_str()) {
+        if is_stop_option(command, words[index - 1].as_str())
+            && is_hyphenated(words[index].as_str())
+        {
             return true;
         }
     }
     false
 }
 
-fn is_stop_option(word: &str) -> bool
-    ensures { result ≡ is_stop_option word.now }
+/// Whether the value of this option of the command is a stop_id.
+fn is_stop_option(command: &str, word: &str) -> bool
+    ensures { result ≡ is_stop_option command.now word.now }
 {
-    word == "--from" || word == "--to"
+    let is_question = command == "journey" || command == "profile";
+    (is_question && word == "--from")
+        || ((is_question || command == "departures") && word == "--to")
 }
 
 fn is_hyphenated(word: &str) -> bool
@@ -77,6 +94,7 @@ fn is_hyphenated(word: &str) -> bool
 fn unread<S: AsStr>(alloc: Global, words: &[S], error: &Error) -> NoCommand
     ensures memory { kind_of error.now ≡ ErrorKind.OutOfMemory → result ≡ NoCommand.OutOfMemory }
     ensures help { IsHelp result → IsShown (kind_of error.now) ⊎ AsksTopic (map S.text words.now) }
+    ensures shown { IsShown (kind_of error.now) → ¬ (IsMistake result) }
 {
     match unknown_topic(words, error.kind()) {
         Some(topic) => unread_topic(alloc, topic, error),
@@ -88,6 +106,7 @@ fn unread<S: AsStr>(alloc: Global, words: &[S], error: &Error) -> NoCommand
 fn unknown_topic<S: AsStr>(words: &[S], kind: ErrorKind) -> Option<&str>
     ensures memory { kind ≡ ErrorKind.OutOfMemory → result ≡ None }
     ensures help { IfSome result (λ _. AsksTopic (map S.text words.now)) }
+    ensures shown { IsShown kind → result ≡ None }
 {
     if words.len() != 3 {
         return None;

@@ -4,8 +4,8 @@ use Rattle.clap.specs.Words.{App, Row, Text, app_of, fault_of, is_simple, is_sim
 use Rattle.clap.specs.Kinds.{IsAmong, Kinds}
 use Rattle.clap.specs.declared.error.kind.ErrorKind.TheVariants.{OutOfMemory}
 use Rattle.command_line.specs.Grammar.{csa_app}
-use Rattle.command_line.specs.Requests.{IsRequest}
-use Rattle.command_line.proofs.Entered.{csa_is_free, csa_is_simple, finds_by, plain_app, read_fault, read_request, shown_is_help}
+use Rattle.command_line.specs.Requests.{IsMistake, IsRequest}
+use Rattle.command_line.proofs.Entered.{csa_is_free, csa_is_simple, finds_by, only_shown, plain_app, read_fault, read_request, shown_is_help}
 use Rattle.command_line.proofs.Entered.{topic_is_help}
 use Rattle.command_line.proofs.reading.read.Goals as goal
 
@@ -17,10 +17,11 @@ returns-in-Ok-try_get_matches_from g c = λ plain.
     let parsed = c.in-Ok-try_get_matches_from.ensures in
     let taken = parsed.kinds (ap is_simple_and_free app_is ∙ csa_is_free) in
     let found = parsed.matches (ap is_simple app_is ∙ csa_is_simple) in
+    let taken_is : fault_of (csa_app false) words ≡ [] = ap (λ (app : App). fault_of app words) (sym app_is) ∙ taken in
     let entered = found.1 ∙ ap (λ (app : App). subcommand_of app words) app_is in
-    read_request words c.request_in.result (finds_by c.request_in.result _ _
+    read_request words c.request_in.result taken_is (finds_by c.request_in.result _ _
     (λ request is. (
-      ap (λ (app : App). fault_of app words) (sym app_is) ∙ taken,
+      taken_is,
       subst (λ (command : Option (Text × List Row)). IsSomeAnd command (λ x. IsRequest x.0 x.1 request)) entered is,
     ))
     (λ request is. subst (λ (command : Option (Text × List Row)). IsSomeAnd command (λ x. IsRequest x.0 x.1 request)) (sym entered) is.1)
@@ -38,3 +39,5 @@ returns-in-Err g c = λ plain.
     (λ memory request named. ⊎_elim (λ spent. memory (c.unread.ensures.memory spent))
     (λ among. subst (λ (faults : Kinds). IsAmong (kind_of c.in-Err.error) faults) named.0 among) kinds)
     (λ help. ⊎_elim (λ shown. shown_is_help words (kind_of c.in-Err.error) shown kinds) (topic_is_help words) (c.unread.ensures.help help))
+    (λ only mistake. ⊎_elim (λ spent. subst IsMistake (c.unread.ensures.memory spent) mistake)
+    (λ among. c.unread.ensures.shown (only_shown words (kind_of c.in-Err.error) among only) mistake) kinds)
