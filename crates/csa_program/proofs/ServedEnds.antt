@@ -3,7 +3,7 @@ use Rattle.std.proofs.Common.{◌≡◌, ◌≢◌, ◌+◌, ◌∙◌, ◌⊎�
 use Rattle.std.proofs.Common.{arith, ap, inl, inr, length, refl, sym, true≢false}
 use Rattle.std.proofs.lemmas.List.{length-append}
 use Rattle.std.proofs.lemmas.List.Sorted.{length_permutation}
-use Rattle.std.specs.Prelude.{flat_map}
+use Rattle.std.specs.Prelude.{MatchResult, flat_map}
 use Rattle.workers.specs.Ends.{Session}
 use Rattle.workers.specs.Sessions.{AreServed, AreServedSince, AreShares, WorkerStart, ShareValue, WorkerState, WorkValue, worker_state}
 use Rattle.workers.specs.Words.{SessionWords}
@@ -50,10 +50,10 @@ pub ok_then : {A E : Type 0} (result : Result A E) (P Q : A → Type 0) → ((a 
 ok_then (Ok a) P Q then is = then a is
 ok_then (Err e) P Q then is = tt
 
-pub ok_then_all : {A E : Type 0} (result : Result A E) (P Q R S : A → Type 0) → ((a : A) → P a → Q a → R a → S a)
-    → IfOk result P → IfOk result Q → IfOk result R → IfOk result S
-ok_then_all (Ok a) P Q R S then p q r = then a p q r
-ok_then_all (Err e) P Q R S then p q r = tt
+pub ok_then_all : {A E : Type 0} (result : Result A E) (P Q R S : A → Type 0) (F : E → Type 0) → ((a : A) → P a → Q a → R a → S a)
+    → MatchResult result P F → IfOk result Q → IfOk result R → IfOk result S
+ok_then_all (Ok a) P Q R S F then p q r = then a p q r
+ok_then_all (Err e) P Q R S F then p q r = tt
 
 left_none : (failed is_endless : Bool) (left : ℕ) → failed ≡ false → (failed ≡ true) ⊎ ((is_endless ≡ false) × (left ≡ 0))
     → (is_endless ≡ false) × (left ≡ 0)

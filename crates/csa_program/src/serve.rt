@@ -31,7 +31,7 @@ use crate::requests::Requests;
 use crate::sockets::{Acceptor, Visitor};
 use command_endings::{StartInstant, status};
 use command_requests::{NamedFolder, Seconds, ServeRequest, SessionCounts};
-use epochs::{NamedNotice, ShelfLoader, ShelfSeat, Shelves, ShelvesName};
+use epochs::{NamedLoader, NamedNotice, NamedSeat, ShelfLoader, ShelfSeat, Shelves, ShelvesName};
 use feed_commands::{explain_load, refuse_feed, report_unread_zone};
 use feed_files::{Disk, FeedFiles, FolderFiles};
 use feed_loader::Plan;
@@ -302,7 +302,7 @@ fn serve_accepted<
     made: (Shelves, ShelfLoader, Vec<ShelfSeat>),
     folders: &Folders<'f, H>,
     errors: E,
-) -> Result<HostingOutcome<'d, L>, WorkersFault>
+) -> Result<HostingOutcome<'d, L>, WorkersFault<Acceptor<'d, L>>>
     requires named { made.0 ≡ B.table }
     requires loader { made.1.table ≡ made.0 }
     requires seats { All (λ seat. seat.table ≡ made.0) made.2.items }
@@ -355,12 +355,12 @@ fn serve_all<
         C::Reader,
         C::Writer,
         K,
-        ShelfSeat,
-        ShelfLoader,
+        NamedSeat<B>,
+        NamedLoader<B>,
         NamedNotice<B>,
         FolderFiles<'f, H>,
     >,
-    WorkersFault,
+    WorkersFault<K>,
 >
     requires ready { AreReadyAt B.table (server_input_of clients made.0 made.2.items made.1 folders.now) }
     requires new { SeatsHanded made.0 (length made.2.items) made.2.items }

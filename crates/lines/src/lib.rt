@@ -8,6 +8,6 @@ pub mod laws;
 mod reader;
 mod text;
 
-pub use counted::{Counted, ReadFailed, WriteFailed};
+pub use counted::{Counted, Moment, ReadFailed, WriteFailed};
 pub use reader::{LONGEST_LINE, LineReader, NextLine};
 pub use text::{LINE_BYTES, Line};

@@ -13,7 +13,7 @@ use Rattle.session_texts.specs.declared.refusals.Refusal.{Refusal}
 use Rattle.session.specs.declared.reply_form.ReplyForm.{ReplyForm}
 use Rattle.session.specs.Lines.{too_long, no_json, no_request, asks, IsLineMeaning, memory_line, refusal_line}
 use Rattle.session.specs.SeatSteps.{Follows}
-use Rattle.session.specs.Sessions.{AreExchanges, moves_of, lines_in, orders_of, text_of}
+use Rattle.session.specs.Sessions.{AreExchanges, moves_of, orders_of}
 use Rattle.session.specs.Exchanges.{Deed, SeatState, IsLoaded, IsMet, IsExchange, OrderIsMet, Exchange, ExchangeLeadsTo, deed_of, seat_state, replied_to}
 use Rattle.session.proofs.SeatLemmas.{Follows-append}
 
@@ -110,14 +110,6 @@ load_exchange {form} number a b asked asked_then deed bytes line reply feed d he
     (exchange.0, exchange.1, exchange.2 ∙ same, exchange.3)
 
 -- exchanges, and one more
-pub lines_in-more : (exchanges : List Exchange) (t : Exchange) → lines_in (exchanges ++ t ∷ []) ≡ lines_in exchanges ++ t.line ∷ []
-lines_in-more [] t = refl
-lines_in-more (u ∷ exchanges) t = ap (λ (ls : List (List ℕ)). u.line ∷ ls) (lines_in-more exchanges t)
-
-pub text_of-more : (exchanges : List Exchange) (t : Exchange) → text_of (exchanges ++ t ∷ []) ≡ text_of exchanges ++ t.reply
-text_of-more [] t = append-nil t.reply
-text_of-more (u ∷ exchanges) t = ap (λ (xs : List ℕ). u.reply ++ xs) (text_of-more exchanges t) ∙ sym (append_assoc u.reply (text_of exchanges) t.reply)
-
 pub AreExchanges-more : {form : ReplyForm} (number : ℕ) (a m b : SeatState) (exchanges : List Exchange) (t : Exchange)
     → AreExchanges form number a exchanges m → ExchangeLeadsTo form number m t b → AreExchanges form number a (exchanges ++ t ∷ []) b
 AreExchanges-more {form} number a m b [] t same exchange = (b, subst (λ (s : SeatState). ExchangeLeadsTo form number s t b) same exchange, refl)

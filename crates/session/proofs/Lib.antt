@@ -5,5 +5,4 @@ mod AskedLemmas
 pub mod ExchangeLemmas
 mod LineLemmas
 mod LoadLemmas
-pub mod SideLemmas
 mod OneLemmas

@@ -1,7 +1,7 @@
 -- What a session has read, done and written so far, and how it ends.
 use Rattle.std.proofs.Common.{◌≡◌, ◌⊎◌, ◌<◌, ◌≤◌, ◌+◌, ◌-◌, ◌^◌, ℕ, suc, List, [], ◌∷◌, ◌++◌}
 use Rattle.std.proofs.Common.{length, take, Option, Ok, Err, Result, refl, sym, ap, ◌∙◌, subst, append-nil, append_assoc, length-append, arith, inl, inr}
-use Rattle.std.proofs.lemmas.List.{map-append, take-append-le, take_all, length_push}
+use Rattle.std.proofs.lemmas.List.{flat_map_more, map-append, length-map, take-append-le, take_all, length_push}
 use Rattle.std.specs.Io.KnownBytes.{Appends, Consumes, IsAtEnd}
 use Rattle.std.proofs.KnownBytes.{Appends-nil, Appends-trans}
 use Rattle.lines.specs.Counting.{one_more}
@@ -17,7 +17,7 @@ use Rattle.session.specs.SeatSteps.{SeatReply, seat_reply}
 use Rattle.session.specs.Sessions.{AnswerLines, AreShort, AreExchanges, EndsSo, Serves, SessionState}
 use Rattle.session.specs.Sessions.{lines_in, replies_in, session_record_of, text_of}
 use Rattle.session.specs.Exchanges.{SeatState, Exchange, ExchangeLeadsTo}
-use Rattle.session.proofs.ExchangeLemmas.{AreExchanges-more, lines_in-more, text_of-more}
+use Rattle.session.proofs.ExchangeLemmas.{AreExchanges-more}
 
 -- the lines that were given are answered, and the replies written; these bytes are in no line yet
 pub record SoFar (form : ReplyForm) (number : ℕ) (a b : SessionState) (unread : List ℕ) (count : ℕ) : Type 0 where
@@ -69,11 +69,7 @@ SoFar-read {form} {number} {count} {a} {b} {c} {unread} {bytes} so_far read = re
 }
 
 more_lines : (exchanges : List Exchange) (t : Exchange) (line : List ℕ) → t.line ≡ line → lines_in (exchanges ++ t ∷ []) ≡ lines_in exchanges ++ line ∷ []
-more_lines exchanges t line is = lines_in-more exchanges t ∙ ap (λ (l : List ℕ). lines_in exchanges ++ l ∷ []) is
-
-lines_many : (exchanges : List Exchange) → length (lines_in exchanges) ≡ length exchanges
-lines_many [] = refl
-lines_many (t ∷ exchanges) = ap suc (lines_many exchanges)
+more_lines exchanges t line is = map-append (λ (u : Exchange). u.line) exchanges (t ∷ []) ∙ ap (λ (l : List ℕ). lines_in exchanges ++ l ∷ []) is
 
 short_exchange : (t : Exchange) (line : List ℕ) → t.line ≡ line → length line ≤ 16_777_216 → length t.line ≤ 16_777_216
 short_exchange t line is short = subst (λ (l : List ℕ). length l ≤ 16_777_216) (sym is) short
@@ -138,7 +134,7 @@ module _ {form : ReplyForm} {number count : ℕ} {a b : SessionState} {unread : 
       let given = lines_in so_far.exchanges in
       let all : lines_of read ≡ given ++ lines_of unread = IsCut-lines read unread given so_far.given.cut in
       let further : 0 < length (lines_of unread) = lines_of-some unread some in
-      let full : length given ≡ 1_000_000 = lines_many so_far.exchanges ∙ so_far.many ∙ million in
+      let full : length given ≡ 1_000_000 = length-map so_far.exchanges (λ (u : Exchange). u.line) ∙ so_far.many ∙ million in
       let long : 1_000_000 < length (lines_of read) =
       omega (arith, ap (λ (ls : List (List ℕ)). length ls) all, length-append given (lines_of unread), further, full) in
       serves_so_far (Err SessionFault.TooManyRequests) (omega (arith, million)) (
@@ -183,7 +179,7 @@ module _ {form : ReplyForm} {number count : ℕ} {a b : SessionState} {unread : 
           no_read,
           no_write,
           more_lines so_far.exchanges t unread line_is ∙ sym (HasGiven-rest a.unread b.unread unread given so_far.given gives.one gives.some),
-          ap (λ (xs : List ℕ). text_of so_far.exchanges ++ xs) whole ∙ sym (text_of-more so_far.exchanges t),
+          ap (λ (xs : List ℕ). text_of so_far.exchanges ++ xs) whole ∙ flat_map_more (λ (u : Exchange). u.reply) [] so_far.exchanges t,
         )
 
     -- a reply isn't wholly written: of the lines that were read those that were given are the first
@@ -241,7 +237,7 @@ module _ {form : ReplyForm} {number count : ℕ} {a b : SessionState} {unread : 
         let given_then = subst (λ (u : Option (List ℕ)). HasGiven a.unread u (unread_of new) (lines_in so_far.exchanges ++ gives.line ∷ []))
         (sym one.unread) given in
         let text : text_of so_far.exchanges ++ part ≡ text_of (so_far.exchanges ++ t ∷ []) =
-        ap (λ (xs : List ℕ). text_of so_far.exchanges ++ xs) whole ∙ sym (text_of-more so_far.exchanges t) in
+        ap (λ (xs : List ℕ). text_of so_far.exchanges ++ xs) whole ∙ flat_map_more (λ (u : Exchange). u.reply) [] so_far.exchanges t in
         record {
           exchanges = so_far.exchanges ++ t ∷ [];
           given = subst (λ (ls : List (List ℕ)). HasGiven a.unread c.unread (unread_of new) ls) lines given_then;
@@ -270,11 +266,3 @@ why_failed first before now long Left below same (inr too_long) = inr too_long.1
 pub ExchangeLeadsTo-number : {form : ReplyForm} (n number : ℕ) (b after : SeatState) (t : Exchange) → n ≡ number
     → ExchangeLeadsTo form n b t after → ExchangeLeadsTo form number b t after
 ExchangeLeadsTo-number {form} n number b after t same exchange = subst (λ (k : ℕ). ExchangeLeadsTo form k b t after) same exchange
-
-pub some_bytes : (new bytes : List ℕ) → new ≡ bytes → 0 < length new → 0 < length bytes
-some_bytes new bytes same some = subst (λ (xs : List ℕ). 0 < length xs) same some
-
--- no byte is one line
-pub nothing_is_one_line : (bytes : List ℕ) → bytes ≡ [] → IsOneLine bytes
-nothing_is_one_line [] none = λ k d below. absurd (omega (arith, below))
-nothing_is_one_line (x ∷ xs) none = absurd cc

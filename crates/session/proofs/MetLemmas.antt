@@ -35,7 +35,7 @@ pin_refused {form} number a b fault reply step fact =
     record { moves = answered (SeatAnswer.PinRefused fault) ∷ []; meets = inr (refl, inr met); seat = (b, step, refl) }
 
 -- where memory is wanting, what was pinned is given back
-given_back : {form : ReplyForm} (number : ℕ) (asked : LineMeaning) → MayPin asked → (a m b : SeatValue) (v : ℕ) (image : ImageValue)
+pub given_back : {form : ReplyForm} (number : ℕ) (asked : LineMeaning) → MayPin asked → (a m b : SeatValue) (v : ℕ) (image : ImageValue)
     (r : Result (Unit {0}) PinFault) (reply : List ℕ) → PinStep a (Ok tt) m → HoldsInSomeHistory number m.held → m.held ≡ Some (v, image)
     → ReleaseStep m r b → reply ≡ memory_line → IsMet form number a (replied_to asked reply) b
 given_back {form} number asked may a m b v image r reply step known held back fact =
@@ -47,12 +47,6 @@ given_back {form} number asked may a m b v image r reply step known held back fa
       meets = inl (fact, refl, inr (may, (v, image, both.0)));
       seat = both.1;
     }
-
--- a pin that can't be reported
-pub pin_given_back : {form : ReplyForm} (number : ℕ) (a m b : SeatValue) (v : ℕ) (image : ImageValue) (r : Result (Unit {0}) PinFault) (reply : List ℕ)
-    → PinStep a (Ok tt) m → HoldsInSomeHistory number m.held → m.held ≡ Some (v, image)
-    → ReleaseStep m r b → reply ≡ memory_line → IsMet form number a (replied_to (asks pin) reply) b
-pin_given_back {form} number a m b v image r reply step known held back fact = given_back number (asks pin) tt a m b v image r reply step known held back fact
 
 pub release_met : {form : ReplyForm} (number : ℕ) (a b : SeatValue) (reply : List ℕ) → ReleaseStep a (Ok tt) b → reply ≡ release_text
     → IsMet form number a (replied_to (asks release) reply) b

@@ -1,10 +1,10 @@
 -- A session: exchanges one after the other, one for each line that was read.
-use Rattle.std.specs.Prelude.{◌≡◌, ◌≢◌, ◌<◌, ◌≤◌, ◌⊎◌, ◌++◌, ◌∷◌, ℕ, List, [], None, length, map, take, Option, Result, Ok, Err}
+use Rattle.std.specs.Prelude.{◌≡◌, ◌≢◌, ◌<◌, ◌≤◌, ◌⊎◌, ◌++◌, ◌∷◌, ℕ, List, [], None, flat_map, length, map, take, Option, Result, Ok, Err}
 use Rattle.std.specs.Io.KnownBytes.{Appends, Consumes, IsAtEnd}
 use Rattle.epochs.specs.declared.seats.SeatAnswer.{SeatAnswer}
 use Rattle.epochs.specs.Seats.{SeatValue}
 use Rattle.orders.specs.Ordering.{OrderValue}
-use Rattle.lines.specs.Counting.{failures_of, inner_of}
+use Rattle.lines.specs.Counting.{failures_of, inner_of, notes_of}
 use Rattle.lines.specs.declared.counted.Counted.{Counted}
 use Rattle.lines.specs.Cutting.{lines_of, rest_of, whole_lines}
 use Rattle.session.specs.declared.reply_form.ReplyForm.{ReplyForm}
@@ -19,25 +19,21 @@ AreExchanges form number a [] b = b ≡ a
 AreExchanges form number a (t ∷ exchanges) b = (m : SeatState) × ExchangeLeadsTo form number a t m × AreExchanges form number m exchanges b
 
 abbrev pub lines_in : List Exchange → List (List ℕ)
-lines_in [] = []
-lines_in (t ∷ exchanges) = t.line ∷ lines_in exchanges
+lines_in exchanges = map (λ t. t.line) exchanges
 
 -- the replies, end to end
 abbrev pub text_of : List Exchange → List ℕ
-text_of [] = []
-text_of (t ∷ exchanges) = t.reply ++ text_of exchanges
+text_of exchanges = flat_map (λ t. t.reply) exchanges
 
 -- the replies, each with what the seat showed when it was written
 abbrev pub replies_in : List Exchange → List SeatReply
 replies_in exchanges = map (λ t. seat_reply t.shown t.reply) exchanges
 
 abbrev pub moves_of : List Exchange → List SeatMove
-moves_of [] = []
-moves_of (t ∷ exchanges) = t.moves ++ moves_of exchanges
+moves_of exchanges = flat_map (λ t. t.moves) exchanges
 
 abbrev pub orders_of : List Exchange → List OrderValue
-orders_of [] = []
-orders_of (t ∷ exchanges) = t.orders ++ orders_of exchanges
+orders_of exchanges = flat_map (λ t. t.orders) exchanges
 
 -- no line is longer than 16,777,216 bytes
 abbrev pub AreShort : List Exchange → Type 0
@@ -63,14 +59,14 @@ pub record SessionState : Type 0 where
   pub at_seat : SeatState
 
 -- over this reader and this writer, by what is to be read from the one and what was written to the other
-abbrev pub state_of : {R W : Type 0} → (R → Option (List ℕ)) → (W → Option (List ℕ)) → Counted R → Counted W → List SeatReply → SeatState
+abbrev pub state_of : {R W : Type 0} → (R → Option (List ℕ)) → (W → Option (List ℕ)) → Counted R (Unit {0}) → Counted W SeatReply → SeatState
     → SessionState
-state_of unread written reader writer replied at_seat = record {
+state_of unread written reader writer at_seat = record {
   unread = unread (inner_of reader);
   written = written (inner_of writer);
   failed_reads = failures_of reader;
   failed_writes = failures_of writer;
-  replied = replied;
+  replied = notes_of writer;
   at_seat = at_seat;
 }
 

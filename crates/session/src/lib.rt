@@ -9,15 +9,15 @@ mod pinning;
 mod profiles;
 mod reply;
 mod reply_form;
-mod reply_log;
 mod serving;
 mod session_server;
+mod shown_reply;
 
 pub use answer_replies::PointForm;
 pub use fault::{Ended, SessionFault};
 pub use lines::Counted;
 pub use orders::{Gate, OpenGate, OrderFault, Orders};
 pub use reply_form::ReplyForm;
-pub use reply_log::ReplyLog;
 pub use serving::{MOST_REQUESTS, serve};
 pub use session_server::{SessionServer, Streams};
+pub use shown_reply::ShownReply;

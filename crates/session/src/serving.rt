@@ -2,18 +2,18 @@
 
 ghost use Rattle.std.specs.Prelude.{◌≡◌, ◌<◌, ◌++◌, ◌∷◌, ◌-◌, ◌^◌, ℕ, List, [], None, MatchResult, take};
 ghost use Rattle.std.specs.Io.KnownBytes.{Appends};
-ghost use Rattle.lines.specs.Counting.{HasFailed, StopsAtFailure, failures_of, inner_of};
+ghost use Rattle.lines.specs.Counting.{HasFailed, StopsAtFailure, failures_of, inner_of, notes_of};
 ghost use Rattle.lines.specs.Showing.{ShowsLine};
 ghost use Rattle.epochs.specs.Seats.{SeatValue};
 ghost use Rattle.session.specs.Forms.{bare};
 ghost use Rattle.session.specs.Learning.{GoesOn, TellPublished};
-ghost use Rattle.session.specs.SeatSteps.{SeatReply, seat_reply};
+ghost use Rattle.session.specs.SeatSteps.{seat_reply};
 ghost use Rattle.session.specs.Sessions.{LastRelease, Serves, state_of};
 ghost use Rattle.session.specs.Exchanges.{AgreeOnNotices, Exchange, ExchangeLeadsTo, seat_state};
 
 use crate::fault::{Ended, SessionFault};
-use crate::reply_log::ReplyLog;
 use crate::session_server::{SessionServer, Streams};
+use crate::shown_reply::{ReplyMoment, ShownReply};
 use epochs::Versions;
 use lines::{Counted, Line, LineReader, NextLine, WriteFailed};
 use orders::{Gate, Orders};
@@ -35,7 +35,7 @@ pub fn serve<
 >(
     alloc: Global,
     reader: &mut Counted<In>,
-    writer: &mut Counted<Out>,
+    writer: &mut Counted<Out, ShownReply>,
     shelves: &T,
     seat: &mut T::Seat,
     orders: &mut O,
@@ -48,17 +48,15 @@ pub fn serve<
     ensures route { O.route orders.new ≡ O.route orders.old }
     ensures profiles { TellPublished (T.words.known seat.new) (T.words.shown seat.old) (T.words.shown seat.new) }
     ensures released { (T.words.shown seat.new).held ≡ None }
-    ensures session { (last : SeatValue) × (replied : List SeatReply)
-        × LastRelease (T.words.number seat.old) last (T.words.shown seat.new)
+    ensures session { (last : SeatValue) × LastRelease (T.words.number seat.old) last (T.words.shown seat.new)
         × Serves bare (T.words.number seat.old) result
-        (state_of In.remaining Out.contents reader.old writer.old []
+        (state_of In.remaining Out.contents reader.old writer.old
         (seat_state (T.words.shown seat.old) (O.asked orders.old)))
-        (state_of In.remaining Out.contents reader.new writer.new replied (seat_state last (O.asked orders.new))) }
+        (state_of In.remaining Out.contents reader.new writer.new (seat_state last (O.asked orders.new))) }
     ensures stops { StopsAtFailure reader.old reader.new × StopsAtFailure writer.old writer.new }
 {
     let session_server = SessionServer::new(alloc, shelves, gate);
-    let mut replied = ReplyLog::new();
-    let outcome = session_server.answer_lines(reader, writer, &mut replied, seat, orders);
+    let outcome = session_server.answer_lines(reader, writer, seat, orders);
     session_server.release_last(seat);
     outcome
 }
@@ -82,20 +80,14 @@ impl<'a, N: Drop, T: Versions<Notice = N>, G: Gate> SessionServer<'a, T, G> {
         ensures released { (T.words.shown seat.new).held ≡ None }
         ensures session { (last : SeatValue) × LastRelease (T.words.number seat.old) last (T.words.shown seat.new)
             × Serves self.now.form (T.words.number seat.old) result
-            (state_of In.remaining Out.contents streams.old.reader streams.old.writer streams.old.replied
+            (state_of In.remaining Out.contents streams.old.reader streams.old.writer
             (seat_state (T.words.shown seat.old) (O.asked orders.old)))
-            (state_of In.remaining Out.contents streams.new.reader streams.new.writer streams.new.replied
+            (state_of In.remaining Out.contents streams.new.reader streams.new.writer
             (seat_state last (O.asked orders.new))) }
         ensures stops { StopsAtFailure streams.old.reader streams.new.reader
             × StopsAtFailure streams.old.writer streams.new.writer }
     {
-        let outcome = self.answer_lines(
-            &mut streams.reader,
-            &mut streams.writer,
-            &mut streams.replied,
-            seat,
-            orders,
-        );
+        let outcome = self.answer_lines(&mut streams.reader, &mut streams.writer, seat, orders);
         self.release_last(seat);
         outcome
     }
@@ -116,8 +108,7 @@ impl<'a, N: Drop, T: Versions<Notice = N>, G: Gate> SessionServer<'a, T, G> {
     fn answer_lines<In: Read, Out: Write, O: Orders<Notice = N>>(
         &self,
         reader: &mut Counted<In>,
-        writer: &mut Counted<Out>,
-        replied: &mut ReplyLog,
+        writer: &mut Counted<Out, ShownReply>,
         seat: &mut T::Seat,
         orders: &mut O,
     ) -> Result<Ended, SessionFault>
@@ -127,9 +118,9 @@ impl<'a, N: Drop, T: Versions<Notice = N>, G: Gate> SessionServer<'a, T, G> {
         ensures seat { GoesOn T.words self.now.shelves.now seat.old seat.new }
         ensures route { O.route orders.new ≡ O.route orders.old }
         ensures session { Serves self.now.form (T.words.number seat.old) result
-            (state_of In.remaining Out.contents reader.old writer.old replied.old
+            (state_of In.remaining Out.contents reader.old writer.old
             (seat_state (T.words.shown seat.old) (O.asked orders.old)))
-            (state_of In.remaining Out.contents reader.new writer.new replied.new
+            (state_of In.remaining Out.contents reader.new writer.new
             (seat_state (T.words.shown seat.new) (O.asked orders.new))) }
         ensures stops { StopsAtFailure reader.old reader.new × StopsAtFailure writer.old writer.new }
     {
@@ -140,14 +131,14 @@ impl<'a, N: Drop, T: Versions<Notice = N>, G: Gate> SessionServer<'a, T, G> {
                 Ok(NextLine::Nothing) => return Ok(Ended),
                 Ok(NextLine::Rest) => {
                     let line = lines.line();
-                    match self.answer_line(line, writer, replied, seat, orders) {
+                    match self.answer_line(line, writer, seat, orders) {
                         Ok(()) => return Ok(Ended),
                         Err(_) => return Err(SessionFault::WriteFailed),
                     }
                 }
                 Ok(NextLine::Ended) => {
                     let line = lines.line();
-                    match self.answer_line(line, writer, replied, seat, orders) {
+                    match self.answer_line(line, writer, seat, orders) {
                         Ok(()) => {}
                         Err(_) => return Err(SessionFault::WriteFailed),
                     }
@@ -165,8 +156,7 @@ impl<'a, N: Drop, T: Versions<Notice = N>, G: Gate> SessionServer<'a, T, G> {
     fn answer_line<Out: Write, O: Orders<Notice = N>>(
         &self,
         line: Line<'_>,
-        writer: &mut Counted<Out>,
-        replied: &mut ReplyLog,
+        writer: &mut Counted<Out, ShownReply>,
         seat: &mut T::Seat,
         orders: &mut O,
     ) -> Result<(), WriteFailed>
@@ -181,14 +171,18 @@ impl<'a, N: Drop, T: Versions<Notice = N>, G: Gate> SessionServer<'a, T, G> {
             → (t : Exchange) × (t.line ≡ l) × ExchangeLeadsTo self.now.form (T.words.number seat.old)
             (seat_state (T.words.shown seat.old) (O.asked orders.old)) t
             (seat_state (T.words.shown seat.new) (O.asked orders.new))
-            × (replied.new ≡ replied.old ++ seat_reply t.shown t.reply ∷ [])
+            × (notes_of writer.new ≡ notes_of writer.old ++ seat_reply t.shown t.reply ∷ [])
             × MatchResult result
             (λ _. Appends (Out.contents (inner_of writer.old)) (Out.contents (inner_of writer.new)) t.reply)
             (λ _. (n : ℕ) × Appends (Out.contents (inner_of writer.old)) (Out.contents (inner_of writer.new))
             (take n t.reply)) }
     {
         let reply = self.exchange(line, seat, orders);
-        let written = replied.write::<T, Out>(writer, seat, &reply);
+        let moment = ReplyMoment {
+            shelves: self.shelves,
+            seat,
+        };
+        let written = writer.write_line(reply.bytes(), &moment);
         if reply.has_scanned() {
             self.gate.leave();
         }

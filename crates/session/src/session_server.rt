@@ -4,7 +4,7 @@ ghost use Rattle.std.specs.Prelude.{◌≡◌};
 ghost use Rattle.session.specs.Forms.{bare};
 
 use crate::reply_form::ReplyForm;
-use crate::reply_log::ReplyLog;
+use crate::shown_reply::ShownReply;
 use answer_replies::PointForm;
 use lines::Counted;
 use std::alloc::Global;
@@ -34,13 +34,12 @@ impl<'a, T, G> SessionServer<'a, T, G> {
     }
 }
 
-/// Where a session's requests are read and its replies are written, each with the number of its calls that failed; and
-/// what the seat showed at each reply.
+/// Where a session's requests are read and its replies are written, each with the number of its calls that failed; with
+/// each reply it is noted what the seat showed then.
 #[derive(Drop)]
 pub struct Streams<I, O> {
     pub reader: Counted<I>,
-    pub writer: Counted<O>,
-    pub replied: ReplyLog,
+    pub writer: Counted<O, ShownReply>,
 }
 
 impl<I, O> Streams<I, O> {
@@ -53,7 +52,6 @@ impl<I, O> Streams<I, O> {
         Streams {
             reader: Counted::new(reader),
             writer: Counted::new(writer),
-            replied: ReplyLog::new(),
         }
     }
 }

@@ -1,6 +1,6 @@
 -- Workers' shares, put together.
-use Rattle.std.proofs.Common.{◌≡◌, ◌∙◌, ◌+◌, ◌-◌, ◌++◌, ◌∷◌, ℕ, List, [], length, map, refl, sym, subst, ap, arith}
-use Rattle.std.proofs.lemmas.List.{append_assoc, append-nil, length-append, map-append}
+use Rattle.std.proofs.Common.{◌≡◌, ◌∙◌, ◌+◌, ◌-◌, ◌++◌, ◌∷◌, ℕ, List, [], length, map, sym, subst, ap, arith}
+use Rattle.std.proofs.lemmas.List.{append_assoc, append-nil, flat_map_more, length-append, map-append, nil_from_length}
 use Rattle.load_orders.specs.Asking.{OrderRoute, WorkerOrdersValue}
 use Rattle.load_orders.specs.Keeping.{KeeperValue, QueueId, with_one_out, with_orders}
 use Rattle.load_orders.specs.declared.queue.Order.{Order}
@@ -10,16 +10,6 @@ use Rattle.workers.specs.Words.{SessionWords}
 use Rattle.std.specs.Prelude.{IsPermutation, flat_map}
 use Rattle.client_queue.specs.Ends.{DealerValue, nothing_put, out_once_more}
 use Rattle.client_queue.specs.declared.queue.DealerView.{DealerView}
-
-nothing_left : {X : Type 0} (list : List X) → length list ≡ 0 → list ≡ []
-nothing_left [] none = refl
-nothing_left (x ∷ list) none = absurd (omega (arith, none))
-
--- one list more behind the others
-pub flat_also : {A B : Type 0} (f : A → List B) (list : List A) (last : A) → flat_map f (list ++ last ∷ []) ≡ flat_map f list ++ f last
-flat_also f [] last = append-nil (f last)
-flat_also f (first ∷ list) last =
-    ap (λ rest. f first ++ rest) (flat_also f list last) ∙ sym (append_assoc (f first) (flat_map f list) (f last))
 
 module _ {C R W T S N : Type 0} (words : SessionWords C R W T S N) where
   -- one share more behind the others
@@ -84,9 +74,9 @@ module _ {C R W T S N : Type 0} (words : SessionWords C R W T S N) where
           hands = hands ++ hand ∷ [];
           shares = shares ++ share ∷ [];
           all_are = before.all_are ∙ ap (λ list. done ++ list) step ∙ sym (append_assoc done (worker ∷ []) left_then);
-          taken_are = takes ∙ ap (λ list. list ++ hand) before.taken_are ∙ sym (flat_also (λ h. h) hands hand);
+          taken_are = takes ∙ ap (λ list. list ++ hand) before.taken_are ∙ flat_map_more (λ h. h) [] hands hand;
           each = subst (λ starts. AreShares words starts (hands ++ hand ∷ []) (shares ++ share ∷ [])) (sym (posts_also done worker)) more;
-          sessions_are = grows ∙ ap (λ list. list ++ share.sessions) before.sessions_are ∙ sym (flat_also (λ s. s.sessions) shares share);
+          sessions_are = grows ∙ ap (λ list. list ++ share.sessions) before.sessions_are ∙ flat_map_more (λ s. s.sessions) [] shares share;
           seats_are = back ∙ ap (λ list. list ++ share.seat ∷ []) before.seats_are ∙ sym (map-append (λ s. s.seat) shares (share ∷ []));
           orders_are = uses ∙ ap (λ list. list ++ share.orders ∷ []) before.orders_are ∙ sym (map-append (λ s. s.orders) shares (share ∷ []));
         }
@@ -96,7 +86,7 @@ module _ {C R W T S N : Type 0} (words : SessionWords C R W T S N) where
         → Joined all left taken work → length left ≡ 0 → IsPermutation sent taken
         → AreAllServed words sent (worker_starts (map seat_of all) route) work
     joined_all all left sent taken work before none dealt =
-        let whole : all ≡ before.done = before.all_are ∙ ap (λ list. before.done ++ list) (nothing_left left none) ∙ append-nil before.done in
+        let whole : all ≡ before.done = before.all_are ∙ ap (λ list. before.done ++ list) (nil_from_length left none) ∙ append-nil before.done in
         record {
           hands = before.hands;
           dealt = subst (λ list. IsPermutation sent list) before.taken_are dealt;
@@ -125,7 +115,7 @@ module _ {S H : Type 0} (seat_of : H → S) where
   -- and one at each
   pub seated_all : (all left : List S) (workers : List H) → all ≡ map seat_of workers ++ left → length left ≡ 0 → map seat_of workers ≡ all
   seated_all all left workers before none =
-      sym (before ∙ ap (λ list. map seat_of workers ++ list) (nothing_left left none) ∙ append-nil (map seat_of workers))
+      sym (before ∙ ap (λ list. map seat_of workers ++ list) (nil_from_length left none) ∙ append-nil (map seat_of workers))
 
 -- the next seat of those that are left was moved behind those that were
 pub moved_next : {X : Type 0} (all left left_then moved moved_then : List X) (put x : X)
@@ -145,13 +135,6 @@ one_more_out {C} dealer dealer_then workers workers_then worker more before grow
     let Also : DealerView C → DealerView C = λ v. record v { out = v.out + 1 } in
     ap (λ d. d.view) more ∙ ap Also before ∙ ap With (sym longer)
 
--- a worker's orders behind the others
-pub put_also : {N : Type 0} (workers : List (WorkerOrdersValue N)) (orders : WorkerOrdersValue N)
-    → put_by (workers ++ orders ∷ []) ≡ put_by workers ++ orders.end.items
-put_also [] orders = append-nil orders.end.items
-put_also (first ∷ workers) orders =
-    ap (λ list. first.end.items ++ list) (put_also workers orders) ∙ sym (append_assoc first.end.items (put_by workers) orders.end.items)
-
 -- the workers that are left have their ends of the queue of orders, and none was back
 pub keeper_none : {N H : Type 0} (queue : QueueId N) (keeper : KeeperValue N) (all left : List H) (used : List (WorkerOrdersValue N))
     → IsKeeperOf queue [] (length all) keeper → left ≡ all → used ≡ [] → IsKeeperOf queue (put_by used) (length left) keeper
@@ -170,7 +153,8 @@ keeper_next {N} queue keeper keeper_then left left_then worker used used_then or
     let With : KeeperValue N → KeeperValue N = λ k. with_orders k orders.end.items in
     let longer = ap length step in
     let shorter : length left - 1 ≡ length left_then = omega (arith, longer) in
-    let put : put_by used_then ≡ put_by used ++ orders.end.items = ap put_by grows ∙ put_also used orders in
+    let put : put_by used_then ≡ put_by used ++ orders.end.items =
+    ap put_by grows ∙ sym (flat_map_more (λ (o : WorkerOrdersValue N). o.end.items) [] used orders) in
     back ∙ ap With before ∙ ap (Kept (put_by used ++ orders.end.items)) shorter ∙ ap (λ list. Kept list (length left_then)) (sym put)
 
 -- an end more goes out, to one worker more

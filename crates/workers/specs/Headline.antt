@@ -20,6 +20,7 @@ use Rattle.workers.specs.Ordering.{AreAllTaken, route_to}
 use Rattle.workers.specs.Sessions.{AreServedSince, worker_starts, work_of}
 use Rattle.workers.specs.Words.{FeedWords, IsExhausted, LoadWords, SessionWords, SourceWords}
 use Rattle.workers.specs.declared.outcome.ServingOutcome.{ServingOutcome}
+use Rattle.workers.specs.declared.running.WorkersFault.{WorkersFault}
 
 -- what a server is started with
 pub record ServerInput (K T S L F : Type 0) : Type 0 where
@@ -77,6 +78,11 @@ PinnedAreLeftAloneAt shelves =
 abbrev pub IsLeftAt : {C R W K F D : Type 0} → SourceWords K C → ServerInput K TableId ShelfSeatValue ShelfLoaderValue F
     → ServingOutcome R W K ShelfSeatValue ShelfLoaderValue NoticeValue D → Type 0
 IsLeftAt source input left = IsLeft shelf_seats shelf_loader source input left × All (KnowOneHistory left.loader) left.seats.items
+
+-- no workers were there, and the clients' source is as it was; or they were lost, and no further client comes
+abbrev pub IsUnserved : {C K : Type 0} → SourceWords K C → K → WorkersFault K → Type 0
+IsUnserved source before (WorkersFault.NotStarted clients) = clients ≡ before
+IsUnserved source before (WorkersFault.Lost clients) = IsExhausted source before clients
 
 -- the loader took exactly the orders that the sessions put, each once, and carried out each
 pub record AllLoaded {R W K T S L N F D : Type 0} (words : LoadWords F D T L N) (input : ServerInput K T S L F) (left : ServingOutcome R W K S L N D)

@@ -6,7 +6,7 @@ use Rattle.load_orders.specs.Keeping.{KeeperValue, QueueId}
 use Rattle.session.specs.declared.reply_form.ReplyForm.{ReplyForm}
 use Rattle.workers.specs.Carrying.{AreLoaded, LoadsValue, load_input_of}
 use Rattle.workers.specs.Ordering.{IsKeeperOf, put_by, route_to}
-use Rattle.workers.specs.Sessions.{IsShare, ShareValue, WorkerStart, WorkValue, worker_start}
+use Rattle.workers.specs.Sessions.{IsShare, ShareValue, WorkValue, worker_start}
 use Rattle.workers.specs.Words.{FeedWords, LoadWords, SessionWords}
 
 -- where all workers of a server work: at these shelves, with replies in this form, for the clients of this queue, and with orders of these feeds by

@@ -78,8 +78,8 @@ module _ {C R W T S N : Type 0} (words : SessionWords C R W T S N) where
     pub end_is : served_client.1 ≡ end_of result
     pub released : LastRelease (words.seats.number a.seat) last (words.seats.shown b.seat)
     pub serves : Serves words.form (words.seats.number a.seat) result
-        (state_of words.unread words.written was.reader was.writer was.replied (seat_state (words.seats.shown a.seat) a.asked))
-        (state_of words.unread words.written served_client.0.reader served_client.0.writer served_client.0.replied (seat_state last b.asked))
+        (state_of words.unread words.written was.reader was.writer (seat_state (words.seats.shown a.seat) a.asked))
+        (state_of words.unread words.written served_client.0.reader served_client.0.writer (seat_state last b.asked))
     pub stops : StopsAtFailure was.reader served_client.0.reader × StopsAtFailure was.writer served_client.0.writer
 
   -- the client couldn't be opened, and nothing was changed

@@ -1,7 +1,7 @@
 //! Workers at shelves without a lock, under a name that the caller picks.
 
-ghost use Rattle.std.specs.Prelude.{◌≡◌, [], All, IfOk};
-ghost use Rattle.workers.specs.Headline.{AllLoaded, AllServed, AreReadyAt, IsLeftAt, KnowOneHistory};
+ghost use Rattle.std.specs.Prelude.{◌≡◌, All, IfOk, MatchResult};
+ghost use Rattle.workers.specs.Headline.{AllLoaded, AllServed, AreReadyAt, IsLeftAt, IsUnserved, KnowOneHistory};
 ghost use Rattle.workers.specs.Headline.{PinnedAreLeftAloneAt, server_input_of};
 ghost use Rattle.workers.specs.Sessions.{MayClose};
 ghost use Rattle.epochs.specs.ShelfWords.{shelf_loader, shelf_seats};
@@ -22,8 +22,7 @@ use std::io::Write;
 use std::sync::Wait;
 use std::thread::Threads;
 
-/// Serves all clients and loads the feeds that they order, as [`run_workers`] does, at shelves without a lock. The
-/// seats come back without the shelves' name.
+/// Serves all clients and loads the feeds that they order, as [`run_workers`] does, at shelves without a lock.
 ///
 /// This contract is the headline of the program, except for what a scan reads: that is a clause of
 /// `station_answers::answer_between`. Each clause is one name of `specs/Headline.antt`, `Sessions` or `epochs`:
@@ -32,7 +31,8 @@ use std::thread::Threads;
 /// - `closes`: a client's reader and writer may be closed after whatever sessions are served from the first on at one
 ///   of these seats, as those of a session that ended as the last one did.
 /// - `left`: no further client comes, and what held of their source holds still; the seats are of these shelves, and
-///   the histories that `served` and `loaded` speak of are one.
+///   the histories that `served` and `loaded` speak of are one. After an `Err`, either no client was taken from the
+///   source, or no further one comes.
 /// - `served`: each client who came was dealt to exactly one worker and had one session at its seat, unless it couldn't
 ///   be opened. Each line that was read has its reply, up to where the session ended. Each profile is answered exactly,
 ///   over the image that was published as the version that the reply names; or the reply says why it isn't: memory ran
@@ -60,12 +60,14 @@ pub fn run_shelves<
     form: ReplyForm,
     errors: E,
 ) -> Result<
-    ServingOutcome<C::Reader, C::Writer, K, ShelfSeat, ShelfLoader, NamedNotice<B>, F::Files>,
-    WorkersFault,
+    ServingOutcome<C::Reader, C::Writer, K, NamedSeat<B>, NamedLoader<B>, NamedNotice<B>, F::Files>,
+    WorkersFault<K>,
 >
     requires ready { AreReadyAt B.table (server_input_of clients shelves seats.items loader feeds.now) }
     requires closes { MayClose (sessions_of form C.words C.Reader.remaining C.Writer.contents shelf_seats) seats.items }
-    ensures left { IfOk result (IsLeftAt K.words (server_input_of clients shelves seats.items loader feeds.now)) }
+    ensures left { MatchResult result
+        (IsLeftAt K.words (server_input_of clients shelves seats.items loader feeds.now))
+        (IsUnserved K.words clients) }
     ensures served { IfOk result (AllServed (sessions_of form C.words C.Reader.remaining C.Writer.contents shelf_seats)
         K.words F.words (server_input_of clients shelves seats.items loader feeds.now)) }
     ensures loaded { IfOk result (AllLoaded (loads_of F.words
@@ -75,25 +77,20 @@ pub fn run_shelves<
     ensures pinned { PinnedAreLeftAloneAt shelves }
 {
     know_pins(&shelves);
-    let room = Vec::with_capacity(alloc, seats.len())?;
-    let seats = named_seats::<B>(alloc, seats)?;
+    let Ok(seats) = named_seats::<B>(alloc, seats) else {
+        return Err(WorkersFault::NotStarted { clients });
+    };
     let shelves = NamedShelves::<B>::of(shelves);
     let loader = NamedLoader::<B>::of(loader);
-    let run_result = run_workers(
+    match run_workers(
         rt, alloc, clients, &shelves, seats, loader, feeds, gate, form, errors,
-    )?;
-    let seats = unnamed_seats(run_result.seats, room)?;
-    let loader = run_result.loader.into_inner();
-    know_one_history(&seats, &loader);
-    Ok(ServingOutcome {
-        served: run_result.served,
-        clients: run_result.clients,
-        seats,
-        orders: run_result.orders,
-        loader,
-        asked: run_result.asked,
-        used: run_result.used,
-    })
+    ) {
+        Ok(run_result) => {
+            know_one_history(&run_result.seats, &run_result.loader);
+            Ok(run_result)
+        }
+        Err(fault) => Err(fault),
+    }
 }
 
 // Does nothing: its contract is the law that no image is collected while a seat of these shelves has it pinned.
@@ -104,7 +101,7 @@ fn know_pins(shelves: &Shelves)
 }
 
 // Does nothing: its contract is the law that what the seats know are beginnings of one history.
-fn know_one_history(seats: &Vec<ShelfSeat>, loader: &ShelfLoader)
+fn know_one_history<B: ShelvesName>(seats: &Vec<NamedSeat<B>>, loader: &NamedLoader<B>)
     ensures { All (KnowOneHistory loader.now) seats.now.items }
 {
     seats_know_one_history();
@@ -123,20 +120,4 @@ fn named_seats<B: ShelvesName>(
         named.push(NamedSeat::of(seat))?;
     }
     Ok(named)
-}
-
-// The seats without the name, moved into `room`.
-fn unnamed_seats<B: ShelvesName>(
-    seats: Vec<NamedSeat<B>>,
-    room: Vec<ShelfSeat>,
-) -> Result<Vec<ShelfSeat>, AllocError>
-    requires { room.items ≡ [] }
-    ensures same { IfOk result (λ inner. inner.items ≡ seats.items) }
-    ensures table { IfOk result (λ inner. All (λ seat. seat.table ≡ B.table) inner.items) }
-{
-    let mut inner = room;
-    for seat in seats {
-        inner.push(seat.into_inner())?;
-    }
-    Ok(inner)
 }

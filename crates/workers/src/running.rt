@@ -1,9 +1,9 @@
 //! The workers and the loader, in one scope.
 
 ghost use denote.Param.Send.{IsSend, IsSync};
-ghost use Rattle.std.specs.Prelude.{◌≡◌, ◌++◌, ◌∷◌, [], IfOk, OnOk};
+ghost use Rattle.std.specs.Prelude.{◌≡◌, ◌++◌, ◌∷◌, [], MatchResult, OnOk};
 ghost use Rattle.workers.specs.Carrying.{loads_value};
-ghost use Rattle.workers.specs.Headline.{AreReady, IsRun, server_input_of};
+ghost use Rattle.workers.specs.Headline.{AreReady, IsRun, IsUnserved, server_input_of};
 ghost use Rattle.workers.specs.Posts.{IsLoaderDone, IsWorked, loader_post_of, place_of, post_of};
 ghost use Rattle.workers.specs.Sessions.{IsReadyToServe, MayClose, share_of, worker_state};
 ghost use Rattle.workers.specs.Words.{loads_of, outcomes_of, sessions_of};
@@ -28,16 +28,16 @@ use std::thread;
 use std::thread::Threads;
 use thiserror::Error;
 
-/// There was no memory or no thread for the workers; or a worker or the loader left before its queue was closed for it,
-/// which none does while the other end of that queue is there.
-#[derive(Clone, Copy, Debug, PartialEq, Eq, Error)]
-#[error("there is no memory or no thread for the workers")]
-pub struct WorkersFault;
-
-impl From<AllocError> for WorkersFault {
-    fn from(_refused: AllocError) -> WorkersFault {
-        WorkersFault
-    }
+/// Why clients weren't served, or why nothing is known of their sessions; with the clients' source.
+#[derive(Debug, Drop, Error)]
+pub enum WorkersFault<K> {
+    /// There was no memory or no thread for the workers. No client was taken from the source.
+    #[error("there is no memory or no thread for the workers")]
+    NotStarted { clients: K },
+    /// All clients were dealt to workers; but one of these or the loader left before its queue was closed for it, which
+    /// none does while the other end of that queue is there.
+    #[error("a worker or the loader was lost")]
+    Lost { clients: K },
 }
 
 /// Serves all clients, with a worker for each seat, and loads the feeds that they order. Profiles are replied in this
@@ -64,7 +64,7 @@ pub fn run_workers<
     errors: E,
 ) -> Result<
     ServingOutcome<C::Reader, C::Writer, K, T::Seat, T::Loader, T::Notice, F::Files>,
-    WorkersFault,
+    WorkersFault<K>,
 >
 where
     T::Seat: Send + Drop,
@@ -74,17 +74,18 @@ where
         (server_input_of clients shelves.now seats.items loader feeds.now) }
     requires closes { MayClose (sessions_of form C.words C.Reader.remaining C.Writer.contents T.Versions.words)
         seats.items }
-    ensures { IfOk result (IsRun (sessions_of form C.words C.Reader.remaining C.Writer.contents T.Versions.words)
+    ensures { MatchResult result (IsRun (sessions_of form C.words C.Reader.remaining C.Writer.contents T.Versions.words)
         K.words (loads_of F.words (outcomes_of
         F.Files.words T.Loads.words T.Versions.words.version))
-        (server_input_of clients shelves.now seats.items loader feeds.now)) }
+        (server_input_of clients shelves.now seats.items loader feeds.now))
+        (IsUnserved K.words clients) }
 {
     thread::scope(
         thread::scope_env(),
         rt,
         move |scope| -> Result<
             ServingOutcome<C::Reader, C::Writer, K, T::Seat, T::Loader, T::Notice, F::Files>,
-            WorkersFault,
+            WorkersFault<K>,
         >
             requires { IsSync R.row × IsSync T.row × IsSync F.row × IsSync G.row × IsSend T.Seat.row
                 × IsSend T.Loader.row
@@ -94,16 +95,23 @@ where
                 (server_input_of clients shelves.now seats.items loader feeds.now)
                 × MayClose (sessions_of form C.words C.Reader.remaining C.Writer.contents T.Versions.words)
                 seats.items }
-            ensures { IfOk result (IsRun
+            ensures { MatchResult result (IsRun
                 (sessions_of form C.words C.Reader.remaining C.Writer.contents T.Versions.words)
                 K.words (loads_of F.words (outcomes_of
                 F.Files.words
                 T.Loads.words T.Versions.words.version))
-                (server_input_of clients shelves.entry.now seats.items loader feeds.entry.now)) }
+                (server_input_of clients shelves.entry.now seats.items loader feeds.entry.now))
+                (IsUnserved K.words clients) }
         {
-            let mut dealer = client_queue(alloc)?;
-            let room = Vec::with_capacity(alloc, seats.len())?;
-            let (mut asks, orders) = order_queue(alloc)?;
+            let Ok(mut dealer) = client_queue(alloc) else {
+                return Err(WorkersFault::NotStarted { clients });
+            };
+            let Ok(room) = Vec::with_capacity(alloc, seats.len()) else {
+                return Err(WorkersFault::NotStarted { clients });
+            };
+            let Ok((mut asks, orders)) = order_queue(alloc) else {
+                return Err(WorkersFault::NotStarted { clients });
+            };
             let loader_seat = loader;
             let loader_post = LoaderPost::of(shelves, &loader_seat, feeds, &orders);
             // Made here, since what a thread returns has to be of types that it captures.
@@ -140,12 +148,16 @@ where
                 },
             );
             let Ok(loading) = started else {
-                return Err(WorkersFault);
+                return Err(WorkersFault::NotStarted { clients });
             };
             let mut workers = Vec::new(alloc);
             for seat in seats {
-                let taker = dealer.taker()?;
-                let end = asks.another_end()?;
+                let Ok(taker) = dealer.taker() else {
+                    return Err(WorkersFault::NotStarted { clients });
+                };
+                let Ok(end) = asks.another_end() else {
+                    return Err(WorkersFault::NotStarted { clients });
+                };
                 // Made here too.
                 let none_served_yet = Served::new();
                 let worker_post = WorkerPost::of(shelves, form, &taker, feeds, &end, &seat);
@@ -174,9 +186,11 @@ where
                     },
                 );
                 let Ok(worker) = begun else {
-                    return Err(WorkersFault);
+                    return Err(WorkersFault::NotStarted { clients });
                 };
-                push_worker(&mut workers, worker)?;
+                let Ok(()) = push_worker(&mut workers, worker) else {
+                    return Err(WorkersFault::NotStarted { clients });
+                };
             }
             let served = deal_and_join(
                 rt, shelves, form, feeds, clients, dealer, workers, room, &mut asks,
@@ -192,9 +206,9 @@ where
                         asked,
                         used,
                     }),
-                    None => Err(WorkersFault),
+                    None => Err(WorkersFault::Lost { clients }),
                 },
-                Err(fault) => Err(fault),
+                Err(clients) => Err(WorkersFault::Lost { clients }),
             }
         },
     )

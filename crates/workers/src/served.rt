@@ -129,14 +129,7 @@ pub(crate) fn close_client<C: Client>(
 {
     served.add(&session);
     let (streams, end) = session;
-    if let Some(
-        Streams {
-            reader,
-            writer,
-            replied: _,
-        },
-    ) = streams
-    {
+    if let Some(Streams { reader, writer }) = streams {
         C::close(reader.into_inner(), writer.into_inner(), end);
     }
 }

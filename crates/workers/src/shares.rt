@@ -1,6 +1,6 @@
 //! What the workers and the loader hand on when they are joined.
 
-ghost use Rattle.std.specs.Prelude.{◌≡◌, IsPermutation, length, map, IfOk, IfSome};
+ghost use Rattle.std.specs.Prelude.{◌≡◌, IsPermutation, length, map, IfOk, IfSome, MatchResult};
 ghost use Rattle.client_queue.specs.Ends.{nothing_put};
 ghost use Rattle.workers.specs.Carrying.{loads_value};
 ghost use Rattle.workers.specs.Posts.{AreBack, AreOut, IsLoaderDone, place_of, route_at};
@@ -11,7 +11,6 @@ use crate::clients::{Client, Clients};
 use crate::dealing::deal_all;
 use crate::drawing::UsedFiles;
 use crate::feeds::Feeds;
-use crate::running::WorkersFault;
 use crate::served::Served;
 use client_queue::{Dealer, Taker};
 use epochs::{Loads, Versions};
@@ -151,7 +150,8 @@ impl<
 
 /// Puts all clients in the queue, closes it for each worker, and joins the workers. Returns the clients' source, the
 /// sessions of all workers, their seats, moved into `room`, and the orders of each worker. The workers' ends of the
-/// queue of orders are back at `asks` then.
+/// queue of orders are back at `asks` then. If a worker left before the queue was closed for it, the error is the
+/// source alone.
 pub(crate) fn deal_and_join<
     C: Client + Drop,
     K: Clients<C> + Drop,
@@ -177,12 +177,13 @@ pub(crate) fn deal_and_join<
         Vec<S>,
         GhostList<UsedOrders<N>>,
     ),
-    WorkersFault,
+    K,
 >
     requires workers { AreOut (λ worker. worker.promise)
         (place_of shelves.now form dealer.queue feeds.now asks.old.queue) workers.items asks.old room.items }
     requires dealer { dealer.view ≡ record nothing_put { out = length workers.items } }
-    ensures source { IfOk result (λ run_result. IsExhausted K.words clients run_result.0) }
+    ensures source { MatchResult result (λ run_result. IsExhausted K.words clients run_result.0)
+        (IsExhausted K.words clients) }
     ensures served { IfOk result (λ run_result. AreServedSince
         (sessions_of form C.words C.Reader.remaining C.Writer.contents T.words) (K.words.came clients)
         (K.words.came run_result.0)
@@ -196,13 +197,14 @@ pub(crate) fn deal_and_join<
 {
     let source = deal_all(rt, clients, &mut dealer, workers.len());
     match join_workers(rt, shelves, form, feeds, dealer, workers, room, asks) {
-        Ok((served, seats, orders)) => Ok((source, served, seats, orders)),
-        Err(fault) => Err(fault),
+        Some((served, seats, orders)) => Ok((source, served, seats, orders)),
+        None => Err(source),
     }
 }
 
 // Joins the workers in turn, once the queue was closed for each of them. Returns the sessions of all, their seats,
-// moved into `room`, and the orders of each. Each client that was put in the queue was taken by one of them, once.
+// moved into `room`, and the orders of each. Each client that was put in the queue was taken by one of them, once. None
+// if a worker left before the queue was closed for it.
 fn join_workers<
     C: Client + Drop,
     S: Drop,
@@ -219,23 +221,22 @@ fn join_workers<
     workers: Vec<PromisedHandle<(Share<C, S>, UsedOrders<N>), WorkerPost<C, N, T, S, F>>>,
     room: Vec<S>,
     asks: &mut OrderKeeper<N>,
-) -> Result<
+) -> Option<
     (
         Served<C::Reader, C::Writer>,
         Vec<S>,
         GhostList<UsedOrders<N>>,
     ),
-    WorkersFault,
 >
     requires workers { AreOut (λ worker. worker.promise)
         (place_of shelves.now form dealer.queue feeds.now asks.old.queue) workers.items asks.old room.items }
     requires dealer { IsReadyToJoin dealer.view (length workers.items) }
-    ensures served { IfOk result (λ joined. AreAllServed
+    ensures served { IfSome result (λ joined. AreAllServed
         (sessions_of form C.words C.Reader.remaining C.Writer.contents T.words) dealer.view.sent
         (worker_starts (map (λ worker. worker.promise.seat) workers.items)
         (route_at F.words (place_of shelves.now form dealer.queue feeds.now asks.old.queue)))
         (work_of joined.0 joined.1.items joined.2)) }
-    ensures back { IfOk result (λ joined. AreBack
+    ensures back { IfSome result (λ joined. AreBack
         (sessions_of form C.words C.Reader.remaining C.Writer.contents T.words)
         (place_of shelves.now form dealer.queue feeds.now asks.old.queue)
         (work_of joined.0 joined.1.items joined.2) asks.new) }
@@ -253,18 +254,18 @@ fn join_workers<
             used,
         ) = worker.join(rt);
         if !taker.is_closed() {
-            return Err(WorkersFault);
+            return None;
         }
         dealer.take_back(taker);
         served.join(share);
         orders.note(&used);
         asks.take_in(used);
         let Ok(()) = seats.push(seat) else {
-            return Err(WorkersFault);
+            return None;
         };
     }
     dealer.all_were_taken();
-    Ok((served, seats, orders))
+    Some((served, seats, orders))
 }
 
 /// Closes the queue of orders, once all workers' ends are back, and joins the loader. Returns the loader's end, its

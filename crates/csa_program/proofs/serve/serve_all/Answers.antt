@@ -19,5 +19,5 @@ returns-clause-many g c =
 -- what the run was, in one record
 pub returns-clause-run : goal.returns-clause-run
 returns-clause-run g c =
-    ok_then_all c.run_shelves.result _ _ _ _ (λ run_result left served loaded. record { left = left; served = served; loaded = loaded })
+    ok_then_all c.run_shelves.result _ _ _ _ _ (λ run_result left served loaded. record { left = left; served = served; loaded = loaded })
     c.run_shelves.ensures.left c.run_shelves.ensures.served c.run_shelves.ensures.loaded

@@ -16,4 +16,4 @@ of-loader-requires g c = c.requires.ready.ready.loader_fits ∙ c.requires.ready
 pub run_workers-requires-clause-closes : goal.run_workers-requires-clause-closes
 run_workers-requires-clause-closes g c κs within =
     subst (λ items. MayClose (sessions_of c.args.form g.C.Client.words g.C.Reader.Read.remaining g.C.Writer.Write.contents shelf_seats) items)
-    (sym c.in_ok-seats.ensures) c.requires.closes
+    (sym c.in-Ok.ensures) c.requires.closes

@@ -1,7 +1,9 @@
-use Rattle.std.proofs.Common.{◌∙◌, refl, sym, arith, inl}
+use Rattle.std.proofs.Common.{◌∙◌, ◌<◌, length, refl, subst, sym, arith, inl}
+use Rattle.std.proofs.lemmas.List.Elements.{All-nil}
 use Rattle.reasoning.proofs.BoolLemmas.{where_true, where_false}
+use Rattle.lines.specs.Cutting.{IsOneLine}
 use Rattle.lines.proofs.GivenLemmas.{Gives-ended, Gives-nothing, Gives-rest}
-use Rattle.session.proofs.LineLemmas.{nothing_is_one_line, some_bytes, SoFar-more, SoFar-read, SoFar-start, ExchangeLeadsTo-number}
+use Rattle.session.proofs.LineLemmas.{SoFar-more, SoFar-read, SoFar-start, ExchangeLeadsTo-number}
 use Rattle.session.proofs.LineLemmas.{cut_short_at_line, cut_short_at_rest, ends_at_end, ends_with_rest, not_rose}
 use Rattle.session.proofs.LineLemmas.{read_fails, rose, too_many, why_failed}
 use Rattle.session.proofs.LearnLemmas.{goes_on, goes_on_same}
@@ -83,7 +85,7 @@ pub returns-in-Ok-true-clause-session : goal.returns-in-Ok-true-clause-session
 returns-in-Ok-true-clause-session g c =
     let e = c.in-Ok-true.ensures in
     too_many (SoFar-read c.loop.invariant.so_far (record { came = e.1; written = refl; replied = refl; at_seat = refl; failed = refl }))
-    (omega (arith, c.loop-test.false, c.loop.auto.counter-end)) (some_bytes _ _ e.2 (where_true _ _ _ c.in-Ok-true.field-0-test e.3.0))
+    (omega (arith, c.loop-test.false, c.loop.auto.counter-end)) (subst (λ xs. 0 < length xs) e.2 (where_true _ _ _ c.in-Ok-true.field-0-test e.3.0))
     (not_rose _ _ (e.3.1 ∙ c.loop.invariant.reads)) (not_rose _ _ c.loop.invariant.writes)
 
 pub returns-in-Ok-false-clause-session : goal.returns-in-Ok-false-clause-session
@@ -98,7 +100,7 @@ pub returns-clause-session : goal.returns-clause-session
 returns-clause-session g c =
     let e = c.in-Err-has_byte.ensures in
     read_fails (SoFar-read c.loop.invariant.so_far (record { came = e.1; written = refl; replied = refl; at_seat = refl; failed = refl }))
-    (omega (arith, c.loop-test.false, c.loop.auto.counter-end)) (nothing_is_one_line _ (sym e.2 ∙ e.3.0))
+    (omega (arith, c.loop-test.false, c.loop.auto.counter-end)) (subst IsOneLine (sym e.3.0 ∙ e.2) (All-nil _))
     (inl (rose _ _ _ c.requires.counts.0 c.loop.invariant.reads e.3.1.0)) (not_rose _ _ c.loop.invariant.writes)
 
 pub returns-in-Err-answer_line-2-clause-seat : goal.returns-in-Err-answer_line-2-clause-seat

@@ -14,9 +14,9 @@ invariant-loop g l = record {
   reads : failures_of l.reader ≡ failures_of l.fn.reader;
   writes : failures_of l.writer ≡ failures_of l.fn.writer;
   so_far : SoFar l.self.form (g.T.Versions.words.number l.fn.seat)
-      (state_of g.In.Read.remaining g.Out.Write.contents l.fn.reader l.fn.writer l.fn.replied
+      (state_of g.In.Read.remaining g.Out.Write.contents l.fn.reader l.fn.writer
       (seat_state (g.T.Versions.words.shown l.fn.seat) (g.O.Orders.asked l.fn.orders)))
-      (state_of g.In.Read.remaining g.Out.Write.contents l.reader l.writer l.replied
+      (state_of g.In.Read.remaining g.Out.Write.contents l.reader l.writer
       (seat_state (g.T.Versions.words.shown l.seat) (g.O.Orders.asked l.orders)))
       (unread_of l.lines) l.counter;
 }

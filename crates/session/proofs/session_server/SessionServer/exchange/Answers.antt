@@ -1,7 +1,7 @@
-use Rattle.std.proofs.Common.{Err, ap}
+use Rattle.std.proofs.Common.{Err, ap, subst}
 use Rattle.serde_json.specs.View.{view}
 use Rattle.session_texts.specs.declared.judging.LineFault.{LineFault}
-use Rattle.session.proofs.SideLemmas.{none_asked}
+use Rattle.session_texts.specs.Names.{Unless}
 use Rattle.session.proofs.ExchangeLemmas.{asks_known, bad_json_exchange, bad_request_exchange, load_exchange, memory_exchange}
 use Rattle.session.proofs.ExchangeLemmas.{order_exchange, seat_exchange, too_long_exchange, waits_for, waits_not, whole}
 use Rattle.session.proofs.session_server.SessionServer.exchange.Goals as goal
@@ -25,7 +25,7 @@ pub returns-in-Err-BadRequest-clause-exchange : goal.returns-in-Err-BadRequest-c
 returns-in-Err-BadRequest-clause-exchange g c = λ l shows.
     bad_request_exchange _ _ _ c.in-Whole.bytes.now l _ (view c.in-Ok.value)
     (whole c.args.line c.in-Whole.bytes l c.in-Whole.is shows) c.in-Ok.ensures.value
-    (none_asked c.in-Err-BadRequest.field-0-is c.in-Err-BadRequest.ensures) c.refusal-in-Err-BadRequest.ensures
+    (subst (Unless _) c.in-Err-BadRequest.field-0-is c.in-Err-BadRequest.ensures) c.refusal-in-Err-BadRequest.ensures
 
 pub returns-in-Err-OutOfMemory-request_of-clause-exchange : goal.returns-in-Err-OutOfMemory-request_of-clause-exchange
 returns-in-Err-OutOfMemory-request_of-clause-exchange g c = λ l shows. memory_exchange _ _ _ l _ c.refusal-in-Err-OutOfMemory-request_of.ensures

@@ -2,7 +2,9 @@ use Rattle.std.proofs.Common.{rules, ◌≡◌, ◌++◌, ◌∷◌, [], string_
 use Rattle.std.specs.Arc.{arc_value}
 use Rattle.session.specs.SeatSteps.{HoldsInSomeHistory}
 use Rattle.session_texts.specs.Replies.{pin_text}
-use Rattle.session.proofs.MetLemmas.{pin_met, pin_refused, pin_given_back}
+use Rattle.session_texts.specs.Requests.{pin}
+use Rattle.session.specs.Lines.{asks}
+use Rattle.session.proofs.MetLemmas.{given_back, pin_met, pin_refused}
 use Rattle.session.proofs.LearnLemmas.{learns_once}
 use Rattle.session.proofs.session_server.SessionServer.pin.Goals as goal
 
@@ -21,7 +23,7 @@ pub returns-in-Err-reply_made-clause-met : goal.returns-in-Err-reply_made-clause
 returns-in-Err-reply_made-clause-met g c =
     let known = subst (λ n. HoldsInSomeHistory n (g.T.Versions.words.shown c.pin.new.seat).held) c.in_default.ensures.number
     (g.T.Versions.words.known c.pin.new.seat, c.in_default.ensures.known) in
-    pin_given_back _ _ _ _ _ _ _ _ c.in_default.ensures.pin known c.in-Some.ensures.lent c.release.ensures.release c.refusal.ensures
+    given_back _ (asks pin) tt _ _ _ _ _ _ _ c.in_default.ensures.pin known c.in-Some.ensures.lent c.release.ensures.release c.refusal.ensures
 
 pub returns-in-Err-reply_made-clause-seat : goal.returns-in-Err-reply_made-clause-seat
 returns-in-Err-reply_made-clause-seat g c =

@@ -22,15 +22,15 @@ spawn_with-begun-requires-clause-runs g c =
     subst (λ items. All (g.T.Versions.words.fits c.captures.shelves.now) items) c.in-Some.ensures.steps.0 c.loop-seat.invariant.fit in
     let close : MayClose words (c.in-Some.seat ∷ c.next.new.self.rest.items) =
     subst (λ items. MayClose words items) c.in-Some.ensures.steps.0 c.loop-seat.invariant.close in
-    let taker = c.in_ok-taker.taker in
+    let taker = c.in-Ok-taker.taker in
     let ready : IsReadyToServe words c.captures.shelves.now taker c.new-none_served_yet.result (worker_state c.in-Some.seat []) = record {
       fits = left 0 c.in-Some.seat (omega arith);
-      none_taken = ap (λ taker. taker.taken) c.in_ok-taker.ensures.taker;
+      none_taken = ap (λ taker. taker.taken) c.in-Ok-taker.ensures.taker;
       none_served = c.new-none_served_yet.ensures;
       closes = close 0 c.in-Some.seat (omega arith);
     } in
     λ κs within. (
-      (ready, c.in_ok-end.ensures.nothing),
+      (ready, c.in-Ok-another_end.ensures.nothing),
       (search rules, search rules, search rules, search rules, search rules, search rules, search rules, search rules, search rules, search rules),
     )
 
@@ -46,18 +46,18 @@ loop-seat-preserved g c =
     let short = ap length step.0 in
     let worker = c.in-Ok-begun.worker in
     let promise = c.in-Ok-begun.ensures.ok ∙ c.of-worker_post.ensures in
-    let items = c.in_ok-push_worker.ensures in
-    let out = c.in_ok-taker.ensures.out in
+    let items = c.in-Ok-push_worker.ensures in
+    let out = c.in-Ok-taker.ensures.out in
     let clients : c.taker.new.self.queue ≡ c.loop-seat.dealer.queue = ap (λ dealer. dealer.queue) out in
-    let orders : c.another_end.new.self.queue ≡ c.loop-seat.asks.queue = ap (λ keeper. keeper.queue) c.in_ok-end.ensures.out in
+    let orders : c.another_end.new.self.queue ≡ c.loop-seat.asks.queue = ap (λ keeper. keeper.queue) c.in-Ok-another_end.ensures.out in
     let form = c.captures.form in
     let shelves = c.captures.shelves.now in
     let feeds = c.captures.feeds.now in
     let place = place_of shelves form c.taker.new.self.queue feeds c.another_end.new.self.queue in
     let same = ap (λ q. place_of shelves form q feeds c.loop-seat.asks.queue) (sym clients)
     ∙ ap (λ q. place_of shelves form c.taker.new.self.queue feeds q) (sym orders) in
-    let at_ends = ap (λ q. place_of shelves form q feeds c.in_ok-end.end.queue) (ap (λ t. t.queue) c.in_ok-taker.ensures.taker)
-    ∙ ap (λ q. place_of shelves form c.loop-seat.dealer.queue feeds q) c.in_ok-end.ensures.queue in
+    let at_ends = ap (λ q. place_of shelves form q feeds c.in-Ok-another_end.end.queue) (ap (λ t. t.queue) c.in-Ok-taker.ensures.taker)
+    ∙ ap (λ q. place_of shelves form c.loop-seat.dealer.queue feeds q) c.in-Ok-another_end.ensures.queue in
     record {
       next = tt;
       finite = tt;
@@ -69,7 +69,7 @@ loop-seat-preserved g c =
           (subst (λ p. All (λ worker. worker.promise.place ≡ p) c.loop-seat.workers.items) same was.at)
           (ap (λ post. post.place) promise ∙ at_ends ∙ same));
       loader = was.loader ∙ sym orders;
-      asks = keeper_out _ _ _ _ _ was.asks c.in_ok-end.ensures.out items;
+      asks = keeper_out _ _ _ _ _ was.asks c.in-Ok-another_end.ensures.out items;
       dealer = one_more_out _ _ _ _ _ out was.dealer items;
       seated = seated_next _ _ _ _ _ _ worker c.in-Some.seat was.seated step.0 items (ap (λ post. post.seat) promise);
     }
@@ -88,12 +88,12 @@ loop-seat-init g c =
       fit = subst (λ items. All (g.T.Versions.words.fits c.captures.shelves.now) items) (sym items) all;
       close = subst (λ items. MayClose words items) (sym items) c.requires.13;
       len = search rules;
-      at = subst (λ workers. All (λ worker. worker.promise.place ≡ place_of c.captures.shelves.now c.captures.form c.in_ok-dealer.dealer.queue
-          c.captures.feeds.now c.in_ok-asks.asks.queue) workers) (sym none) (All-nil _);
-      loader = ap (λ post. post.queue) (c.in-Ok.ensures.ok ∙ c.of-loader_post.ensures) ∙ sym c.in_ok-asks.ensures.queue;
-      asks = c.in_ok-asks.ensures.keeper
-          ∙ ap (λ list. record { queue = c.in_ok-asks.asks.queue; put = []; out = length list; closings = 0 }) (sym none);
-      dealer = c.in_ok-dealer.ensures ∙ ap (λ list. record nothing_put { out = length list }) (sym none);
+      at = subst (λ workers. All (λ worker. worker.promise.place ≡ place_of c.captures.shelves.now c.captures.form c.in-Ok.dealer.queue
+          c.captures.feeds.now c.in-Ok-order_queue.asks.queue) workers) (sym none) (All-nil _);
+      loader = ap (λ post. post.queue) (c.in-Ok-started.ensures.ok ∙ c.of-loader_post.ensures) ∙ sym c.in-Ok-order_queue.ensures.queue;
+      asks = c.in-Ok-order_queue.ensures.keeper
+          ∙ ap (λ list. record { queue = c.in-Ok-order_queue.asks.queue; put = []; out = length list; closings = 0 }) (sym none);
+      dealer = c.in-Ok.ensures ∙ ap (λ list. record nothing_put { out = length list }) (sym none);
       seated = seated_none _ _ _ none;
     }
 
@@ -127,7 +127,7 @@ returns-in-Some-close_and_join g c =
     let back = run_result.ensures.back in
     let after = c.in-Some-close_and_join in
     let joined = after.ensures in
-    let post = c.in-Ok.ensures.ok ∙ c.of-loader_post.ensures in
+    let post = c.in-Ok-started.ensures.ok ∙ c.of-loader_post.ensures in
     let queue : c.loop-seat.asks.queue ≡ after.orders.queue = sym (joined.loaded.queue ∙ was.loader) in
     let words = sessions_of c.captures.form g.C.Client.words g.C.Reader.Read.remaining g.C.Writer.Write.contents
     g.T.Versions.words in
@@ -139,7 +139,7 @@ returns-in-Some-close_and_join g c =
     let at_seats = subst (λ seats. AreServedSince words (g.K.Clients.words.came c.captures.clients) (g.K.Clients.words.came run_result.clients)
     (worker_starts seats (route_to names c.loop-seat.asks.queue)) work) seats run_result.ensures.served in
     let taken = subst (λ list. IsPermutation list after.orders.taken) (ap (λ keeper. keeper.put) back.ends) joined.all in
-    let loaded = subst (λ feeds. AreLoaded (load_input_of loads feeds after.orders.queue) c.in-Ok.loading.promise.seat
+    let loaded = subst (λ feeds. AreLoaded (load_input_of loads feeds after.orders.queue) c.in-Ok-started.loading.promise.seat
     (loads_value after.orders after.used) after.loader) (ap (λ post. post.feeds) post) joined.loaded.loaded in
     record {
       left = record {
