@@ -1,14 +1,14 @@
 -- Consecutive days, one day at a time.
 use Rattle.std.proofs.Common.{◌≡◌, ℕ, zero, suc, ℤ, ◌+◌, ◌-◌, ◌<◌, ◌≤◌, List, [], ◌∷◌, ◌++◌, length, map, get_or, All, Contains, true, false, ◌==◌, ◌&&◌, refl}
-use Rattle.std.proofs.Common.{sym, ap, ◌∙◌, subst, arith, append_assoc, length-append}
+use Rattle.std.proofs.Common.{sym, ap, ◌∙◌, subst, arith, append_assoc}
 use Rattle.std.proofs.lemmas.Bool.{and_parts, eqb-true, eq-eqb, false≢true}
-use Rattle.std.proofs.lemmas.List.{append-nil, get_or_at, length-map, map-append}
+use Rattle.std.proofs.lemmas.List.{append-nil, length-map, map-append}
 use Rattle.std.proofs.lemmas.List.Elements.{All-nil, All-push}
 use Rattle.gtfs_rows.specs.declared.values.Day.{Day}
 use Rattle.service_days.specs.Days.{day_after}
 use Rattle.service_days.specs.Zones.{HasNoStart, IsDayStart}
 use Rattle.service_days.specs.declared.zone.Zone.{Zone}
-use Rattle.connections.specs.Days.{AreStarted, HasNoStartAmong, days_from}
+use Rattle.connections.specs.Days.{AreStarted, HaveStarts, IsFirstUnstarted, days_from}
 use Rattle.connections.specs.declared.days.ServiceDay.{ServiceDay}
 
 -- so many days are left, from a day on
@@ -43,17 +43,32 @@ started_all zone first days started day left was none = record {
   starts = was.starts;
 }
 
-pub one_missing : (zone : Zone) (first : Day) (days : ℕ) (started : List ServiceDay) (day : Day) (left less : ℕ) → IsStartedTo zone first days started day left
-    → left ≡ less + 1 → HasNoStart zone day
-    → HasNoStartAmong zone (days_from first days)
-one_missing zone first days started day left less was e missing =
-    let next = days_next day left less e in
-    let front = map (λ (d : ServiceDay). d.day) started in
-    let all : front ++ (day ∷ days_from (day_after day) less) ≡ days_from first days = ap (λ ds. front ++ ds) (sym next) ∙ was.days_are in
-    let within : length front < length (front ++ (day ∷ days_from (day_after day) less)) =
-    omega (arith, length-append front (day ∷ days_from (day_after day) less)) in
-    subst (λ (ds : List Day). HasNoStartAmong zone ds) all
-    (length front, day, within, get_or_at front day (days_from (day_after day) less) day (length front) refl, missing)
+-- the day at an index, and who started it
+index_at : (started : List ServiceDay) (k : ℕ) (day : Day) → k < length (map (λ d. d.day) started)
+    → (x : ServiceDay) × (k < length started) × (x.day ≡ get_or (map (λ d. d.day) started) k day) × (get_or started k x ≡ x)
+index_at [] k day lt = absurd (omega (arith, lt))
+index_at (x ∷ started) zero day lt = (x, omega arith, refl, refl)
+index_at (x ∷ started) (suc k) day lt =
+    let rest = index_at started k day (omega (arith, lt)) in
+    (rest.0, (let less = rest.1 in omega (arith, less)), rest.2, rest.3)
+
+pub have_starts : (zone : Zone) (started : List ServiceDay) → All (λ (d : ServiceDay). IsDayStart zone d.day d.start) started
+    → HaveStarts zone (map (λ (d : ServiceDay). d.day) started)
+have_starts zone started starts k day lt = let at = index_at started k day lt in (
+  at.0.start,
+  subst (λ (x : Day). IsDayStart zone x at.0.start) at.2
+      (subst (λ (x : ServiceDay). IsDayStart zone x.day x.start) at.3 (starts k at.0 at.1)),
+)
+
+pub first_missing : (zone : Zone) (first : Day) (days : ℕ) (started : List ServiceDay) (day : Day) (left less : ℕ)
+    → IsStartedTo zone first days started day left → left ≡ less + 1 → HasNoStart zone day → IsFirstUnstarted zone (days_from first days) day
+first_missing zone first days started day left less was e missing = record {
+  earlier = map (λ (d : ServiceDay). d.day) started;
+  later = days_from (day_after day) less;
+  days_are = sym was.days_are ∙ ap (λ ds. map (λ (d : ServiceDay). d.day) started ++ ds) (days_next day left less e);
+  started = have_starts zone started was.starts;
+  missing = missing;
+}
 
 -- two days with the same year, month and day
 same_day : (a b : Day) → true ≡ ((a.year == b.year) && ((a.month == b.month) && (a.day == b.day))) → a ≡ b
@@ -89,15 +104,6 @@ pub never_missing : (days : List ServiceDay) (day : Day) (d : ServiceDay) → Co
 never_missing days day d (k, lt, is) none =
     let within : k < length days = omega (arith, lt, length-map days (λ (d : ServiceDay). d.day)) in
     none k d within (sym (index_of days day k d within) ∙ is)
-
--- the day at an index, and who started it
-pub index_at : (started : List ServiceDay) (k : ℕ) (day : Day) → k < length (map (λ d. d.day) started)
-    → (x : ServiceDay) × (k < length started) × (x.day ≡ get_or (map (λ d. d.day) started) k day) × (get_or started k x ≡ x)
-index_at [] k day lt = absurd (omega (arith, lt))
-index_at (x ∷ started) zero day lt = (x, omega arith, refl, refl)
-index_at (x ∷ started) (suc k) day lt =
-    let rest = index_at started k day (omega (arith, lt)) in
-    (rest.0, (let less = rest.1 in omega (arith, less)), rest.2, rest.3)
 
 -- the first of the days is the first
 pub first_day : (zone : Zone) (first : Day) (days : ℕ) (started : List ServiceDay) (d : ServiceDay) → AreStarted zone (days_from first days) started → 1 ≤ days

@@ -20,39 +20,37 @@ use Rattle.gtfs_tables.specs.declared.tables.Trip.{Trip}
 use Rattle.gtfs_rows.specs.declared.rows.StopTimeRow.{StopTimeRow}
 use Rattle.service_days.specs.Services.{is_active}
 use Rattle.service_days.specs.Zones.{IsDayStart}
-use Rattle.service_days.specs.declared.fault.DayFault.{DayFault}
-use Rattle.service_days.specs.declared.fault.DayFault.TheVariants.{DayOutOfRange, OutOfMemory as DayMemory}
 use Rattle.service_days.specs.declared.zone.Zone.{Zone}
 use Rattle.service_days.proofs.StartLemmas.{same_start}
 use Rattle.timetable.specs.declared.limits.TheConstants.{MAX_CONNECTIONS, MAX_TRIPS}
 use Rattle.timetable.specs.declared.network.Connection.{Connection}
 use Rattle.connections.specs.Building.{AreByRun, AreSorted, HasDigits, IsEarlier, IsNotAfter, LeavesRange}
-use Rattle.connections.specs.Days.{AreStarted, HasNoStartAmong, HaveStarts, days_from}
-use Rattle.connections.specs.Faults.{IsWantOfMemory, range_fault, too_many_of}
+use Rattle.connections.specs.Days.{AreStarted, HaveStarts, days_from}
+use Rattle.connections.specs.Faults.{IsWantOfMemory, run_fault, too_many_of}
 use Rattle.connections.specs.Hops.{AreInside}
-use Rattle.connections.specs.Listed.{AreListed, HasRunOutside}
+use Rattle.connections.specs.Listed.{AreFirstInside, AreListed, IsFirstOutside}
 use Rattle.connections.specs.Outcome.{IsFirstRefusal, IsListing, is_lifted_trip}
 use Rattle.connections.specs.Repeats.{rows_for, starts_of}
 use Rattle.connections.specs.Runs.{IsTripRun, count_hops, repeats_from, run_as_it_stands, runs_at, runs_from, runs_of_days, runs_of_trip, runs_on}
 use Rattle.connections.specs.Times.{AreTimesOf, AreTripTimes}
 use Rattle.connections.specs.declared.days.ServiceDay.{ServiceDay}
 use Rattle.connections.specs.declared.fault.RunsFault.{RunsFault}
-use Rattle.connections.specs.declared.fault.RunsFault.TheVariants as faults
 use Rattle.connections.specs.declared.runs.Run.{Run}
 use Rattle.connections.specs.declared.times.TripTimes.{TripTimes}
-use Rattle.connections.proofs.DaySteps.{index_at}
+use Rattle.connections.proofs.DaySteps.{have_starts}
 use Rattle.connections.proofs.ListSteps.{run_rows_at}
 
 -- ---- refusals
 
 pub fault_of_hops : (feed : Feed) (zone : Zone) (base other : ℤ) (runs : List Run) (n : ℕ) (run : Run) (fault : RunsFault) → other ≡ base
-    → slice_get runs n ≡ Some run
-    → IsWantOfMemory fault ⊎ ((fault ≡ range_fault) × LeavesRange feed zone other run) → IsWantOfMemory fault
-    ⊎ ((fault ≡ range_fault) × HasRunOutside feed zone base runs)
-fault_of_hops feed zone base other runs n run fault e at (inl memory) = inl memory
-fault_of_hops feed zone base other runs n run fault e at (inr fact) =
+    → slice_get runs n ≡ Some run → AreFirstInside feed zone base runs n
+    → IsWantOfMemory fault ⊎ ((fault ≡ run_fault run) × LeavesRange feed zone other run) → IsWantOfMemory fault
+    ⊎ ((run : Run) × (fault ≡ run_fault run) × IsFirstOutside feed zone base runs run)
+fault_of_hops feed zone base other runs n run fault e at earlier (inl memory) = inl memory
+fault_of_hops feed zone base other runs n run fault e at earlier (inr fact) =
     let leaves : LeavesRange feed zone base run = subst (λ (z : ℤ). LeavesRange feed zone z run) e fact.1 in
     inr (
+      run,
       fact.0,
       record {
         number = n;
@@ -60,18 +58,14 @@ fault_of_hops feed zone base other runs n run fault e at (inr fact) =
         rows = leaves.rows;
         run_at =
             run_rows_at feed zone runs n run leaves.start leaves.rows at leaves.rows_are;
+        run_is = refl;
+        earlier = earlier;
         outside = leaves.outside;
       },
     )
 
-pub have_starts : (zone : Zone) (days : List Day) (started : List ServiceDay) → AreStarted zone days started → HaveStarts zone days
-have_starts zone days started s =
-    subst (λ (ds : List Day). HaveStarts zone ds) s.days_are
-    (λ k day lt. let at = index_at started k day lt in (
-      at.0.start,
-      subst (λ (x : Day). IsDayStart zone x at.0.start) at.2
-          (subst (λ (x : ServiceDay). IsDayStart zone x.day x.start) at.3 (s.starts k at.0 at.1)),
-    ))
+all_start : (zone : Zone) (days : List Day) (started : List ServiceDay) → AreStarted zone days started → HaveStarts zone days
+all_start zone days started s = subst (λ (ds : List Day). HaveStarts zone ds) s.days_are (have_starts zone started s.starts)
 
 pub runs_refused : (feed : Feed) (zone : Zone) (first : Day) (days : ℕ) (started : List ServiceDay) (fault : RunsFault)
     → AreStarted zone (days_from first days) started
@@ -81,7 +75,7 @@ runs_refused feed zone first days started fault s (inl memory) = inl memory
 runs_refused feed zone first days started fault s (inr fact) =
     inr (inr (inl (record {
       is = fact.0;
-      started = have_starts zone (days_from first days) started s;
+      started = all_start zone (days_from first days) started s;
       many =
           subst (λ (ds : List Day). MAX_TRIPS < length (runs_of_days feed ds)) s.days_are fact.1;
     })))
@@ -96,7 +90,7 @@ connections_refused feed zone first days started runs count most fault s runs_ar
     let over : MAX_CONNECTIONS < count_hops feed.trips.items runs = omega (arith, counted, many) in
     inr (inr (inl (record {
       is = is;
-      started = have_starts zone (days_from first days) started s;
+      started = all_start zone (days_from first days) started s;
       few_runs = subst (λ (rs : List Run). length rs ≤ MAX_TRIPS) all few;
       many = subst (λ (rs : List Run). MAX_CONNECTIONS < count_hops feed.trips.items rs) all over;
     })))
@@ -105,17 +99,19 @@ pub times_refused : (feed : Feed) (zone : Zone) (first : Day) (days : ℕ) (star
     (fault : RunsFault) → AreStarted zone (days_from first days) started
     → runs ≡ runs_of_days feed (map (λ d. d.day) started) → length runs ≤ MAX_TRIPS → count ≡ min (count_hops feed.trips.items runs) most
     → count ≤ MAX_CONNECTIONS → MAX_CONNECTIONS < most → IsDayStart zone first base
-    → IsWantOfMemory fault ⊎ ((fault ≡ range_fault) × HasRunOutside feed zone base runs) → IsWantOfMemory fault ⊎ IsFirstRefusal feed zone first days fault
+    → IsWantOfMemory fault ⊎ ((run : Run) × (fault ≡ run_fault run) × IsFirstOutside feed zone base runs run)
+    → IsWantOfMemory fault ⊎ IsFirstRefusal feed zone first days fault
 times_refused feed zone first days started runs count most base fault s runs_are few counted under room is_base (inl memory) = inl memory
 times_refused feed zone first days started runs count most base fault s runs_are few counted under room is_base (inr fact) =
     let all : runs ≡ runs_of_days feed (days_from first days) = runs_are ∙ ap (runs_of_days feed) s.days_are in
     let below : count_hops feed.trips.items runs ≤ MAX_CONNECTIONS = omega (arith, counted, under, room) in
     inr (inr (inr (inr (record {
-      is = fact.0;
-      started = have_starts zone (days_from first days) started s;
+      run = fact.0;
+      is = fact.1;
+      started = all_start zone (days_from first days) started s;
       few_runs = subst (λ (rs : List Run). length rs ≤ MAX_TRIPS) all few;
       few = subst (λ (rs : List Run). count_hops feed.trips.items rs ≤ MAX_CONNECTIONS) all below;
-      outside = (base, is_base, subst (λ (rs : List Run). HasRunOutside feed zone base rs) all fact.1);
+      outside = (base, is_base, subst (λ (rs : List Run). IsFirstOutside feed zone base rs fact.0) all fact.2);
     }))))
 
 -- ---- each run is one of a trip, on one of the days
@@ -291,7 +287,7 @@ listing_made feed zone first days started runs count most cs sorted base s runs_
     let size : length sorted ≡ length cs = length_permutation cs sorted moved in
     let whole : length cs ≡ count_hops feed.trips.items runs = b.counted ∙ ap (count_hops feed.trips.items) (take_all (length runs) runs (omega arith)) in
     record {
-      started = have_starts zone (days_from first days) started s;
+      started = all_start zone (days_from first days) started s;
       runs_are = runs_are ∙ ap (runs_of_days feed) s.days_are;
       few_runs = few;
       counted = size ∙ whole;

@@ -8,7 +8,7 @@ use Rattle.service_days.specs.declared.zone.Zone.{Zone}
 use Rattle.timetable.specs.Legal.{At}
 use Rattle.timetable.specs.declared.network.Connection.{Connection}
 use Rattle.connections.specs.Hops.{AddsHops, AreInside, HasOutside}
-use Rattle.connections.specs.Listed.{IsRunAt, IsRunHop, IsRunStart}
+use Rattle.connections.specs.Listed.{AreFirstInside, IsRunHop, IsRunStart}
 use Rattle.connections.specs.Runs.{count_hops, hops_of}
 use Rattle.connections.specs.declared.runs.Run.{Run}
 
@@ -45,7 +45,7 @@ pub record AreByRun (feed : Feed) (zone : Zone) (base : ℤ) (runs : List Run) (
   pub only : (c : Connection) → Contains connections c → (r : ℕ) × (p : ℕ) × (r < n) × IsRunHop feed zone base runs r p c
   pub rising : (i j : ℕ) (d : Connection) → i < j → j < length connections → IsEarlier (slice_index_or connections i d) (slice_index_or connections j d)
   pub counted : length connections ≡ count_hops feed.trips.items (take n runs)
-  pub inside : (r : ℕ) (start : ℤ) (rows : List StopTimeRow) → r < n → (at : IsRunAt feed zone runs r start rows) → AreInside base start at.run.start rows
+  pub inside : AreFirstInside feed zone base runs n
 
 -- the first connection comes no later in the order by departure, arrival and run
 pub record IsNotAfter (c d : Connection) : Type 0 where

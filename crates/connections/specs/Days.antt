@@ -1,5 +1,5 @@
 -- The days of a plan, and their starts.
-use Rattle.std.specs.Prelude.{◌≡◌, ℕ, zero, suc, ℤ, List, [], ◌∷◌, map, All, Any}
+use Rattle.std.specs.Prelude.{◌≡◌, ℕ, zero, suc, ℤ, List, [], ◌∷◌, ◌++◌, map, All}
 use Rattle.gtfs_rows.specs.declared.values.Day.{Day}
 use Rattle.service_days.specs.Days.{day_after}
 use Rattle.service_days.specs.Zones.{HasNoStart, IsDayStart}
@@ -15,9 +15,13 @@ days_from day (suc n) = day ∷ days_from (day_after day) n
 abbrev pub HaveStarts : Zone → List Day → Type 0
 HaveStarts zone days = All (λ day. (start : ℤ) × IsDayStart zone day start) days
 
--- one of the days has no start
-abbrev pub HasNoStartAmong : Zone → List Day → Type 0
-HasNoStartAmong zone days = Any (HasNoStart zone) days
+-- the first of the days that has no start
+pub record IsFirstUnstarted (zone : Zone) (days : List Day) (day : Day) : Type 0 where
+  pub earlier : List Day
+  pub later : List Day
+  pub days_are : days ≡ earlier ++ day ∷ later
+  pub started : HaveStarts zone earlier
+  pub missing : HasNoStart zone day
 
 -- the days with their starts
 pub record AreStarted (zone : Zone) (days : List Day) (started : List ServiceDay) : Type 0 where

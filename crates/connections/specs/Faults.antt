@@ -2,19 +2,27 @@
 use Rattle.std.specs.Prelude.{◌≡◌}
 use Rattle.gtfs_rows.specs.declared.fault.FaultKind.TheVariants.{OutOfMemory as TableMemory, TooMany}
 use Rattle.gtfs_rows.specs.declared.fault.Table.{Table}
-use Rattle.service_days.specs.declared.fault.DayFault.TheVariants.{DayOutOfRange, OutOfMemory as DayMemory}
+use Rattle.gtfs_rows.specs.declared.values.Day.{Day}
+use Rattle.service_days.specs.declared.fault.DayFault.TheVariants.{OutOfMemory as DayMemory}
+use Rattle.connections.specs.declared.fault.OutOfRange.TheVariants as ranges
 use Rattle.connections.specs.declared.fault.RunsFault.{RunsFault}
 use Rattle.connections.specs.declared.fault.RunsFault.TheVariants as faults
+use Rattle.connections.specs.declared.runs.Run.{Run}
 
 -- there are too many runs (trips.txt) or connections (stop_times.txt)
 abbrev pub too_many_of : Table → RunsFault
 too_many_of table = faults.Table (record { file = table; row = 0; kind = TooMany })
 
--- a day or a time is out of range
-abbrev pub range_fault : RunsFault
-range_fault = faults.Day DayOutOfRange
+-- a day has no start
+abbrev pub day_fault : Day → RunsFault
+day_fault day = faults.Range (ranges.Day day)
+
+-- a time of a run is out of range
+abbrev pub run_fault : Run → RunsFault
+run_fault run = faults.Range (ranges.Run run)
 
 -- memory ran out
 abbrev pub IsWantOfMemory : RunsFault → Type 0
 IsWantOfMemory (faults.Table fault) = fault.kind ≡ TableMemory
 IsWantOfMemory (faults.Day fault) = fault ≡ DayMemory
+IsWantOfMemory (faults.Range range) = ⊥

@@ -33,18 +33,25 @@ pub record IsRunHop (feed : Feed) (zone : Zone) (base : ℤ) (runs : List Run) (
   pub run_at : IsRunAt feed zone runs number start rows
   pub hop : IsHop base start rows number position c
 
+-- all times of the first n runs that count are in range
+abbrev pub AreFirstInside : Feed → Zone → ℤ → List Run → ℕ → Type 0
+AreFirstInside feed zone base runs n = (number : ℕ) (start : ℤ) (rows : List StopTimeRow) → number < n
+    → (at : IsRunAt feed zone runs number start rows) → AreInside base start at.run.start rows
+
 -- all times of all runs that count are in range
 abbrev pub AreRunsInside : Feed → Zone → ℤ → List Run → Type 0
 AreRunsInside feed zone base runs = (number : ℕ) (start : ℤ) (rows : List StopTimeRow) → (at : IsRunAt feed zone runs number start rows)
     → AreInside base start at.run.start rows
 
--- a time of a run that counts is out of range
-pub record HasRunOutside (feed : Feed) (zone : Zone) (base : ℤ) (runs : List Run) : Type 0 where
+-- the first of the runs that has a time that counts and is out of range
+pub record IsFirstOutside (feed : Feed) (zone : Zone) (base : ℤ) (runs : List Run) (run : Run) : Type 0 where
   pub number : ℕ
   pub start : ℤ
   pub rows : List StopTimeRow
   pub run_at : IsRunAt feed zone runs number start rows
-  pub outside : HasOutside base start run_at.run.start rows
+  pub run_is : run_at.run ≡ run
+  pub earlier : AreFirstInside feed zone base runs number
+  pub outside : HasOutside base start run.start rows
 
 -- connection c at position p comes before d at position q
 pub record IsBefore (c d : Connection) (p q : ℕ) : Type 0 where

@@ -10,9 +10,9 @@ use Rattle.service_days.specs.Zones.{IsDayStart}
 use Rattle.service_days.specs.declared.zone.Zone.{Zone}
 use Rattle.timetable.specs.declared.limits.TheConstants.{MAX_CONNECTIONS, MAX_TRIPS}
 use Rattle.timetable.specs.declared.network.Connection.{Connection}
-use Rattle.connections.specs.Days.{HasNoStartAmong, HaveStarts, days_from}
-use Rattle.connections.specs.Faults.{range_fault, too_many_of}
-use Rattle.connections.specs.Listed.{AreListed, AreRunsInside, HasRunOutside}
+use Rattle.connections.specs.Days.{HaveStarts, IsFirstUnstarted, days_from}
+use Rattle.connections.specs.Faults.{day_fault, run_fault, too_many_of}
+use Rattle.connections.specs.Listed.{AreListed, AreRunsInside, IsFirstOutside}
 use Rattle.connections.specs.Runs.{count_hops, runs_of_days}
 use Rattle.connections.specs.Times.{is_lifted}
 use Rattle.connections.specs.declared.fault.RunsFault.{RunsFault}
@@ -46,8 +46,9 @@ pub record IsReport (feed : Feed) (run_count connection_count : ℕ) (report : R
 
 -- a day has no start
 pub record IsDayRefused (zone : Zone) (days : List Day) (fault : RunsFault) : Type 0 where
-  pub is : fault ≡ range_fault
-  pub among : HasNoStartAmong zone days
+  pub day : Day
+  pub is : fault ≡ day_fault day
+  pub first : IsFirstUnstarted zone days day
 
 -- there are too many runs
 pub record AreTooManyRuns (feed : Feed) (zone : Zone) (days : List Day) (fault : RunsFault) : Type 0 where
@@ -64,11 +65,12 @@ pub record AreTooManyConnections (feed : Feed) (zone : Zone) (days : List Day) (
 
 -- a time of a run is out of range
 pub record IsTimeRefused (feed : Feed) (zone : Zone) (first : Day) (days : List Day) (fault : RunsFault) : Type 0 where
-  pub is : fault ≡ range_fault
+  pub run : Run
+  pub is : fault ≡ run_fault run
   pub started : HaveStarts zone days
   pub few_runs : length (runs_of_days feed days) ≤ MAX_TRIPS
   pub few : count_hops feed.trips.items (runs_of_days feed days) ≤ MAX_CONNECTIONS
-  pub outside : (base : ℤ) × IsDayStart zone first base × HasRunOutside feed zone base (runs_of_days feed days)
+  pub outside : (base : ℤ) × IsDayStart zone first base × IsFirstOutside feed zone base (runs_of_days feed days) run
 
 -- the first refusal: days are judged first, then the number of runs, then that of connections, then the times of the runs
 abbrev pub IsFirstRefusal : Feed → Zone → Day → ℕ → RunsFault → Type 0

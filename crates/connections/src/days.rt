@@ -1,8 +1,11 @@
 //! The service days of a plan, each with the instant at which it starts.
 
 ghost use Rattle.std.specs.Prelude.{◌≡◌, ◌≤◌, IfOk, IfErr, ◌⊎◌};
-ghost use Rattle.connections.specs.Days.{AreStarted, HasNoStartAmong, days_from};
+ghost use Rattle.connections.specs.Days.{AreStarted, days_from};
+ghost use Rattle.connections.specs.Faults.{IsWantOfMemory};
+ghost use Rattle.connections.specs.Outcome.{IsDayRefused};
 
+use crate::fault::{OutOfRange, RunsFault};
 use gtfs_tables::Day;
 use service_days::{DayFault, Zone, day_after, day_start};
 use std::alloc::Global;
@@ -17,29 +20,27 @@ pub(crate) struct ServiceDay {
     pub start: i64,
 }
 
-// Returns `days` consecutive days from the first one on, with their starts. `DayOutOfRange` if one of them has no
-// start; memory may run out.
+// Returns `days` consecutive days from the first one on, with their starts; or the first of them that has no start.
+// Memory may run out.
 pub(crate) fn service_days(
     alloc: Global,
     first: Day,
     days: u32,
     zone: &Zone,
-) -> Result<Vec<ServiceDay>, DayFault>
+) -> Result<Vec<ServiceDay>, RunsFault>
     ensures ok { IfOk result (λ started. AreStarted zone.now (days_from first days) started.items) }
-    ensures err { IfErr result (λ fault. (fault ≡ DayFault.OutOfMemory)
-        ⊎ ((fault ≡ DayFault.DayOutOfRange) × HasNoStartAmong zone.now (days_from first days))) }
+    ensures err { IfErr result (λ fault. IsWantOfMemory fault ⊎ IsDayRefused zone.now (days_from first days) fault) }
 {
     let Ok(mut service_days) = Vec::with_capacity(alloc, days as usize) else {
-        return Err(DayFault::OutOfMemory);
+        return Err(RunsFault::Day(DayFault::OutOfMemory));
     };
     let mut day = first;
     for done in 0..days {
-        let start = match day_start(zone, day) {
-            Ok(start) => start,
-            Err(fault) => return Err(fault),
+        let Ok(start) = day_start(zone, day) else {
+            return Err(RunsFault::Range(OutOfRange::Day(day)));
         };
         let Ok(()) = service_days.push(ServiceDay { day, start }) else {
-            return Err(DayFault::OutOfMemory);
+            return Err(RunsFault::Day(DayFault::OutOfMemory));
         };
         day = day_after(day);
     }

@@ -2,9 +2,10 @@
 //! memory that ran out.
 
 ghost use Rattle.std.specs.Prelude.{◌≡◌};
-ghost use Rattle.connections.specs.Faults.{IsWantOfMemory, range_fault, too_many_of};
+ghost use Rattle.connections.specs.Faults.{IsWantOfMemory, too_many_of};
 
-use gtfs_tables::{FaultKind, Table, TableFault};
+use crate::runs::Run;
+use gtfs_tables::{Day, FaultKind, Table, TableFault};
 use service_days::DayFault;
 use thiserror::Error;
 
@@ -14,9 +15,21 @@ pub enum RunsFault {
     /// There are too many runs (`trips.txt`) or connections (`stop_times.txt`), or memory ran out.
     #[error("{0}")]
     Table(TableFault),
-    /// A day has no start, a run has times before the base or too late after it, or memory ran out.
+    /// Memory ran out for the days.
     #[error("{0}")]
     Day(DayFault),
+    /// A day or a run is out of range.
+    #[error("a day has no start, or a run has a time out of range")]
+    Range(OutOfRange),
+}
+
+/// The first day or run that is out of range.
+#[derive(Clone, Copy, Debug, PartialEq, Eq)]
+pub enum OutOfRange {
+    /// The day has no start.
+    Day(Day),
+    /// The run has a time before the base, or too late after it.
+    Run(Run),
 }
 
 // Returns the fault that there are too many runs (`trips.txt`) or connections (`stop_times.txt`).
@@ -39,11 +52,4 @@ pub(crate) fn out_of_memory() -> RunsFault
         row: 0,
         kind: FaultKind::OutOfMemory,
     })
-}
-
-// Returns the fault that a day or a time is out of range.
-pub(crate) fn out_of_range() -> RunsFault
-    ensures { result ≡ range_fault }
-{
-    RunsFault::Day(DayFault::DayOutOfRange)
 }

@@ -18,7 +18,7 @@ mod trip_services;
 mod trip_starts;
 
 pub use days::MAX_DAYS;
-pub use fault::RunsFault;
+pub use fault::{OutOfRange, RunsFault};
 pub use listing::runs_of;
 pub use report::Report;
 pub use runs::Run;

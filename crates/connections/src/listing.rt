@@ -8,14 +8,15 @@ ghost use Rattle.gtfs_tables.specs.Joined.{rows_of as rows_between};
 ghost use Rattle.service_days.specs.Zones.{IsDayStart};
 ghost use Rattle.service_days.specs.declared.zone.Zone.{Zone as DayZone};
 ghost use Rattle.connections.specs.Building.{AddsRun, AreByRun, AreSorted, HasDigits, LeavesRange, order_of};
-ghost use Rattle.connections.specs.Faults.{IsWantOfMemory, range_fault};
-ghost use Rattle.connections.specs.Listed.{AreListed, AreRunsInside, HasRunOutside};
+ghost use Rattle.connections.specs.Faults.{IsWantOfMemory, run_fault};
+ghost use Rattle.connections.specs.Listed.{AreListed, AreRunsInside, IsFirstOutside};
 ghost use Rattle.connections.specs.Outcome.{IsFirstRefusal, IsListing, IsReport};
 ghost use Rattle.connections.specs.Runs.{IsTripRun, count_hops, runs_of_days};
 ghost use Rattle.connections.specs.Times.{AreTimesOf, AreTripTimes};
+ghost use Rattle.connections.specs.declared.runs.Run.{Run as TripRun};
 
 use crate::days::{MAX_DAYS, ServiceDay, service_days};
-use crate::fault::{RunsFault, out_of_memory, out_of_range, too_many};
+use crate::fault::{OutOfRange, RunsFault, out_of_memory, too_many};
 use crate::hops::{DayClock, RunClock, add_hops, are_inside};
 use crate::report::{Report, report_of};
 use crate::runs::{Run, makes_connections, runs_on};
@@ -94,7 +95,7 @@ fn start_of(days: &[ServiceDay], day: Day) -> i64
     unreachable!();
 }
 
-// Adds the connections of a run: `DayOutOfRange` if one of its times is out of range.
+// Adds the connections of a run, unless one of its times is out of range.
 fn list_run(
     connections: &mut Vec<Connection>,
     feed: &Feed,
@@ -109,7 +110,7 @@ fn list_run(
         → OnOk result (AddsRun feed.now zone day.base run.now number connections.old.items connections.new.items) }
     ensures err { (zone : DayZone) → IsDayStart zone run.now.day day.start
         → IfErr result (λ fault. IsWantOfMemory fault
-        ⊎ ((fault ≡ range_fault) × LeavesRange feed.now zone day.base run.now)) }
+        ⊎ ((fault ≡ run_fault run.now) × LeavesRange feed.now zone day.base run.now)) }
 {
     let position = run.trip as usize;
     let trip = &feed.trips[position];
@@ -121,7 +122,7 @@ fn list_run(
         own: row_times[0].departure,
     };
     if !are_inside(clock, row_times) {
-        return Err(out_of_range());
+        return Err(RunsFault::Range(OutOfRange::Run(*run)));
     }
     match add_hops(connections, clock, rows, row_times, number) {
         Ok(()) => Ok(()),
@@ -129,8 +130,8 @@ fn list_run(
     }
 }
 
-// Returns the connections of the runs, by run; room is made for `count` of them. `DayOutOfRange` if a time of a run
-// is out of range.
+// Returns the connections of the runs, by run; room is made for `count` of them. Or returns the first run that has a
+// time out of range.
 fn connections_by_run(
     alloc: Global,
     feed: &Feed,
@@ -150,7 +151,7 @@ fn connections_by_run(
     ensures err { (zone : DayZone) (base : ℤ) (d : ServiceDay) → base ≡ (slice_index_or days.now 0 d).start
         → All (λ d. IsDayStart zone d.day d.start) days.now
         → IfErr result (λ fault. IsWantOfMemory fault
-        ⊎ ((fault ≡ range_fault) × HasRunOutside feed.now zone base runs.now)) }
+        ⊎ ((run : TripRun) × (fault ≡ run_fault run) × IsFirstOutside feed.now zone base runs.now run)) }
 {
     let Ok(mut connections) = Vec::with_capacity(alloc, count) else {
         return Err(out_of_memory());
@@ -201,9 +202,9 @@ fn put_in_order(connections: &mut Vec<Connection>)
 /// run and position in the trip. Passengers may board if they may at the row that the connection leaves, and alight
 /// if they may at the row that it reaches.
 ///
-/// Refusals come in this order: a day without a start (`DayOutOfRange`), too many runs (`TooMany`, `trips.txt`), too
-/// many connections (`TooMany`, `stop_times.txt`), a run with a time before the base, or at `TIME_END` or later
-/// (`DayOutOfRange`); a repeat's arrival at its first row isn't judged. Memory may run out before any of them.
+/// Refusals come in this order: the first day without a start, too many runs (`TooMany`, `trips.txt`), too many
+/// connections (`TooMany`, `stop_times.txt`), the first run with a time before the base, or at `TIME_END` or later; a
+/// repeat's arrival at its first row isn't judged. Memory may run out before any of them.
 pub fn runs_of(
     alloc: Global,
     feed: &Feed,
@@ -219,7 +220,7 @@ pub fn runs_of(
 {
     let days = match service_days(alloc, first_day, days, zone) {
         Ok(days) => days,
-        Err(fault) => return Err(RunsFault::Day(fault)),
+        Err(fault) => return Err(fault),
     };
     let runs = match runs_on(alloc, feed, &days) {
         Ok(runs) => runs,

@@ -61,6 +61,7 @@ pub as_failed : (T : Type 0) (before : List (List ℕ)) (fault : LoadFault) → 
 as_failed T before (faults.FileFailed table) = refl
 as_failed T before (faults.Table fault) = refl
 as_failed T before (faults.Day fault) = refl
+as_failed T before (faults.Range range) = refl
 as_failed T before (faults.Footpaths fault) = refl
 as_failed T before (faults.Image fault) = refl
 

@@ -13,6 +13,7 @@ use Rattle.command_endings.specs.Refusing.{place_text, refusal_text, word_text}
 abbrev pub feed_positions : LoadFault → List ℕ
 feed_positions (feeds.Table fault) = word_text (file_name fault.file) ++ place_text fault.row
 feed_positions (feeds.Day fault) = []
+feed_positions (feeds.Range range) = []
 feed_positions (feeds.Footpaths fault) = []
 feed_positions (feeds.Image fault) = []
 feed_positions (feeds.FileFailed table) = word_text (file_name table)
@@ -25,6 +26,7 @@ feed_line fault = refusal_text (fault_number fault, fault_name fault) (feed_posi
 abbrev pub refusal_status : LoadFault → ℕ
 refusal_status (feeds.Table fault) = REFUSED
 refusal_status (feeds.Day fault) = REFUSED
+refusal_status (feeds.Range range) = REFUSED
 refusal_status (feeds.Footpaths fault) = REFUSED
 refusal_status (feeds.Image fault) = REFUSED
 refusal_status (feeds.FileFailed table) = INPUT_OUTPUT

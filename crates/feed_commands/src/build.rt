@@ -13,7 +13,7 @@ ghost use Rattle.command_endings.specs.Ending.{IsOutcome, PrintsOnly};
 ghost use Rattle.feed_commands.specs.Folders.{IsBuildRefusal, IsBuiltFrom, failed_as};
 ghost use Rattle.feed_commands.specs.Refusing.{PrintsOfFeed};
 
-use crate::explaining::{explain_day, explain_faults, report_unread_zone};
+use crate::explaining::{explain_faults, report_unread_zone};
 use crate::progress::{BuildReports, Progress, ReportedFiles, load_reported};
 use crate::refusing::refuse_feed;
 use crate::warnings::{BuiltImage, warn};
@@ -76,7 +76,6 @@ pub fn run<
         Err(BuildFailure::Refused(fault)) => {
             let (all, strict) = (request.all_faults, request.plan.strict);
             explain_faults(rt, folder, &fault, errors, all, strict);
-            explain_day(rt, &request.plan, &fault, errors);
             refuse_feed(alloc, output, fault)
         }
         Err(BuildFailure::Unreadable(path)) => report_unread_zone(rt, errors, path),

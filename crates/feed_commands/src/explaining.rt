@@ -2,29 +2,23 @@
 //!
 //! If a line can't be written, or there is no memory for it, nothing else changes.
 
-ghost use Rattle.std.specs.Prelude.{◌≡◌, IfSome};
-ghost use Rattle.service_days.specs.Zones.{HasNoStart};
+ghost use Rattle.std.specs.Prelude.{◌≡◌};
 ghost use Rattle.command_requests.specs.declared.statuses.TheConstants.{INPUT_OUTPUT};
 
+use crate::naming::{day_text, run_text};
 use crate::warnings::{ZONES, ZoneFile, zone_file};
 use command_endings::status;
-use command_requests::PlanText;
 use feed_files::{Disk, FolderFiles, ReadFault};
-use feed_loader::{LoadFault, Plan, day_number};
+use feed_loader::{LoadFault, OutOfRange};
 use feed_messages::{
     explain, explain_failed, explain_folder, explain_further, explain_table, is_folder,
 };
-use feed_plans::plan_of;
-use gtfs_rows::Day;
-use image_files::ImageDisk;
-use service_days::{DayFault, day_after, day_start};
 use std::convert::AsStr;
 use std::io::Write;
 use std::rt::Files;
-use std::time::Clock;
 
-/// Explains the refusal of a feed: what is wrong with its folder, or where a fault of a table is.
-/// Nothing is said if memory ran out.
+/// Explains the refusal of a feed: what is wrong with its folder, where a fault of a table is, or which day or trip is
+/// out of range. Nothing is said if memory ran out.
 pub fn explain_refused<H: Files + AllocGlobal, E: Write>(
     rt: &H,
     folder: &str,
@@ -43,7 +37,13 @@ pub fn explain_refused<H: Files + AllocGlobal, E: Write>(
             }
         }
         LoadFault::FileFailed(table) => explain_failed(rt, folder, *table, errors),
-        _ => explain_load(fault, errors),
+        LoadFault::Range(range) => {
+            explain_load(fault, errors);
+            explain_range(rt, folder, range, errors);
+        }
+        LoadFault::Day(_) | LoadFault::Footpaths(_) | LoadFault::Image(_) => {
+            explain_load(fault, errors)
+        }
     }
 }
 
@@ -96,43 +96,20 @@ or a trip has a time that no image can have",
     explain(errors, &["csa: ", reason]);
 }
 
-/// If a feed is refused because a day or a time of a trip is out of range, names the first day of the plan that has no
-/// start; a trip's time is the cause if each of them has one.
-pub fn explain_day<H: ImageDisk + AllocGlobal + Clock, E: Write>(
+/// Names the first day without a start, or the first trip with a time out of range and its day.
+fn explain_range<H: Files + AllocGlobal, E: Write>(
     rt: &H,
-    asked: &PlanText<'_>,
-    fault: &LoadFault,
+    folder: &str,
+    range: &OutOfRange,
     errors: &mut E,
 ) {
-    if *fault != LoadFault::Day(DayFault::DayOutOfRange) {
-        return;
-    }
-    let Ok(plan) = plan_of(rt, asked) else {
-        return;
+    let named = match range {
+        OutOfRange::Day(day) => day_text(rt.alloc(), *day),
+        OutOfRange::Run(run) => run_text(rt, folder, run),
     };
-    let Some(day) = day_without_start(&plan) else {
-        return explain(
-            errors,
-            &["csa: each of these days has a noon, so it is the time of a trip"],
-        );
-    };
-    if let Ok(day) = format!(in rt.alloc(); "{:08}", day_number(day)) {
-        explain(errors, &["csa: the first such day is ", day.as_str()]);
+    if let Ok(named) = named {
+        explain(errors, &["csa: the first such ", named.as_str()]);
     }
-}
-
-// Returns the first day of a plan that has no start in the zone.
-fn day_without_start(plan: &Plan) -> Option<Day>
-    ensures { IfSome result (HasNoStart plan.now.zone) }
-{
-    let mut day = plan.first_day;
-    for _ in 0..plan.days {
-        if day_start(&plan.zone, day).is_err() {
-            return Some(day);
-        }
-        day = day_after(day);
-    }
-    None
 }
 
 /// Says how to write the zone, if `--zone` has only the name or the path of a zone file that the system has.

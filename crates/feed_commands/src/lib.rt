@@ -5,6 +5,7 @@
 pub mod build;
 pub mod days;
 mod explaining;
+mod naming;
 mod progress;
 mod reading;
 mod refusing;

@@ -41,10 +41,12 @@ fn status_of(fault: LoadFault) -> u8
     ensures either { (result ≡ REFUSED) ⊎ (result ≡ INPUT_OUTPUT) }
 {
     match fault {
-        LoadFault::Table(_) | LoadFault::Day(_) | LoadFault::Footpaths(_) | LoadFault::Image(_) => {
-            status::REFUSED
-        }
         LoadFault::FileFailed(_) => status::INPUT_OUTPUT,
+        LoadFault::Table(_)
+        | LoadFault::Day(_)
+        | LoadFault::Range(_)
+        | LoadFault::Footpaths(_)
+        | LoadFault::Image(_) => status::REFUSED,
     }
 }
 
@@ -65,7 +67,8 @@ fn put_feed_positions(line: &mut String, fault: LoadFault) -> Result<(), AllocEr
     match fault {
         LoadFault::Table(fault) => put_record(line, fault.file.file_name(), fault.row),
         LoadFault::FileFailed(table) => put_word(line, table.file_name()),
-        LoadFault::Day(_) | LoadFault::Footpaths(_) | LoadFault::Image(_) => Ok(()),
+        LoadFault::Day(_) | LoadFault::Range(_) | LoadFault::Footpaths(_) | LoadFault::Image(_) =>
+            Ok(()),
     }
 }
 

@@ -2,10 +2,7 @@
 use Rattle.std.proofs.Common.{◌⊎◌, inl, inr}
 use Rattle.gtfs_tables.specs.declared.tables.Feed.{Feed}
 use Rattle.feed_files.specs.Reading.{Content}
-use Rattle.feed_files.specs.declared.reading.ReadFault.{ReadFault}
-use Rattle.feed_files.specs.declared.reading.ReadFault.TheVariants as reads
-use Rattle.feed_loader.specs.Faults.{load_fault_of_read}
-use Rattle.feed_loader.specs.Refused.{IsFeedRefusal, IsLoadRefusal, IsRead, IsTableMemory, IsWantOfMemory}
+use Rattle.feed_loader.specs.Refused.{IsFeedRefusal, IsLoadRefusal, IsRead, IsWantOfMemory}
 use Rattle.feed_loader.specs.declared.fault.LoadFault.{LoadFault}
 use Rattle.feed_loader.specs.declared.plan.Plan.{Plan}
 
@@ -15,8 +12,3 @@ pub feed_refused : (content : Content) (plan : Plan) (feed : Feed) (fault : Load
     → ¬ (IsWantOfMemory fault) → IsLoadRefusal content plan fault
 feed_refused content plan feed fault read (inl wants) unless = absurd (unless wants)
 feed_refused content plan feed fault read (inr first) unless = inr (inr (record { feed = feed; read = read; first = first }))
-
--- what runs out while files are read is memory for a table
-pub read_memory : (fault : ReadFault) → IsWantOfMemory (load_fault_of_read fault) → IsTableMemory (load_fault_of_read fault)
-read_memory (reads.Table fault) wants = wants
-read_memory (reads.FileFailed table) wants = wants

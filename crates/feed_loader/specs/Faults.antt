@@ -2,6 +2,7 @@
 use Rattle.std.specs.Prelude.{ℕ, ◌++◌, ◌∷◌, List, [], Result, Ok, Err, codes}
 use Rattle.gtfs_rows.specs.FaultNumber.{numbered_fault as numbered_kind, file_name}
 use Rattle.service_days.specs.Faults.{numbered_fault as numbered_day_fault}
+use Rattle.service_days.specs.declared.fault.DayFault.TheVariants.{DayOutOfRange}
 use Rattle.footpaths.specs.FaultNumber.{numbered_fault as numbered_foot_fault}
 use Rattle.image_verifier.specs.FaultNumber.{fault_name as image_name, fault_number as image_number}
 use Rattle.gtfs_rows.specs.declared.fault.FaultKind.TheVariants as kinds
@@ -20,6 +21,7 @@ load_fault_of_read (reads.FileFailed table) = faults.FileFailed table
 abbrev pub load_fault_of_runs : RunsFault → LoadFault
 load_fault_of_runs (runs.Table fault) = faults.Table fault
 load_fault_of_runs (runs.Day fault) = faults.Day fault
+load_fault_of_runs (runs.Range range) = faults.Range range
 
 -- the fault TooMany of a table
 abbrev pub too_many : Table → LoadFault
@@ -34,6 +36,7 @@ abbrev pub failed_by : {T : Type 0} → List (List ℕ) → Result T LoadFault �
 failed_by before (Ok t) = before
 failed_by before (Err (faults.Table fault)) = before
 failed_by before (Err (faults.Day fault)) = before
+failed_by before (Err (faults.Range range)) = before
 failed_by before (Err (faults.Footpaths fault)) = before
 failed_by before (Err (faults.Image fault)) = before
 failed_by before (Err (faults.FileFailed table)) = before ++ file_name table ∷ []
@@ -42,6 +45,7 @@ failed_by before (Err (faults.FileFailed table)) = before ++ file_name table ∷
 abbrev pub fault_number : LoadFault → ℕ
 fault_number (faults.Table fault) = (numbered_kind fault.kind).0
 fault_number (faults.Day fault) = (numbered_day_fault fault).0
+fault_number (faults.Range range) = (numbered_day_fault DayOutOfRange).0
 fault_number (faults.Footpaths fault) = (numbered_foot_fault fault).0
 fault_number (faults.Image fault) = image_number fault
 fault_number (faults.FileFailed table) = 101
@@ -49,6 +53,7 @@ fault_number (faults.FileFailed table) = 101
 abbrev pub fault_name : LoadFault → List ℕ
 fault_name (faults.Table fault) = (numbered_kind fault.kind).1
 fault_name (faults.Day fault) = (numbered_day_fault fault).1
+fault_name (faults.Range range) = (numbered_day_fault DayOutOfRange).1
 fault_name (faults.Footpaths fault) = (numbered_foot_fault fault).1
 fault_name (faults.Image fault) = image_name fault
 fault_name (faults.FileFailed table) = codes "FileFailed"

@@ -1,10 +1,11 @@
 -- Why no image is made of a feed.
-use Rattle.std.specs.Prelude.{◌≡◌, ◌<◌, ◌≤◌, ◌⊎◌, List, length, Bool}
+use Rattle.std.specs.Prelude.{◌≡◌, ◌<◌, ◌≤◌, ◌⊎◌, ℕ, List, length, Bool}
 use Rattle.timetable.specs.NamesValue.{NamesValue}
 use Rattle.timetable.specs.TimetableValue.{TimetableValue}
 use Rattle.timetable.specs.declared.limits.TheConstants.{MAX_FOOTPATHS, MAX_NAME_BYTES, MAX_STOPS, MAX_WALK_SECS}
 use Rattle.timetable.specs.declared.network.Connection.{Connection}
 use Rattle.timetable.specs.declared.network.Footpath.{Footpath}
+use Rattle.image_layout.specs.Image.{IsImage}
 use Rattle.image_layout.specs.Spelling.{text}
 use Rattle.image_verifier.specs.declared.fault.ImageFault.TheVariants as images
 use Rattle.gtfs_rows.specs.declared.fault.FaultKind.TheVariants as kinds
@@ -17,7 +18,6 @@ use Rattle.feed_files.specs.declared.reading.ReadFault.{ReadFault}
 use Rattle.footpaths.specs.Closure.{IsFault}
 use Rattle.footpaths.specs.declared.fault.FootFault.{FootFault}
 use Rattle.footpaths.specs.declared.fault.FootFault.TheVariants as paths
-use Rattle.service_days.specs.Zones.{HasNoStart}
 use Rattle.service_days.specs.declared.fault.DayFault.TheVariants as days
 use Rattle.connections.specs.Outcome.{IsFirstRefusal, IsListing}
 use Rattle.connections.specs.declared.fault.RunsFault.{RunsFault}
@@ -33,6 +33,7 @@ use Rattle.feed_loader.specs.declared.plan.Plan.{Plan}
 abbrev pub IsWantOfMemory : LoadFault → Type 0
 IsWantOfMemory (faults.Table fault) = fault.kind ≡ kinds.OutOfMemory
 IsWantOfMemory (faults.Day fault) = fault ≡ days.OutOfMemory
+IsWantOfMemory (faults.Range range) = ⊥
 IsWantOfMemory (faults.Footpaths fault) = fault ≡ paths.OutOfMemory
 IsWantOfMemory (faults.Image fault) = fault ≡ images.OutOfMemory
 IsWantOfMemory (faults.FileFailed table) = ⊥
@@ -41,6 +42,7 @@ IsWantOfMemory (faults.FileFailed table) = ⊥
 abbrev pub IsTableMemory : LoadFault → Type 0
 IsTableMemory (faults.Table fault) = fault.kind ≡ kinds.OutOfMemory
 IsTableMemory (faults.Day fault) = ⊥
+IsTableMemory (faults.Range range) = ⊥
 IsTableMemory (faults.Footpaths fault) = ⊥
 IsTableMemory (faults.Image fault) = ⊥
 IsTableMemory (faults.FileFailed table) = ⊥
@@ -83,22 +85,24 @@ pub record AreFootpathsRefused (feed : Feed) (plan : Plan) (fault : LoadFault) :
   pub listed_are : AreFeedPaths feed listed
   pub too_large : IsFault listed MAX_FOOTPATHS MAX_WALK_SECS refusal
 
--- memory ran out while an image was made of a joined feed: 23 comes only once the stops are counted, 43 once the names are known, 76 once the image is made
+-- memory ran out while an image was made of a joined feed: 23 comes only once the stops are counted, 43 once the names are known, 76 once the image is
+-- written
 abbrev pub RanOut : Feed → Plan → LoadFault → Type 0
 RanOut feed plan (faults.Table fault) = fault.kind ≡ kinds.OutOfMemory
 RanOut feed plan (faults.Day fault) = (fault ≡ days.OutOfMemory) × (length feed.stops.items ≤ MAX_STOPS)
+RanOut feed plan (faults.Range range) = ⊥
 RanOut feed plan (faults.Footpaths fault) =
     (fault ≡ paths.OutOfMemory) × (names : NamesValue) × IsNamed feed plan names × (length (text names) ≤ MAX_NAME_BYTES)
 RanOut feed plan (faults.Image fault) =
-    (fault ≡ images.OutOfMemory) × (t : TimetableValue) × (names : NamesValue) × (report : Report) × IsMade feed plan t names report
+    (fault ≡ images.OutOfMemory) × (words : List ℕ) × (t : TimetableValue) × (names : NamesValue) × (report : Report)
+    × IsImage words t names × IsMade feed plan t names report
 RanOut feed plan (faults.FileFailed table) = ⊥
 
--- why there are no names: memory ran out, the first day has no start, or the names are too long together
+-- why there are no names: memory ran out, or the names are too long together
 abbrev pub AreNamesRefused : Feed → Plan → List Run → LoadFault → Type 0
 AreNamesRefused feed plan runs fault =
     IsTableMemory fault
-    ⊎ (((fault ≡ faults.Day days.DayOutOfRange) × HasNoStart plan.zone plan.first_day)
-    ⊎ ((fault ≡ too_many tables.Trips) × (names : NamesValue) × AreNames feed plan runs names × (MAX_NAME_BYTES < length (text names))))
+    ⊎ ((fault ≡ too_many tables.Trips) × (names : NamesValue) × AreNames feed plan runs names × (MAX_NAME_BYTES < length (text names)))
 
 -- the first thing that is wrong with a joined feed: its number of stops, then its runs, then their names, then the footpaths
 abbrev pub IsFeedRefusal : Feed → Plan → LoadFault → Type 0
@@ -141,6 +145,10 @@ pub record IsLoaded (content : Content) (plan : Plan) (t : TimetableValue) (name
   pub read : IsRead content plan.strict feed
   pub made : IsMade feed plan t names report
 
--- memory ran out during a load: with another number than 17, a feed had been joined from the files, which all were read by then
+-- memory ran out during a load: when a file was read, and nothing is wrong with the files before it; when the tables were joined; or when an image was made
+-- of the joined feed
 abbrev pub LacksMemory : Content → Plan → LoadFault → Type 0
-LacksMemory content plan fault = IsTableMemory fault ⊎ ((feed : Feed) × IsRead content plan.strict feed × RanOut feed plan fault)
+LacksMemory content plan fault =
+    AreFilesRefused content fault
+    ⊎ (((t : Tables) × HoldsTables content t × IsTableMemory fault)
+    ⊎ ((feed : Feed) × IsRead content plan.strict feed × RanOut feed plan fault))

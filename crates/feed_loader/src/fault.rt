@@ -3,7 +3,7 @@
 ghost use Rattle.std.specs.Prelude.{◌≡◌};
 ghost use Rattle.feed_loader.specs.Faults.{out_of_memory as out_of_memory_of, too_many as too_many_of};
 
-use connections::RunsFault;
+use connections::{OutOfRange, RunsFault};
 use feed_files::ReadFault;
 use footpaths::FootFault;
 use gtfs_tables::{FaultKind, Table, TableFault};
@@ -21,9 +21,12 @@ pub enum LoadFault {
     /// A file is refused, or there are too many stops, runs or connections, or too long names.
     #[error("{} {} {} {}", self.number(), self.name(), .0.file.file_name(), .0.row)]
     Table(TableFault),
-    /// A day has no start, or a run has a time out of range.
+    /// The zone is refused, or memory ran out for the days.
     #[error("{} {}", self.number(), self.name())]
     Day(DayFault),
+    /// A day has no start, or a run has a time out of range.
+    #[error("{} {}", self.number(), self.name())]
+    Range(OutOfRange),
     /// The closure has too many footpaths, or one that takes too long.
     #[error("{} {}", self.number(), self.name())]
     Footpaths(FootFault),
@@ -47,6 +50,7 @@ impl LoadFault {
         match self {
             LoadFault::Table(fault) => fault.kind.number(),
             LoadFault::Day(fault) => fault.number(),
+            LoadFault::Range(_) => DayFault::DayOutOfRange.number(),
             LoadFault::Footpaths(fault) => fault.number(),
             LoadFault::Image(fault) => fault.number(),
             LoadFault::FileFailed(_) => 101,
@@ -60,6 +64,7 @@ impl LoadFault {
         match self {
             LoadFault::Table(fault) => fault.kind.name(),
             LoadFault::Day(fault) => fault.name(),
+            LoadFault::Range(_) => DayFault::DayOutOfRange.name(),
             LoadFault::Footpaths(fault) => fault.name(),
             LoadFault::Image(fault) => fault.name(),
             LoadFault::FileFailed(_) => "FileFailed",
@@ -75,7 +80,7 @@ impl LoadFault {
             LoadFault::Day(fault) => fault == DayFault::OutOfMemory,
             LoadFault::Footpaths(fault) => fault == FootFault::OutOfMemory,
             LoadFault::Image(fault) => fault == ImageFault::OutOfMemory,
-            LoadFault::FileFailed(_) => false,
+            LoadFault::Range(_) | LoadFault::FileFailed(_) => false,
         }
     }
 }
@@ -104,6 +109,7 @@ impl From<RunsFault> for LoadFault {
         match fault {
             RunsFault::Table(fault) => LoadFault::Table(fault),
             RunsFault::Day(fault) => LoadFault::Day(fault),
+            RunsFault::Range(range) => LoadFault::Range(range),
         }
     }
 }
@@ -116,17 +122,6 @@ impl From<TableFault> for LoadFault {
 
     fn from(fault: TableFault) -> LoadFault {
         LoadFault::Table(fault)
-    }
-}
-
-impl From<DayFault> for LoadFault {
-    ghost use Rattle.std.specs.Prelude.{◌≡◌};
-    ghost use Rattle.feed_loader.specs.declared.fault.LoadFault.TheVariants.{Day as OfDay};
-
-    ghost from_gives = { λ fault outcome. outcome ≡ OfDay fault };
-
-    fn from(fault: DayFault) -> LoadFault {
-        LoadFault::Day(fault)
     }
 }
 

@@ -9,7 +9,7 @@ mod names;
 mod plan;
 mod writing;
 
-pub use connections::Report;
+pub use connections::{OutOfRange, Report, Run};
 pub use fault::LoadFault;
 pub use feed_files::{FailedNames, FeedFiles, FileFault, FolderFiles, MemoryFiles};
 pub use loading::load;

@@ -1,9 +1,10 @@
 //! Makes connections, footpaths and names of a joined feed, and of these an image.
 
-ghost use Rattle.std.specs.Prelude.{◌≡◌, ◌≤◌, ◌<◌, ◌+◌, ◌⊎◌, length, IfOk, IfErr};
+ghost use Rattle.std.specs.Prelude.{◌≡◌, ◌≤◌, ◌<◌, ◌+◌, ◌⊎◌, ℤ, length, IfOk, IfErr};
 ghost use Rattle.timetable.specs.declared.limits.TheConstants.{MAX_NAME_BYTES};
 ghost use Rattle.image_layout.specs.declared.layout.TheConstants.{LAYOUT};
 ghost use Rattle.image_layout.specs.Spelling.{text};
+ghost use Rattle.service_days.specs.Zones.{IsDayStart};
 ghost use Rattle.connections.specs.declared.days.TheConstants.{MAX_DAYS};
 ghost use Rattle.feed_loader.specs.Loaded.{AreNames, IsMade};
 ghost use Rattle.feed_loader.specs.Refused.{AreNamesRefused, IsFeedRefusal, IsWantOfMemory, RanOut};
@@ -18,6 +19,7 @@ use connections::{Report, Run, runs_of};
 use gtfs_tables::{Feed, Table};
 use image_verifier::Verified;
 use service_days::day_start;
+use service_days::laws::started_or_not;
 use std::alloc::Global;
 use timetable::limits::{MAX_NAME_BYTES, MAX_STOPS};
 use timetable::{Names, Timetable};
@@ -25,11 +27,15 @@ use timetable::{Names, Timetable};
 // Returns the names of a feed's stops and runs, and the base, which is the start of the first day: `TooMany` of
 // `trips.txt` if the names are too long together.
 fn short_names(alloc: Global, feed: &Feed, plan: &Plan, runs: &[Run]) -> Result<Names, LoadFault>
+    requires { (base : ℤ) × IsDayStart plan.now.zone plan.now.first_day base }
     ensures ok { IfOk result (AreNames feed.now plan.now runs.now) }
     ensures short { IfOk result (λ names. length (text names) ≤ MAX_NAME_BYTES) }
     ensures err { IfErr result (AreNamesRefused feed.now plan.now runs.now) }
 {
-    let base = day_start(&plan.zone, plan.first_day)?;
+    started_or_not();
+    let Ok(base) = day_start(&plan.zone, plan.first_day) else {
+        unreachable!();
+    };
     if count_name_bytes(feed, runs) > MAX_NAME_BYTES as usize {
         return Err(too_many(Table::Trips));
     }

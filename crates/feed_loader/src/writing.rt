@@ -1,6 +1,6 @@
 //! Writes a timetable and its names as an image, and verifies the image.
 
-ghost use Rattle.std.specs.Prelude.{◌≡◌, ◌⊎◌, IfOk, IfErr};
+ghost use Rattle.std.specs.Prelude.{◌≡◌, ◌⊎◌, ℕ, IfOk, IfErr, List};
 ghost use Rattle.timetable.specs.NamesValue.{NamesValue};
 ghost use Rattle.timetable.specs.TimetableValue.{TimetableValue};
 ghost use Rattle.image_layout.specs.Fields.{layout_of};
@@ -54,7 +54,7 @@ pub fn written(alloc: Global, timetable: &Timetable, names: &Names) -> Result<Ve
     ensures timetable { IfOk result (λ image. image.timetable ≡ timetable.now) }
     ensures names { IfOk result (λ image. image.names ≡ names.now) }
     ensures err { IfErr result (λ fault. (fault ≡ out_of_memory_of tables.Trips)
-        ⊎ (fault ≡ faults.Image images.OutOfMemory)) }
+        ⊎ ((fault ≡ faults.Image images.OutOfMemory) × (words : List ℕ) × IsImage words timetable.now names.now)) }
 {
     one_timetable();
     match words_of(alloc, timetable, names) {

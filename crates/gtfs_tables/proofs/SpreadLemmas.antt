@@ -1,7 +1,6 @@
 -- Facts on spread times.
-use Rattle.std.proofs.Common.{◌≡◌, ◌+◌, ◌-◌, ◌*◌, ◌/◌, ◌<◌, ◌≤◌, ◌∷◌, ◌∙◌, ◌⊎◌, inl, inr, ℕ, zero, suc, List, []}
+use Rattle.std.proofs.Common.{◌≡◌, ◌+◌, ◌-◌, ◌<◌, ◌≤◌, ◌∷◌, ◌∙◌, ◌⊎◌, inl, inr, ℕ, zero, suc, List, []}
 use Rattle.std.proofs.Common.{length, Option, Some, None, IsSome, refl, sym, slice_index_or, arith}
-use Rattle.std.proofs.Math.Nat.{div-le_of_le-mul, mul-le-mul_right}
 use Rattle.std.proofs.lemmas.Bool.{cases_order}
 use Rattle.reasoning.proofs.OptionLemmas.{is_some-none}
 use Rattle.gtfs_tables.specs.Spread.{IsGap, IsSpreadBefore, arrival_at, departure_at, either, part_of}

@@ -1,7 +1,7 @@
 -- The times of a trip, one row at a time, and the times that spreading gives.
-use Rattle.std.proofs.Common.{◌≡◌, ◌+◌, ◌-◌, ◌<◌, ◌≤◌, ◌∙◌, ◌⊎◌, inl, inr, ℕ, zero, suc, List, length, Bool, true}
+use Rattle.std.proofs.Common.{◌≡◌, ◌-◌, ◌<◌, ◌≤◌, ◌∙◌, ◌⊎◌, inl, inr, ℕ, zero, suc, List, length, Bool, true}
 use Rattle.std.proofs.Common.{false, ◌&&◌, Option, Some, None, IsSome, refl, sym, ap, arith, slice_index_or}
-use Rattle.std.specs.Prelude.{if◌then◌else◌, is_none, is_some, nat_le, nat_lt, unwrap_or}
+use Rattle.std.specs.Prelude.{if◌then◌else◌, is_none, is_some, nat_le, nat_lt}
 use Rattle.std.specs.Option.{option_or}
 use Rattle.std.proofs.lemmas.Bool.{and_cases, and_from, and_parts, cases_Bool, cases_eq, cases_order, false≢true, le-leb, leb-true, leb-false}
 use Rattle.reasoning.proofs.FirstLemmas.{option_or-none, option_or-some, option_or_parts}
@@ -10,7 +10,7 @@ use Rattle.gtfs_rows.specs.declared.fault.FaultKind.TheVariants as kinds
 use Rattle.gtfs_rows.specs.declared.rows.StopTimeRow.{StopTimeRow}
 use Rattle.gtfs_tables.specs.First.{first_below, first_index, index_if}
 use Rattle.gtfs_tables.specs.Spread.{IsGap, IsSpread, arrival_at, departure_at}
-use Rattle.gtfs_tables.specs.Times.{arrives_spread, departed_before, departs_spread, end_without_time, given_before}
+use Rattle.gtfs_tables.specs.Times.{arrives_spread, departs_spread, end_without_time, given_before}
 use Rattle.gtfs_tables.specs.Times.{given_from, goes_back, has_no_duration, is_short, is_twice, wrong_at, wrong_given}
 use Rattle.gtfs_tables.proofs.SpreadLemmas.{departs, never_departs}
 

@@ -78,6 +78,7 @@ impl fmt::Display for FeedFault {
                 write!(f, "{number} {name} {file}")
             }
             LoadFault::Day(_) => write!(f, "{number} {name}"),
+            LoadFault::Range(_) => write!(f, "{number} {name}"),
             LoadFault::Footpaths(_) => write!(f, "{number} {name}"),
             LoadFault::Image(_) => write!(f, "{number} {name}"),
         }

@@ -4,7 +4,7 @@ ghost use Rattle.std.specs.Prelude.{◌≡◌, Some};
 
 use super::failing::{Failing, ORDER};
 use super::texts::{feed_of, files_of};
-use feed_loader::{FeedFiles, FileFault, LoadFault, MemoryFiles, Plan, Report, load};
+use feed_loader::{FeedFiles, FileFault, LoadFault, MemoryFiles, OutOfRange, Plan, Report, load};
 use footpaths::FootFault;
 use gtfs_tables::{Day, FaultKind, IdHash, Table, TableFault};
 use image_layout::{sample_words, second_sample_words};
@@ -316,9 +316,15 @@ fn faults_are_reported(rt: HostRuntime) -> Result<(), Fail> {
         row: 3,
         kind: FaultKind::IdTwice,
     };
+    let last = Day {
+        year: 9999,
+        month: 12,
+        day: 31,
+    };
     for (fault, text) in [
         (LoadFault::Table(twice), "8 IdTwice stops.txt 3"),
         (LoadFault::Day(DayFault::BadZone), "21 BadZone"),
+        (LoadFault::Range(OutOfRange::Day(last)), "22 DayOutOfRange"),
         (
             LoadFault::Footpaths(FootFault::TooManyFootpaths),
             "42 TooManyFootpaths",

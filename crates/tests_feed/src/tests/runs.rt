@@ -143,13 +143,27 @@ frequencies.txt: T,00:00:00,00:01:00,10|T,00:00:05,00:01:00,10|T,00:00:00,00:02:
 = no frequencies: 20240115 2 fixed:0
 > runs 4, connections 6, frequencies 0";
 
-const DAYS_WITHOUT_A_START: &str = "
+// The first day without a start; or, where the clocks skip two days, so that the day after them starts earlier than the
+// second of them, the first run with a time before the base: not W, nor V after U.
+const OUT_OF_RANGE: &str = "
 = the last day: 99991231 1 fixed:0
-> Day(DayOutOfRange)
+> Range(Day(Day { year: 9999, month: 12, day: 31 }))
 = the last but one, and the last: 99991230 2 fixed:0
-> Day(DayOutOfRange)
+> Range(Day(Day { year: 9999, month: 12, day: 31 }))
 = the last but one: 99991230 1 fixed:0
-> runs 0, connections 0, frequencies 0";
+> runs 0, connections 0, frequencies 0
+= a run before the base: 20240117 2 AAA24BBB-24,J16/0,J300/0
+trips.txt: S,T|X,W|X,U|X,V
+stop_times.txt: T,08:00:00,08:00:00,A,1|T,08:10:00,08:10:00,B,2|W,24:00:00,24:00:00,A,1|W,25:00:00,25:00:00,B,2|\
+    U,23:59:59,23:59:59,A,1|U,25:00:00,25:00:00,B,2|V,08:00:00,08:00:00,A,1|V,08:10:00,08:10:00,B,2
+calendar_dates.txt: S,20240117,1|X,20240118,1
+> Range(Run(Run { day: Day { year: 2024, month: 1, day: 18 }, trip: 2, repeat: 0, start: None }))
+= a repeat before the base: 20240117 2 AAA24BBB-24,J16/0,J300/0
+trips.txt: S,T|X,U
+stop_times.txt: T,08:00:00,08:00:00,A,1|T,08:10:00,08:10:00,B,2|U,24:00:00,24:00:00,A,1|U,25:00:00,25:00:00,B,2
+calendar_dates.txt: S,20240117,1|X,20240118,1
+frequencies.txt: U,23:00:00,26:00:00,3600
+> Range(Run(Run { day: Day { year: 2024, month: 1, day: 18 }, trip: 1, repeat: 0, start: Some(82800) }))";
 
 type Made = (Vec<Connection>, Vec<Run>, Report);
 
@@ -216,7 +230,7 @@ fn feeds_make_runs(rt: HostRuntime) -> Result<(), Fail> {
         (FEEDS, "", false),
         (REPEATS, TWO_TRIPS, false),
         (COUNTED, TWO_TRIPS, true),
-        (DAYS_WITHOUT_A_START, "", true),
+        (OUT_OF_RANGE, "", true),
     ] {
         let feeds = Feeds {
             further,
@@ -247,6 +261,7 @@ fn is_want_of_memory(fault: RunsFault) -> bool {
     match fault {
         RunsFault::Table(fault) => fault.kind == FaultKind::OutOfMemory,
         RunsFault::Day(fault) => fault == DayFault::OutOfMemory,
+        RunsFault::Range(_) => false,
     }
 }
 

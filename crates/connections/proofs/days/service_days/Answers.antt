@@ -1,6 +1,6 @@
-use Rattle.std.proofs.Common.{◌≡◌, ◌+◌, ◌-◌, inr, arith, rules, FitsSigned, w64}
+use Rattle.std.proofs.Common.{◌≡◌, ◌+◌, ◌-◌, inr, refl, arith, rules, FitsSigned, w64}
 use Rattle.std.proofs.lemmas.Int.{to_z-of_z}
-use Rattle.connections.proofs.DaySteps.{one_missing, started_all, started_more, started_none}
+use Rattle.connections.proofs.DaySteps.{first_missing, started_all, started_more, started_none}
 use Rattle.connections.proofs.days.service_days.Goals as goal
 
 pub loop-done-init : goal.loop-done-init
@@ -18,14 +18,15 @@ loop-done-preserved c =
     (started_more c.args.zone.now c.args.first c.args.days c.loop-done.service_days.items c.loop-done.day c.in-Ok-day_start.start
     (c.args.days - c.loop-done.done) (c.args.days - (c.loop-done.done + 1)) c.loop-done.invariant c.in-Ok-day_start.ensures.ok less)
 
-pub returns-in-Err-clause-err : goal.returns-in-Err-clause-err
-returns-in-Err-clause-err c =
+pub returns-in_default-day_start-clause-err : goal.returns-in_default-day_start-clause-err
+returns-in_default-day_start-clause-err c =
     let less : c.args.days - c.loop-done.done ≡ c.args.days - (c.loop-done.done + 1) + 1 = (let d = c.loop-done-test.true in omega arith) in
-    inr (
-      c.in-Err.ensures.err.0,
-      one_missing c.args.zone.now c.args.first c.args.days c.loop-done.service_days.items c.loop-done.day
-          (c.args.days - c.loop-done.done) (c.args.days - (c.loop-done.done + 1)) c.loop-done.invariant less c.in-Err.ensures.err.1,
-    )
+    inr (record {
+      day = c.loop-done.day;
+      is = refl;
+      first = first_missing c.args.zone.now c.args.first c.args.days c.loop-done.service_days.items c.loop-done.day
+          (c.args.days - c.loop-done.done) (c.args.days - (c.loop-done.done + 1)) c.loop-done.invariant less c.in_default-day_start.ensures.err.1;
+    })
 
 pub returns-clause-ok : goal.returns-clause-ok
 returns-clause-ok c =

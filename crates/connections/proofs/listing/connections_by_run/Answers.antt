@@ -58,7 +58,8 @@ returns-in-Err-clause-err c zone base d e starts =
     let first : ℤ = (get_or c.args.days.now 0 none).start in
     let fits : FitsSigned w64 first = search rules in
     fault_of_hops c.args.feed.now zone base (to_z w64 (of_z w64 (first_start known))) c.args.runs.now c.loop-number.number (run_of known) c.in-Err.fault
-    (base_is known base d fits e) (run_at known) (c.in-Err.ensures.err zone (starts_then known zone starts))
+    (base_is known base d fits e) (run_at known) (c.loop-number.invariant zone base d e starts).inside
+    (c.in-Err.ensures.err zone (starts_then known zone starts))
 
 pub loop-number-preserved : goal.loop-number-preserved
 loop-number-preserved c zone base d e starts =

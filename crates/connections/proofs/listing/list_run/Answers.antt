@@ -44,7 +44,7 @@ pub returns-then-not-are_inside-clause-err : goal.returns-then-not-are_inside-cl
 returns-then-not-are_inside-clause-err c zone starts =
     let known = (goal.at.returns-then-not-are_inside-clause-err c).After-are_inside in
     inr (
-      c.out_of_range.ensures,
+      refl,
       record {
         start = zero_of (clock_of known);
         rows = c.rows_of-rows.result.now;

@@ -6,8 +6,8 @@ use Rattle.service_days.specs.declared.zone.Zone.{Zone}
 use Rattle.timetable.specs.declared.limits.TheConstants.{MAX_CONNECTIONS, MAX_TRIPS}
 use Rattle.connections.specs.Building.{AreByRun}
 use Rattle.connections.specs.Days.{AreStarted, days_from}
-use Rattle.connections.specs.Faults.{IsWantOfMemory, range_fault, too_many_of}
-use Rattle.connections.specs.Listed.{HasRunOutside}
+use Rattle.connections.specs.Faults.{IsWantOfMemory, run_fault, too_many_of}
+use Rattle.connections.specs.Listed.{IsFirstOutside}
 use Rattle.connections.specs.Runs.{IsTripRun, count_hops, runs_of_days}
 use Rattle.connections.specs.declared.days.ServiceDay.{ServiceDay}
 use Rattle.connections.specs.declared.runs.Run.{Run}
@@ -105,7 +105,8 @@ returns-in-Err-connections_by_run-clause-err c =
     18446744073709551615 base fault c.in-Ok.ensures.ok (runs_are (goal.at.returns-in-Err-connections_by_run-clause-err c).In-Ok-runs_on)
     c.in-Ok-runs_on.ensures.few (counted (goal.at.returns-in-Err-connections_by_run-clause-err c).After-count_connections-count) c.if-count.false room
     (first_starts (goal.at.returns-in-Err-connections_by_run-clause-err c).In-Ok).1
-    (subst (λ (rs : List Run). IsWantOfMemory fault ⊎ ((fault ≡ range_fault) × HasRunOutside c.args.feed.now c.args.zone.now base rs))
+    (subst (λ (rs : List Run). IsWantOfMemory fault
+    ⊎ ((run : Run) × (fault ≡ run_fault run) × IsFirstOutside c.args.feed.now c.args.zone.now base rs run))
     c.deref-6.ensures.value (c.in-Err-connections_by_run.ensures.err c.args.zone.now base no_day known.0 known.1))
 
 pub put_in_order-requires : goal.put_in_order-requires

@@ -5,6 +5,7 @@ use Rattle.timetable.proofs.LegalLemmas.{Contains-At}
 use Rattle.timetable.specs.declared.limits.TheConstants.{MAX_WALK_SECS}
 use Rattle.timetable.specs.declared.network.Footpath.{Footpath}
 use Rattle.footpaths.specs.Closure.{HasLegalFootpaths}
+use Rattle.connections.proofs.LegalLemmas.{base_of}
 use Rattle.feed_loader.proofs.MadeLemmas.{image_ran_out, is_writable, names_refused}
 use Rattle.feed_loader.proofs.made.image_of.Goals as goal
 
@@ -13,11 +14,15 @@ pub returns-in_err-names-clause-err : goal.returns-in_err-names-clause-err
 returns-in_err-names-clause-err c =
     let outcome = err_from_is_err_and c.from_residual-in_err-names.result c.from_residual-in_err-names.ensures.1 in
     rw (outcome.1, outcome.2) (names_refused c.args.feed.now c.args.plan.now c.in_ok-connections.connections.items c.in_ok-connections.runs.items
-    c.in_err-names.field-0.0 c.requires.some (omega (
+    c.in_err-names.field-0.0 (omega (
       arith,
       c.if-len.false,
       c.len.ensures,
     )) c.in_ok-connections.ensures.ok (rw (← c.deref.ensures.value) c.in_err-names.ensures.err))
+
+-- the runs are listed, so the first day has a start
+pub short_names-requires : goal.short_names-requires
+short_names-requires c = base_of c.args.plan.now.zone c.args.plan.now.first_day c.args.plan.now.days c.requires.some c.in_ok-connections.ensures.ok.started
 
 -- what is written is legal and within limits
 pub written-requires : goal.written-requires
@@ -45,7 +50,10 @@ pub returns-in_err-image-clause-memory : goal.returns-in_err-image-clause-memory
 returns-in_err-image-clause-memory c =
     let outcome = err_from_is_err_and c.from_residual-in_err-image.result c.from_residual-in_err-image.ensures.1 in
     let listed = c.in_ok-connections in
-    rw (outcome.1, outcome.2) (λ wants. image_ran_out c.args.feed.now c.args.plan.now listed.connections.items listed.runs.items
-    c.in_ok-footpaths.footpaths.items c.in_ok-names.names listed.report c.in_err-image.field-0.0 listed.ensures.ok
+    rw (outcome.1, outcome.2) (λ wants. image_ran_out c.args.feed.now c.args.plan.now _ c.in_ok-names.names listed.connections.items
+    listed.runs.items c.in_ok-footpaths.footpaths.items listed.report c.in_err-image.field-0.0 (omega (arith, c.len-4.ensures)) (omega (
+      arith,
+      c.len-5.ensures,
+    )) refl refl listed.ensures.ok
     c.in_ok-footpaths.ensures.closure (rw (← c.deref.ensures.value) c.in_ok-names.ensures.ok) listed.ensures.report
     c.in_err-image.ensures.err)

@@ -1,6 +1,4 @@
-use Rattle.std.proofs.Common.{◌≡◌, ◌∙◌, ◌++◌, ◌+◌, ap, arith, sym, List}
-use Rattle.std.specs.Option.{option_to_list}
-use Rattle.gtfs_rows.specs.declared.fault.TableFault.{TableFault}
+use Rattle.std.proofs.Common.{◌≡◌, ◌∙◌, arith, sym}
 use Rattle.gtfs_tables.specs.Feeds.{trip_fault}
 use Rattle.gtfs_tables.specs.Order.{sort_keys_by}
 use Rattle.gtfs_tables.proofs.FeedLemmas.{trip_fault-at}
