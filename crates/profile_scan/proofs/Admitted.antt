@@ -7,7 +7,7 @@ use Rattle.timetable.specs.JourneyValue.{RideValue, JourneyValue}
 use Rattle.timetable.specs.Journeys.{connection_at, walk_end, walk_secs, Leads, final_time, time_after, stop_after, start_end, arrival}
 use Rattle.profile_scan.specs.SetQuery.{SetQueryValue, CountsBetween, IsPointBetween}
 use Rattle.profile_scan.specs.Values.{walked, ridden, journey_value}
-use Rattle.profile_scan.specs.Points.{IsPoint, Covers}
+use Rattle.profile_scan.specs.Points.{Covers}
 use Rattle.profile_scan.specs.Continuations.{Onward, Aboard, IsOnward, IsAboard, onward_value, aboard_value, time_off, time_there}
 use Rattle.profile_scan.specs.Matching.{IsAttained}
 use Rattle.profile_scan.specs.LawStatements.{CanScan}

@@ -7,7 +7,7 @@ use Rattle.std.proofs.lemmas.List.{length-map, length-replicate, map-set}
 use Rattle.std.proofs.lemmas.Option.{same_Some, slice_get-get_or, slice_get-map, slice_get_read, slice_get_within}
 use Rattle.std.specs.Prelude.{option_map, nat_lt, Bool, true, false}
 use Rattle.reasoning.proofs.OptionLemmas.{some-none}
-use Rattle.reasoning.proofs.ListLemmas.{at_contains, contains_at, contains_first, contains_only}
+use Rattle.reasoning.proofs.ListLemmas.{at_contains, contains_at, contains_only}
 use Rattle.timetable.specs.declared.network.Footpath.{Footpath}
 use Rattle.timetable.specs.TimetableValue.{TimetableValue}
 use Rattle.timetable.specs.declared.limits.TheConstants.{MAX_WALK_SECS}

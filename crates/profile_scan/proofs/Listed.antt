@@ -1,5 +1,5 @@
 -- Whether a list has a number.
-use Rattle.std.proofs.Common.{◌≡◌, ◌⊎◌, ℕ, List, [], ◌∷◌, Contains, subst, inl, inr}
+use Rattle.std.proofs.Common.{◌⊎◌, ℕ, List, [], ◌∷◌, Contains, subst, inl, inr}
 use Rattle.std.proofs.lemmas.Bool.{cases_eq}
 use Rattle.reasoning.proofs.ListLemmas.{contains_cases, contains_first, contains_rest, not_in_nil}
 

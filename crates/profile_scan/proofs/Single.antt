@@ -1,8 +1,8 @@
 -- A query between a single source and a single target is a plain query.
-use Rattle.std.proofs.Common.{◌≡◌, ◌↔◌, ◌<◌, ◌≤◌, ℕ, zero, List, [], ◌∷◌, Contains, Option, Some, None, refl, sym, ◌∙◌, ap}
+use Rattle.std.proofs.Common.{◌≡◌, ◌<◌, ℕ, List, [], ◌∷◌, Contains, Option, Some, None, sym, ◌∙◌, ap}
 use Rattle.std.proofs.Common.{subst, inl, inr}
 use Rattle.reasoning.proofs.ListLemmas.{contains_at, contains_first, contains_only}
-use Rattle.criteria.specs.Laws.{Rules, NoWorse}
+use Rattle.criteria.specs.Laws.{Rules}
 use Rattle.bags.specs.declared.point.Point.{Point}
 use Rattle.timetable.specs.TimetableValue.{TimetableValue}
 use Rattle.timetable.specs.JourneyValue.{RideValue, JourneyValue}
@@ -10,7 +10,7 @@ use Rattle.timetable.specs.Journeys.{connection_at, walk_end, stop_after, time_a
 use Rattle.timetable.specs.declared.network.Footpath.{Footpath}
 use Rattle.timetable.specs.Queries.{IsAskable}
 use Rattle.timetable.specs.declared.query.Query.{Query}
-use Rattle.profile_scan.specs.Points.{IsUndominatedOf, IsAnswerOf, IsPoint, Lists}
+use Rattle.profile_scan.specs.Points.{IsUndominatedOf, IsAnswerOf, IsPoint}
 use Rattle.profile_scan.specs.SetQuery.{pair_of, single_set_query, IsAskableBetween, CountsBetween, IsPointBetween, IsDirectWalk, secs_of, OneIsPlain}
 use Rattle.profile_scan.specs.Values.{journey_value}
 use Rattle.profile_scan.specs.Plain.{ArePlain, IsPlain, IsPlainOf}

@@ -1,5 +1,5 @@
 -- Where one may set out, as it is found.
-use Rattle.std.proofs.Common.{◌≡◌, ◌≢◌, ◌⊎◌, ℕ, zero, suc, replicate, ◌+◌, ◌<◌, ◌≤◌, Bool, true, false, MatchBool, List, [], ◌∷◌, ◌++◌, Contains}
+use Rattle.std.proofs.Common.{◌≡◌, ◌≢◌, ℕ, zero, suc, replicate, ◌+◌, ◌<◌, ◌≤◌, Bool, true, false, MatchBool, List, [], ◌∷◌, ◌++◌, Contains}
 use Rattle.std.proofs.Common.{length, length-append}
 use Rattle.std.proofs.Common.{get_or, set, get_or-set_same, get_or-set_other, length-set, slice_get, Some, refl, sym, ◌∙◌, ap, subst, inl, inr, arith}
 use Rattle.std.specs.Prelude.{Option}
@@ -14,7 +14,7 @@ use Rattle.timetable.specs.Legal.{At, IsLegal}
 use Rattle.timetable.proofs.LegalLemmas.{At-Contains}
 use Rattle.profile_scan.specs.Adding.{StandsBetween, StartsFrom}
 use Rattle.profile_scan.specs.SetQuery.{SetQueryValue}
-use Rattle.profile_scan.specs.Starts.{AreMarked, IsAmong, IsFromMarked, IsFromSource, IsStopAccess, IsStopAccessBy, IsLed, IsLedBy, SaysLed, SaysSource}
+use Rattle.profile_scan.specs.Starts.{AreMarked, IsAmong, IsFromMarked, IsStopAccess, IsStopAccessBy, IsLed, IsLedBy, SaysSource}
 use Rattle.profile_scan.specs.declared.starts.StopAccess.{StopAccess}
 use Rattle.profile_scan.proofs.BoardLemmas.{between_split}
 

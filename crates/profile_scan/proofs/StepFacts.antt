@@ -1,5 +1,5 @@
 -- If the same is kept, the same matches; and if nothing is offered, nothing changes.
-use Rattle.std.proofs.Common.{◌≡◌, ◌≢◌, ◌<◌, ℕ, List, [], length, Contains, Option, None, refl, sym, ap, subst, arith}
+use Rattle.std.proofs.Common.{◌≡◌, ◌<◌, ℕ, List, [], length, Contains, Option, None, refl, sym, ap, subst, arith}
 use Rattle.timetable.specs.Legal.{IsLegal}
 use Rattle.timetable.proofs.LegalLemmas.{connection_at-stands}
 use Rattle.criteria.specs.Laws.{Rules}

@@ -1,4 +1,4 @@
-use Rattle.std.proofs.Common.{◌≡◌, ℕ, sym, ◌∙◌, ap, subst, reverse, take, ◌++◌}
+use Rattle.std.proofs.Common.{sym, ◌∙◌, ap, subst, reverse, take, ◌++◌}
 use Rattle.reasoning.proofs.OptionLemmas.{on_err}
 use Rattle.profile_scan.specs.SetQuery.{SetQueryValue, IsAskableBetween}
 use Rattle.profile_scan.specs.Window.{window_of}

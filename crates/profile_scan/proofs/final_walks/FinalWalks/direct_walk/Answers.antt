@@ -1,7 +1,6 @@
-use Rattle.std.proofs.Common.{◌≡◌, ◌+◌, ℕ, Option, Some, length, slice_get, get_or, None, refl, sym, ap, subst, arith}
+use Rattle.std.proofs.Common.{◌≡◌, ◌+◌, ℕ, Option, length, get_or, sym, subst, arith}
 use Rattle.std.proofs.lemmas.Option.{slice_get-get_or}
 use Rattle.reasoning.proofs.ListLemmas.{contains_at}
-use Rattle.timetable.specs.declared.network.Footpath.{Footpath}
 use Rattle.profile_scan.specs.ScanState.{final_walks_of}
 use Rattle.profile_scan.specs.Nearest.{IsShortestWalk, shorter_of}
 use Rattle.profile_scan.specs.declared.final_walks.FinalWalk.{FinalWalk}

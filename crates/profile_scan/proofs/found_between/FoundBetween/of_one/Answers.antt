@@ -1,7 +1,7 @@
 use Rattle.std.proofs.Common.{ℕ, Option, sym, subst}
 use Rattle.std.proofs.Math.Logic.{∥∥₁_map}
 use Rattle.timetable.specs.declared.query.Query.{Query}
-use Rattle.profile_scan.specs.SetQuery.{SetQueryValue, single_set_query, question}
+use Rattle.profile_scan.specs.SetQuery.{SetQueryValue}
 use Rattle.profile_scan.specs.Answered.{Answer, IsAnswered, IsAnsweredBetween}
 use Rattle.profile_scan.proofs.Single.{answered_one}
 use Rattle.profile_scan.proofs.found_between.FoundBetween.of_one.Goals as goal

@@ -1,4 +1,4 @@
-use Rattle.std.proofs.Common.{◌≡◌, ℕ, Contains, sym, ◌∙◌, ap, subst}
+use Rattle.std.proofs.Common.{Contains, sym, ◌∙◌, ap, subst}
 use Rattle.reasoning.proofs.ListLemmas.{contains_only}
 use Rattle.timetable.specs.declared.query.Query.{Query}
 use Rattle.profile_scan.specs.SetQuery.{SetQueryValue, single_set_query}
