@@ -1,4 +1,5 @@
 mod FeedNames
+mod HelpEnds
 mod Hosted
 mod NewSeats
 mod OverImages

@@ -1,20 +1,58 @@
--- The sessions of a server, at the seats of its workers.
-use Rattle.std.specs.Prelude.{ℕ, List}
+-- A server's whole run, as it was asked for.
+use Rattle.std.specs.Prelude.{◌≡◌, ℕ, List, [], Bool, length}
 use Rattle.atomic_table.specs.Seated.{TableId}
+use Rattle.command_requests.specs.declared.ends.SessionCounts.{SessionCounts}
+use Rattle.command_requests.specs.declared.requests.ServeRequest.{ServeRequest}
+use Rattle.epochs.specs.ShelfLoads.{ShelfLoaderValue}
 use Rattle.epochs.specs.ShelfSeats.{NoticeValue, SeatsHanded, ShelfSeatValue}
-use Rattle.load_orders.specs.Asking.{OrderRoute, WorkerOrdersValue}
+use Rattle.image_layout.specs.Image.{ImageValue}
+use Rattle.session.specs.declared.reply_form.ReplyForm.{ReplyForm}
+use Rattle.shelf_steps.specs.Handed.{handed}
+use Rattle.shelf_steps.specs.declared.views.View.{View}
 use Rattle.workers.specs.Ends.{Session}
-use Rattle.workers.specs.Sessions.{AreAllServed, worker_starts, work_of}
-use Rattle.workers.specs.Words.{SessionWords}
+use Rattle.workers.specs.Headline.{IsRunAt, server_input_of}
+use Rattle.workers.specs.Words.{LoadWords, SessionWords, SourceWords}
+use Rattle.workers.specs.declared.outcome.ServingOutcome.{ServingOutcome}
+use Rattle.csa_program.specs.Acceptor.{AreAsMany}
+use Rattle.csa_program.specs.Serving.{counts_of, form_with}
 
-module _ {C R W : Type 0} (words : SessionWords C R W TableId ShelfSeatValue NoticeValue) where
-  -- these are the sessions of all clients who came, one for each, served at these seats
-  abbrev pub AreSessionsOf : List ShelfSeatValue → List C → List (Session R W) → Type 0
-  AreSessionsOf seats came sessions =
-      (route : OrderRoute NoticeValue) × (orders : List (WorkerOrdersValue NoticeValue)) × (lasts : List ShelfSeatValue)
-      × AreAllServed words came (worker_starts seats route) (work_of sessions lasts orders)
+-- the loader's seat of new shelves that hold the image as version 1
+abbrev pub first_loader : TableId → ImageValue → ShelfLoaderValue
+first_loader table image = record {
+  table = table;
+  view =
+      View.Loading (handed 16 image);
+  current = 1;
+  answers = [];
+}
 
-  -- as `AreSessionsOf`, at the seats of so many workers who had done nothing yet
-  abbrev pub AreHosted : ℕ → List C → List (Session R W) → Type 0
-  AreHosted workers came sessions =
-      (table : TableId) × (seats : List ShelfSeatValue) × SeatsHanded table workers seats × AreSessionsOf seats came sessions
+-- the form of the replies that are asked for
+abbrev pub form_asked : ServeRequest → ReplyForm
+form_asked request = form_with request.legs request.longest request.sets
+
+-- what this holds of is a run that had these sessions and left this source of clients
+abbrev pub IsRunOf : {R W K D : Type 0} → (ServingOutcome R W K ShelfSeatValue ShelfLoaderValue NoticeValue D → Type 0) → List (Session R W) → K → Type 0
+IsRunOf {R} {W} {K} {D} Is sessions clients =
+    (ran : ServingOutcome R W K ShelfSeatValue ShelfLoaderValue NoticeValue D) × Is ran × (ran.served ≡ sessions) × (ran.clients ≡ clients)
+
+-- `keeps` says whether a source of clients keeps the rules that are asked for, and `has_failed` whether it failed; `are_feeds` whether these are the feeds
+-- of a request, with the bytes of its zone's file
+module _ {C R W K F D : Type 0} (words : ReplyForm → SessionWords C R W TableId ShelfSeatValue NoticeValue) (source : SourceWords K C)
+    (loads : LoadWords F D TableId ShelfLoaderValue NoticeValue) (keeps : ServeRequest → K → Type 0) (has_failed : K → Bool)
+    (are_feeds : ServeRequest → List ℕ → F → Type 0) where
+  -- a whole run of a server over new shelves that hold the image as version 1, of the feeds, at the seats of the workers and with the form of replies that are
+  -- asked for. As many clients came and were served as are asked for, unless accepting failed, and their sessions ended in these ways
+  pub record IsHosted (request : ServeRequest) (image : ImageValue) (zone_bytes : List ℕ) (ends : SessionCounts) (is_deaf : Bool) : Type 0 where
+    pub table : TableId
+    pub seats : List ShelfSeatValue
+    pub clients : K
+    pub feeds : F
+    pub ran : ServingOutcome R W K ShelfSeatValue ShelfLoaderValue NoticeValue D
+    pub new : SeatsHanded table request.workers.number seats
+    pub none_came : source.came clients ≡ []
+    pub kept : keeps request clients
+    pub asked : are_feeds request zone_bytes feeds
+    pub run : IsRunAt (words (form_asked request)) source loads (server_input_of clients table seats (first_loader table image) feeds) ran
+    pub many : AreAsMany request.sessions (length ran.served) is_deaf
+    pub deaf : is_deaf ≡ has_failed ran.clients
+    pub counted : ends ≡ counts_of ran.served

@@ -10,17 +10,25 @@ use Rattle.command_line.specs.declared.reading.NoCommand.TheVariants.{Help, Mist
 use Rattle.command_requests.specs.declared.requests.CommandRequest.{CommandRequest}
 use Rattle.command_requests.specs.declared.requests.CommandRequest.TheVariants as requests
 use Rattle.command_requests.specs.declared.requests.MatrixRequest.{MatrixRequest}
+use Rattle.command_requests.specs.declared.requests.ServeRequest.{ServeRequest}
 use Rattle.command_requests.specs.declared.statuses.TheConstants.{ACCEPTED, COMMAND_LINE, INPUT_OUTPUT, OUT_OF_MEMORY, REFUSED}
 use Rattle.feed_commands.specs.Building.{IsReport}
 use Rattle.image_commands.specs.Commands.{PrintsAsked, PrintsDepartures, PrintsProfile}
-use Rattle.command_endings.specs.Ending.{IsBegun, IsOutcome, PrintsOnly}
+use Rattle.command_endings.specs.Ending.{IsBegun, IsOutcome, PrintsRefusal}
 use Rattle.feed_commands.specs.Folders.{AreDaysOf, IsBuildRefusal, IsTablesRefusalOf}
 use Rattle.image_commands.specs.Matrices.{EndsTable, IsTableCutShort, IsTablePrinted, IsTableRefused, IsTableUnlisted}
 use Rattle.image_commands.specs.Opening.{IsRefusedImage, PrintsOver, SpellsImage}
-use Rattle.feed_commands.specs.Refusing.{PrintsOfFeed}
+use Rattle.feed_commands.specs.Refusing.{IsFeedRefusal, PrintsOfFeed}
+use Rattle.feed_plans.specs.Zoning.{AreZoneBytes, IsNoZoneOf}
 use Rattle.feed_commands.specs.Stations.{IsStopsRefusal, IsTextOf}
 use Rattle.feed_commands.specs.Tabling.{IsCounts}
 use Rattle.image_commands.specs.declared.asked.ImageRequest.TheVariants as images
+use Rattle.csa_program.specs.Serving.{IsEndAt}
+
+-- help was printed, or a write failed once a first part of it was
+abbrev pub IsHelpEnd : List ℕ → ℕ → Option (List ℕ) → Option (List ℕ) → Type 0
+IsHelpEnd text status before after =
+    ((status ≡ ACCEPTED) × Appends before after text) ⊎ ((status ≡ INPUT_OUTPUT) × IsBegun before after text)
 
 -- a table over the image at its path ended so; `may_hold` says what a file at a path may hold, and the path `-` is the input
 pub record IsTableEnd (may_hold : List ℕ → Option (List ℕ) → Type 0) (disk : OutFiles) (input : Option (List ℕ)) (request : MatrixRequest)
@@ -42,9 +50,30 @@ pub record IsTableEnd (may_hold : List ℕ → Option (List ℕ) → Type 0) (di
       × IsTableCutShort may_hold image request before after)
   pub silent : request.out.now ≢ codes "-" → status ≡ OUT_OF_MEMORY → after ≡ before
 
+-- `may_hold` says what a file at a path may hold, and the path `-` is the input
+module _ (may_hold : List ℕ → Option (List ℕ) → Type 0) (input : Option (List ℕ)) (request : ServeRequest) where
+  -- what is refused before a server listens: its zone, or its image
+  abbrev pub IsServeRefusal : ℕ → List ℕ → Type 0
+  IsServeRefusal status line = IsFeedRefusal (IsNoZoneOf may_hold request.plan) status line
+      ⊎ PrintsRefusal (IsRefusedImage may_hold request.image.now input) status line
+
+  -- a server ended so, at the port that is asked for, if one is; at its path was an image, and its zone's file had these bytes
+  pub record IsServed (status : ℕ) (before after : Option (List ℕ)) : Type 0 where
+    pub image : ImageValue
+    pub zone_bytes : List ℕ
+    pub port : ℕ
+    pub held : HoldsOfBytes may_hold request.image.now input (SpellsImage image)
+    pub zone : AreZoneBytes may_hold request.plan.zone zone_bytes
+    pub at : request.port ≢ 0 → port ≡ request.port
+    pub ended : IsEndAt port before after status
+
+  -- a server was refused, or can't be begun, or ended so
+  abbrev pub IsServeEnd : ℕ → Option (List ℕ) → Option (List ℕ) → Type 0
+  IsServeEnd status before after = IsOutcome IsServeRefusal status before after ⊎ IsServed status before after
+
 -- `gives` says what a disk of some kind may give for a folder in some state and the name of a file, and `disk` what is known of files that are written
 module _ {D : Type 0} (may_hold : List ℕ → Option (List ℕ) → Type 0) (gives : Gives D) (disk : OutFiles) (input : Option (List ℕ)) where
-  -- a command ended so, over the image at its path, or over the files of its folder. Nothing is said of a server
+  -- a command ended so, over the image at its path, or over the files of its folder
   abbrev pub IsEnd : CommandRequest → ℕ → Option (List ℕ) → Option (List ℕ) → Type 0
   IsEnd (requests.Verify image) = IsOutcome (PrintsOver may_hold image.now input (λ i. PrintsAsked may_hold disk i (images.Verify image)))
   IsEnd (requests.Info request) = IsOutcome (PrintsOver may_hold request.image.now input (λ i. PrintsAsked may_hold disk i (images.Info request)))
@@ -61,11 +90,11 @@ module _ {D : Type 0} (may_hold : List ℕ → Option (List ℕ) → Type 0) (gi
       IsOutcome (PrintsOfFeed (IsReport gives may_hold disk request) (IsBuildRefusal gives request.folder.now may_hold request.plan))
   IsEnd (requests.Stops request) = IsOutcome (PrintsOver may_hold request.image.now input (λ i. PrintsAsked may_hold disk i (images.Stops request)))
   IsEnd (requests.Upgrade request) = IsOutcome (PrintsOver may_hold request.image.now input (λ i. PrintsAsked may_hold disk i (images.Upgrade request)))
-  IsEnd (requests.Serve request) = λ status before after. Unit {0}
+  IsEnd (requests.Serve request) = IsServeEnd may_hold input request
 
   -- a command line ended so: the request that it makes, or the help; or it makes none, or memory ran out, and nothing was printed
   abbrev pub IsEndOf : Result CommandRequest NoCommand → ℕ → Option (List ℕ) → Option (List ℕ) → Type 0
   IsEndOf (Ok request) = IsEnd request
-  IsEndOf (Err (Help text)) = IsOutcome (PrintsOnly (λ printed. printed ≡ string_bytes text))
+  IsEndOf (Err (Help text)) = IsHelpEnd (string_bytes text)
   IsEndOf (Err (Mistake text)) = λ status before after. (status ≡ COMMAND_LINE) × (after ≡ before)
   IsEndOf (Err OutOfMemory) = λ status before after. (status ≡ OUT_OF_MEMORY) × (after ≡ before)

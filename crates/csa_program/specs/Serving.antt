@@ -1,9 +1,12 @@
 -- What a server counts and prints, and in which form it replies.
-use Rattle.std.specs.Prelude.{◌≡◌, ◌≢◌, List, ℕ, ◌++◌, Bool, true, false, Option, codes, decimal}
+use Rattle.std.specs.Prelude.{◌≡◌, ◌⊎◌, List, ℕ, ◌++◌, Bool, true, false, Option, codes, decimal, take}
 use Rattle.std.specs.Io.KnownBytes.{Appends}
+use Rattle.command_endings.specs.Ending.{IsBegun}
 use Rattle.command_requests.specs.Ending.{sessions_in, status_of}
 use Rattle.command_requests.specs.declared.statuses.TheConstants.{INPUT_OUTPUT, OUT_OF_MEMORY}
 use Rattle.command_requests.specs.declared.ends.SessionCounts.{SessionCounts}
+use Rattle.command_requests.specs.declared.requests.ServeRequest.{ServeRequest}
+use Rattle.image_layout.specs.Image.{ImageValue}
 use Rattle.std.specs.Option.{option_map}
 use Rattle.answer_replies.specs.declared.point_form.PointForm.{PointForm}
 use Rattle.session.specs.declared.reply_form.ReplyForm.{ReplyForm}
@@ -31,8 +34,29 @@ port_text port = (codes "listening " ++ decimal port) ++ codes "\n"
 abbrev pub served_text : SessionCounts → List ℕ
 served_text ends = (codes "served " ++ decimal (sessions_in ends)) ++ codes "\n"
 
--- how a server ends that had these sessions: unless its status says that a socket, a write or a session failed or memory ran out, it has printed
--- its port and then the number of the sessions, and its status follows from how these ended and whether accepting failed
-abbrev pub IsServerEnd : {R W : Type 0} → ℕ → Option (List ℕ) → Option (List ℕ) → List (Session R W) → Bool → ℕ → Type 0
-IsServerEnd port before after sessions is_deaf status = (status ≢ INPUT_OUTPUT) × (status ≢ OUT_OF_MEMORY)
-    → (status ≡ status_of is_deaf (counts_of sessions)) × Appends before after (port_text port ++ served_text (counts_of sessions))
+-- how a server at this port ended whose sessions ended in these ways, and of which it is said whether accepting failed: with the status that follows from
+-- that, once it has printed its port and the number of the sessions; or a write failed, or memory ran out, once it has printed its port, and of the
+-- number's line a first part, or nothing
+abbrev pub IsServerEnd : ℕ → Option (List ℕ) → Option (List ℕ) → SessionCounts → Bool → ℕ → Type 0
+IsServerEnd port before after ends is_deaf status =
+    ((status ≡ status_of is_deaf ends) × Appends before after (port_text port ++ served_text ends))
+    ⊎ ((status ≡ INPUT_OUTPUT) × (count : ℕ) × Appends before after (port_text port ++ take count (served_text ends)))
+    ⊎ ((status ≡ OUT_OF_MEMORY) × Appends before after (port_text port))
+
+-- how a server at this port ended that served nobody: a write failed, and of its port's line it has printed a first part; or memory ran out, and it has
+-- printed that line or nothing
+abbrev pub IsNoServerEnd : ℕ → Option (List ℕ) → Option (List ℕ) → ℕ → Type 0
+IsNoServerEnd port before after status =
+    ((status ≡ INPUT_OUTPUT) × IsBegun before after (port_text port))
+    ⊎ ((status ≡ OUT_OF_MEMORY) × ((after ≡ before) ⊎ Appends before after (port_text port)))
+
+-- whether a server of this image that was asked for, with these bytes of its zone's file, may have had sessions that ended in these ways, and may have failed
+-- to accept others
+abbrev pub MayHost : Type 1
+MayHost = ServeRequest → ImageValue → List ℕ → SessionCounts → Bool → Type 0
+
+-- one or the other
+abbrev pub IsEndAt : ℕ → Option (List ℕ) → Option (List ℕ) → ℕ → Type 0
+IsEndAt port before after status =
+    IsNoServerEnd port before after status
+    ⊎ ((ends : SessionCounts) × (is_deaf : Bool) × IsServerEnd port before after ends is_deaf status)

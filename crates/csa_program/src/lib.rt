@@ -64,8 +64,8 @@ pub fn run<
 >(rt: &H, words: &[S], input: &mut I, output: &mut O, errors: &mut E) -> u8
     ensures { (asked : Result CommandRequest NoCommand)
         × H.Asks.may_ask rt.now (map S.text words.now) asked
-        × IsEndOf (H.ImageDisk.may_hold rt.now) H.Disk.gives (H.OutDisk.files rt.now) (I.remaining input.old) asked
-        result (O.Write.contents output.old) (O.Write.contents output.new) }
+        × IsEndOf (H.ImageDisk.may_hold rt.now) H.Disk.gives (H.OutDisk.files rt.now)
+        (I.remaining input.old) asked result (O.Write.contents output.old) (O.Write.contents output.new) }
 {
     let notes = TableNotes {
         is_terminal: errors.is_terminal(),
@@ -136,8 +136,8 @@ fn run_read<
     errors: &mut E,
     notes: TableNotes,
 ) -> u8
-    ensures { IsEndOf (H.ImageDisk.may_hold rt.now) H.Disk.gives (H.OutDisk.files rt.now) (I.remaining input.old)
-        asked.entry result (O.contents output.old) (O.contents output.new) }
+    ensures { IsEndOf (H.ImageDisk.may_hold rt.now) H.Disk.gives (H.OutDisk.files rt.now)
+        (I.remaining input.old) asked.entry result (O.contents output.old) (O.contents output.new) }
 {
     match asked {
         Ok(request) => run_request(rt, request, input, output, errors, notes),
@@ -165,8 +165,8 @@ fn run_request<
     errors: &mut E,
     notes: TableNotes,
 ) -> u8
-    ensures { IsEnd (H.ImageDisk.may_hold rt.now) H.Disk.gives (H.OutDisk.files rt.now) (I.remaining input.old)
-        request.entry result (O.contents output.old) (O.contents output.new) }
+    ensures { IsEnd (H.ImageDisk.may_hold rt.now) H.Disk.gives (H.OutDisk.files rt.now)
+        (I.remaining input.old) request.entry result (O.contents output.old) (O.contents output.new) }
 {
     let warnings = notes.warnings;
     match request {

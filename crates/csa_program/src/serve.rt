@@ -1,30 +1,28 @@
 //! `csa serve --image IMAGE --port P --workers W --sessions N [--legs] [--log] [--idle SECS] [--longest SECS] [--sets]
 //! --first DAY --days N --zone ZONE [NAME=FOLDER]..`.
 
-ghost use Rattle.std.specs.Prelude.{◌≡◌, ◌≢◌, ◌≤◌, ◌⊎◌, [], All, length, map};
-ghost use Rattle.std.specs.Prelude.{slice_get, Some, string_bytes, IfOk, IfSome, MatchOption, ℕ};
+ghost use Rattle.std.specs.Prelude.{◌≡◌, ◌≢◌, ◌≤◌, ◌⊎◌, [], All, List, Option, length, map};
+ghost use Rattle.std.specs.Prelude.{slice_get, Some, string_bytes, IfOk, IfSome, ℕ};
 ghost use Rattle.std.specs.Io.KnownBytes.{Appends};
-ghost use Rattle.command_requests.specs.Ending.{status_of};
 ghost use Rattle.command_requests.specs.declared.statuses.TheConstants.{ACCEPTED, INPUT_OUTPUT, OUT_OF_MEMORY};
-ghost use Rattle.shelf_steps.specs.Handed.{handed};
-ghost use Rattle.shelf_steps.specs.declared.views.View.{View};
 ghost use Rattle.epochs.specs.ShelfSeats.{SeatsHanded};
 ghost use Rattle.workers.specs.Headline.{AreReadyAt, IsRunAt, server_input_of};
 ghost use Rattle.workers.specs.Sessions.{MayClose};
 ghost use Rattle.epochs.specs.ShelfWords.{shelf_loader, shelf_seats};
 ghost use Rattle.workers.specs.Words.{loads_of, outcomes_of, sessions_of};
 ghost use Rattle.csa_program.specs.Acceptor.{AreAsMany, AreCountedOff};
-ghost use Rattle.csa_program.specs.Hosting.{AreHosted, AreSessionsOf};
+ghost use Rattle.csa_program.specs.Hosting.{IsHosted, IsRunOf, first_loader, form_asked};
+ghost use Rattle.csa_program.specs.Running.{IsServeEnd};
 ghost use Rattle.std.specs.Option.{option_map};
-ghost use Rattle.csa_program.specs.Serving.{IsServerEnd, counts_of, form_with, points_with, port_text};
-ghost use Rattle.csa_program.specs.Serving.{served_text};
+ghost use Rattle.csa_program.specs.Serving.{IsEndAt, IsNoServerEnd, IsServerEnd, MayHost, counts_of};
+ghost use Rattle.csa_program.specs.Serving.{points_with, port_text, served_text};
 ghost use Rattle.feed_plans.specs.Planning.{IsPlanNow};
 
 use crate::bases::warn_of_bases;
 use crate::client_sessions::{ClientSession, SessionRules};
 use crate::explaining::{Explains, warn_of_idle_feed};
 use crate::folders::warn_of_folders;
-use crate::line_queue::LineQueue;
+use crate::line_queue::{LineQueue, LineWriter};
 use crate::logging::{Host, LoaderErrors, SharedErrors, log_load};
 use crate::machine::Machine;
 use crate::requests::Requests;
@@ -38,6 +36,7 @@ use feed_loader::Plan;
 use feed_messages::reason_of;
 use feed_plans::{PlanFailure, instant, plan_at, zone_and_plan};
 use image_commands::open_image;
+use image_files::ImageDisk;
 use image_verifier::Verified;
 use orders::OpenGate;
 use std::alloc::{AllocError, Global};
@@ -140,13 +139,36 @@ impl<'a, H: Disk + Explains + Clock + Sync> Feeds for Folders<'a, H> {
     }
 }
 
+// A machine that servers run on.
+trait Hosts {
+    // Whether a server that was asked for may have had sessions that ended so.
+    ghost may_host: { MayHost };
+}
+
+impl<'a, H: Disk + Explains + Clock + Threads + Wait + Sync + 'a> Hosts for H {
+    // Its clients come over TCP, and its feeds are those that the request names.
+    ghost may_host = { IsHosted (λ form. sessions_of form ⟦<Visitor<'a, SharedErrors<'a, H>> as Client>⟧.words
+        ⟦<Requests<TcpStream, ClientSession<'a, SharedErrors<'a, H>>> as Read>⟧.remaining
+        ⟦<TcpStream as Write>⟧.contents shelf_seats)
+        ⟦<Acceptor<'a, SharedErrors<'a, H>> as Clients<Visitor<'a, SharedErrors<'a, H>>>>⟧.words
+        (loads_of ⟦<Folders<'a, H> as Feeds>⟧.words
+        (outcomes_of ⟦<FolderFiles<'a, H> as FeedFiles>⟧.words shelf_loader shelf_seats.version))
+        (λ request acceptor. (acceptor.rules.idle ≡ request.idle) × (acceptor.rules.log ≡ request.log))
+        (λ acceptor. acceptor.failed)
+        (λ request zone_bytes folders.
+        (folders.request.now ≡ request) × (folders.zone_bytes.items ≡ zone_bytes)) };
+}
+
 /// Serves sessions until as many were served as are asked for, or prints the first thing that is wrong.
 pub fn run<
-    H: Machine + Net<Listener = TcpListener, Stream = TcpStream>,
+    H: Machine + ImageDisk<Image = H::File> + Net<Listener = TcpListener, Stream = TcpStream>,
     I: Read,
     O: Write,
     E: Write + Send,
->(rt: &H, request: ServeRequest<'_>, input: &mut I, output: &mut O, errors: &mut E) -> u8 {
+>(rt: &H, request: ServeRequest<'_>, input: &mut I, output: &mut O, errors: &mut E) -> u8
+    ensures { IsServeEnd (H.ImageDisk.may_hold rt.now) (I.remaining input.old) request.entry
+        result (O.contents output.old) (O.contents output.new) }
+{
     let alloc = rt.alloc();
     let (zone_bytes, first) = match zone_and_plan(rt, &request.plan) {
         Ok(first) => first,
@@ -193,7 +215,7 @@ fn keep_freed_memory(alloc: Global) {
     drop(block);
 }
 
-// Serves at the port, while a thread of its own writes what the server's threads report.
+// Prints the port, serves whoever comes to it, and prints how many sessions there were.
 fn serve_at<H: Disk + Explains + Clock + Threads + Wait + Sync, O: Write, E: Write + Send>(
     rt: &H,
     bound: &BoundListener,
@@ -201,24 +223,59 @@ fn serve_at<H: Disk + Explains + Clock + Threads + Wait + Sync, O: Write, E: Wri
     folders: &Folders<'_, H>,
     output: &mut O,
     errors: &mut E,
-) -> u8 {
+) -> u8
+    ensures { IsEndAt bound.now.port (O.contents output.old) (O.contents output.new) result }
+{
     let alloc = folders.alloc;
     keep_freed_memory(alloc);
     let Ok((queue, writer)) = LineQueue::new(alloc) else {
         return status::OUT_OF_MEMORY;
     };
+    let begun = tell_port(alloc, bound.port, output);
+    if begun != status::ACCEPTED {
+        return begun;
+    }
+    match host_reported(rt, bound, image, folders, queue, writer, errors) {
+        Some((ends, is_deaf)) => tell_served(alloc, ends, is_deaf, output),
+        None => status::OUT_OF_MEMORY,
+    }
+}
+
+// Serves whoever comes to the port, while a thread of its own writes what the server's threads report. Returns how many
+// sessions ended in each way, and whether accepting failed; `None` if memory ran out.
+fn host_reported<H: Disk + Explains + Clock + Threads + Wait + Sync, E: Write + Send>(
+    rt: &H,
+    bound: &BoundListener,
+    image: Verified,
+    folders: &Folders<'_, H>,
+    queue: LineQueue,
+    writer: LineWriter,
+    errors: &mut E,
+) -> Option<(SessionCounts, bool)> {
     let queue = &queue;
-    let ((), status) = thread::join(
+    let ((), end) = thread::join(
         rt,
         move || writer.write_all(rt, queue, errors),
-        || -> u8 {
-            let shared = SharedErrors::of(rt, alloc, queue);
-            let (status, _hosted) = listen(bound, image, folders, &shared, output);
-            queue.close(rt);
-            status
-        },
+        move || host_until_closed(rt, bound, image, folders, queue),
     );
-    status
+    end
+}
+
+// Serves whoever comes to the port, and then closes the queue into which the server's threads report.
+fn host_until_closed<H: Disk + Explains + Clock + Threads + Wait + Sync>(
+    rt: &H,
+    bound: &BoundListener,
+    image: Verified,
+    folders: &Folders<'_, H>,
+    queue: &LineQueue,
+) -> Option<(SessionCounts, bool)>
+    ensures { IfSome result (λ end. ⟦<H as Hosts>⟧.may_host folders.now.request.now image
+        folders.now.zone_bytes.items end.0 end.1) }
+{
+    let shared = SharedErrors::of(rt, folders.alloc, queue);
+    let end = host(bound, image, folders, &shared);
+    queue.close(rt);
+    end
 }
 
 fn names_of(alloc: Global, feeds: &[NamedFolder<'_>]) -> Result<Vec<String>, AllocError>
@@ -238,37 +295,21 @@ fn name_of(alloc: Global, feed: &NamedFolder<'_>) -> Result<String, AllocError>
     String::from_str(alloc, feed.name)
 }
 
-// Prints the port, serves whoever comes to it, and prints how many sessions there were. Returns the status and what was
-// served: none if the server failed before it served anybody, or if its workers failed. Whatever the server's threads
-// report goes into one queue.
-fn listen<'d, 'f, 'e, H: Disk + Explains + Clock + Threads + Wait + Sync, O: Write>(
+// Serves whoever comes to the port. Returns how many sessions ended in each way, and whether accepting failed; `None`
+// if memory ran out. Whatever the server's threads report goes into one queue.
+fn host<'d, 'f, 'e, H: Disk + Explains + Clock + Threads + Wait + Sync>(
     bound: &'d BoundListener,
     image: Verified,
     folders: &Folders<'f, H>,
     errors: &'d SharedErrors<'e, H>,
-    output: &mut O,
-) -> (u8, Option<HostingOutcome<'d, SharedErrors<'e, H>>>)
-    ensures end { MatchOption result.1 ((result.0 ≡ INPUT_OUTPUT) ⊎ (result.0 ≡ OUT_OF_MEMORY))
-        (λ hosted. IsServerEnd bound.now.port (O.contents output.old) (O.contents output.new)
-        hosted.served hosted.acceptor.failed result.0) }
-    ensures many { IfSome result.1 (λ hosted.
-        AreAsMany folders.now.request.now.sessions (length hosted.served) hosted.acceptor.failed) }
-    ensures hosted { IfSome result.1 (λ hosted. AreHosted (sessions_of
-        (form_with folders.now.request.now.legs folders.now.request.now.longest
-        folders.now.request.now.sets)
-        ⟦<Visitor<'d, SharedErrors<'e, H>> as Client>⟧.words
-        ⟦<Requests<TcpStream, ClientSession<'d, SharedErrors<'e, H>>> as Read>⟧.remaining
-        ⟦<TcpStream as Write>⟧.contents shelf_seats)
-        folders.now.request.now.workers.number hosted.acceptor.came hosted.served) }
+) -> Option<(SessionCounts, bool)>
+    ensures { IfSome result (λ end. ⟦<H as Hosts>⟧.may_host folders.now.request.now image
+        folders.now.zone_bytes.items end.0 end.1) }
 {
     let request = folders.request;
     let Ok(made) = shelves_of(folders.alloc, image, request.workers.number) else {
-        return (status::OUT_OF_MEMORY, None);
+        return None;
     };
-    let begun = tell_port(folders.alloc, bound.port, output);
-    if begun != status::ACCEPTED {
-        return (begun, None);
-    }
     let rules = SessionRules {
         idle: request.idle,
         log: request.log,
@@ -276,8 +317,8 @@ fn listen<'d, 'f, 'e, H: Disk + Explains + Clock + Threads + Wait + Sync, O: Wri
     let acceptor = Acceptor::new(&bound.listener, request.sessions, rules, errors);
     let loader_errors = LoaderErrors::of(errors.another());
     match serve_accepted::<Brand, _, _, _>(acceptor, made, folders, loader_errors) {
-        Ok(hosted) => (tell_served(folders.alloc, &hosted, output), Some(hosted)),
-        Err(_) => (status::OUT_OF_MEMORY, None),
+        Ok(hosted) => Some(end_of(&hosted)),
+        Err(_) => None,
     }
 }
 
@@ -313,11 +354,12 @@ fn serve_accepted<
     ensures many { (wanted : ℕ) → AreCountedOff wanted acceptor.entry.left acceptor.entry.accepted
         acceptor.entry.is_endless acceptor.entry.failed []
         → IfOk result (λ hosted. AreAsMany wanted (length hosted.served) hosted.acceptor.failed) }
-    ensures sessions { IfOk result (λ hosted. AreSessionsOf (sessions_of
-        (form_with folders.now.request.now.legs folders.now.request.now.longest
-        folders.now.request.now.sets)
+    ensures run { IfOk result (λ hosted. IsRunOf (IsRunAt (sessions_of (form_asked folders.now.request.now)
         ⟦<Visitor<'d, L> as Client>⟧.words ⟦<Requests<TcpStream, ClientSession<'d, L>> as Read>⟧.remaining
-        ⟦<TcpStream as Write>⟧.contents shelf_seats) made.2.items hosted.acceptor.came hosted.served) }
+        ⟦<TcpStream as Write>⟧.contents shelf_seats) ⟦<Acceptor<'d, L> as Clients<Visitor<'d, L>>>⟧.words
+        (loads_of ⟦<Folders<'f, H> as Feeds>⟧.words
+        (outcomes_of ⟦<FolderFiles<'f, H> as FeedFiles>⟧.words shelf_loader shelf_seats.version))
+        (server_input_of acceptor.entry made.0 made.2.items made.1 folders.now)) hosted.served hosted.acceptor) }
 {
     let form = form_of(folders.request);
     let run_result = serve_all::<B, _, _, _, _>(acceptor, made, folders, form, errors)?;
@@ -395,22 +437,25 @@ struct BoundListener {
     port: u16,
 }
 
-// What listens at the port, if it is free.
+// What listens at the port, if it is free; at any free one if the port is 0.
 fn bound_at<H: Net<Listener = TcpListener, Stream = TcpStream>>(
     rt: &H,
     port: u16,
-) -> io::Result<BoundListener> {
+) -> io::Result<BoundListener>
+    ensures { port ≢ 0 → IfOk result (λ bound. bound.port ≡ port) }
+{
     let listener = TcpListener::bind(rt, (Ipv4Addr::LOCALHOST, port))?;
-    let address = listener.local_addr()?;
-    Ok(BoundListener {
-        listener,
-        port: address.port(),
-    })
+    let port = if port == 0 {
+        listener.local_addr()?.port()
+    } else {
+        port
+    };
+    Ok(BoundListener { listener, port })
 }
 
 // In which form profiles are replied, for which windows, and whether between several stops.
 fn form_of(request: &ServeRequest<'_>) -> ReplyForm
-    ensures { result ≡ form_with request.now.legs request.now.longest request.now.sets }
+    ensures { result ≡ form_asked request.now }
 {
     ReplyForm {
         points: points_of(request.legs),
@@ -445,13 +490,7 @@ fn shelves_of(
     workers: usize,
 ) -> Result<(Shelves, ShelfLoader, Vec<ShelfSeat>), AllocError>
     requires { workers ≤ 16 }
-    ensures first { IfOk result (λ made. made.1 ≡ record {
-      table = made.0;
-      view =
-          View.Loading (handed 16 image);
-      current = 1;
-      answers = [];
-    }) }
+    ensures first { IfOk result (λ made. made.1 ≡ first_loader made.0 image) }
     ensures seats { IfOk result (λ made. All (λ seat. seat.table ≡ made.0) made.2.items) }
     ensures new { IfOk result (λ made. SeatsHanded made.0 workers made.2.items) }
     ensures all { IfOk result (λ made. SeatsHanded made.0 (length made.2.items) made.2.items) }
@@ -480,8 +519,8 @@ fn none_received<E: Write>(alloc: Global, errors: &mut E, port: u16, kind: Error
 
 // Prints at which port the server listens.
 fn tell_port<O: Write>(alloc: Global, port: u16, output: &mut O) -> u8
-    ensures status { (result ≡ ACCEPTED) ⊎ (result ≡ INPUT_OUTPUT) ⊎ (result ≡ OUT_OF_MEMORY) }
-    ensures printed { result ≡ ACCEPTED → Appends (O.contents output.old) (O.contents output.new) (port_text port) }
+    ensures { ((result ≡ ACCEPTED) × Appends (O.contents output.old) (O.contents output.new) (port_text port))
+        ⊎ IsNoServerEnd port (O.contents output.old) (O.contents output.new) result }
 {
     match port_line(alloc, port) {
         Ok(line) => status::write_text(output, line.as_str(), status::ACCEPTED),
@@ -500,17 +539,10 @@ fn port_line(alloc: Global, port: u16) -> Result<String, AllocError>
 
 // Prints how many sessions there were. The status follows from how they ended and whether accepting failed, unless the
 // line can't be printed.
-fn tell_served<'d, L: Host + Sync, O: Write>(
-    alloc: Global,
-    hosted: &HostingOutcome<'d, L>,
-    output: &mut O,
-) -> u8
-    ensures status { (result ≡ status_of hosted.now.acceptor.failed (counts_of hosted.now.served))
-        ⊎ (result ≡ INPUT_OUTPUT) ⊎ (result ≡ OUT_OF_MEMORY) }
-    ensures printed { (result ≢ INPUT_OUTPUT) × (result ≢ OUT_OF_MEMORY) →
-        Appends (O.contents output.old) (O.contents output.new) (served_text (counts_of hosted.now.served)) }
+fn tell_served<O: Write>(alloc: Global, ends: SessionCounts, is_deaf: bool, output: &mut O) -> u8
+    ensures { (port : ℕ) (before : Option (List ℕ)) → Appends before (O.contents output.old) (port_text port)
+        → IsServerEnd port before (O.contents output.new) ends is_deaf result }
 {
-    let (ends, is_deaf) = end_of(hosted);
     let status = ends.status(is_deaf);
     match served_line(alloc, ends) {
         Ok(line) => status::write_text(output, line.as_str(), status),

@@ -2,7 +2,7 @@ use Rattle.std.proofs.Common.{◌≡◌, Result, Err, rules, string_bytes, subst
 use Rattle.command_line.specs.declared.reading.NoCommand.{NoCommand}
 use Rattle.command_line.specs.declared.reading.NoCommand.TheVariants.{Help}
 use Rattle.command_requests.specs.declared.requests.CommandRequest.{CommandRequest}
-use Rattle.command_endings.proofs.Outcomes.{written}
+use Rattle.csa_program.proofs.HelpEnds.{help_told}
 use Rattle.csa_program.specs.Running.{IsEndOf}
 use Rattle.csa_program.proofs.run_read.Goals as goal
 
@@ -16,4 +16,4 @@ returns-in-Err-Help g c =
     subst (λ (asked : Result CommandRequest NoCommand). IsEndOf (g.H.ImageDisk.may_hold c.args.rt.now) g.H.Disk.gives
     (g.H.OutDisk.files c.args.rt.now) (g.I.Read.remaining c.args.input.now) asked c.write_text.result (g.O.Write.contents c.args.output.now)
     (g.O.Write.contents c.write_text.new.writer)) (sym asks)
-    (written (λ printed. printed ≡ string_bytes text) c.write_text.result c.as_str.result.now _ _ same wrote.status wrote.written wrote.begun)
+    (help_told (string_bytes text) c.write_text.result c.as_str.result.now _ _ same wrote.status wrote.written wrote.begun)

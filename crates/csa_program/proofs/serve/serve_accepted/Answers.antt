@@ -1,8 +1,7 @@
-use Rattle.std.proofs.Common.{◌∙◌, map, sym, subst}
+use Rattle.std.proofs.Common.{◌∙◌, map, refl, sym, subst}
 use Rattle.std.proofs.lemmas.List.{length-map}
 use Rattle.csa_program.specs.Acceptor.{AreCountedOff}
-use Rattle.workers.specs.Ordering.{route_to}
-use Rattle.csa_program.proofs.Hosted.{all_sessions}
+use Rattle.csa_program.proofs.Hosted.{in_form}
 use Rattle.csa_program.proofs.ServedEnds.{as_many}
 use Rattle.csa_program.proofs.serve.serve_accepted.Goals as goal
 
@@ -18,11 +17,8 @@ returns-clause-many g c wanted counted =
     as_many wanted last.left last.accepted last.is_endless last.failed (map (λ visitor. visitor.number) last.came) _
     (shown.run.left.0.clients.holds wanted was) shown.run.left.0.clients.none_left many
 
--- the sessions of all who came to the acceptor
-pub returns-clause-sessions : goal.returns-clause-sessions
-returns-clause-sessions g c =
-    let run_result = c.in_ok-run_result.run_result in
-    all_sessions _ _ _ c.form_of-form.result _
-    c.args.acceptor.came run_result.clients.came (route_to c.args.folders.now.names.items run_result.orders.queue) c.args.made.2.items run_result.seats.items
-    run_result.asked
-    run_result.served c.form_of-form.ensures c.requires.none_came c.in_ok-run_result.ensures.run.served
+-- the run, with replies in the form that is asked for
+pub returns-clause-run : goal.returns-clause-run
+returns-clause-run g c =
+    let shown = c.in_ok-run_result in
+    (shown.run_result, in_form _ _ _ _ _ _ _ _ _ c.form_of-form.ensures shown.ensures.run, refl, refl)

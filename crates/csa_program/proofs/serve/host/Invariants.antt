@@ -1,4 +1,4 @@
-use Rattle.csa_program.proofs.serve.listen.Given as goal
+use Rattle.csa_program.proofs.serve.host.Given as goal
 
 -- the shelves that were just made
 abbrev pub ghosts-serve_accepted : goal.ghosts-serve_accepted

@@ -1,0 +1,18 @@
+use Rattle.std.proofs.Common.{ap, refl}
+use Rattle.csa_program.specs.declared.client_sessions.SessionRules.{SessionRules}
+use Rattle.csa_program.proofs.Hosted.{hosted_run}
+use Rattle.csa_program.proofs.serve.host.Goals as goal
+
+-- the run began with the image, the acceptor and the seats that were just made
+pub returns-in-Ok-serve_accepted : goal.returns-in-Ok-serve_accepted
+returns-in-Ok-serve_accepted g c =
+    let folders = c.args.folders.now in
+    let made = c.in-Ok.made in
+    let acceptor = c.new-acceptor in
+    let hosted = c.in-Ok-serve_accepted.hosted in
+    let shown = c.in-Ok-serve_accepted.ensures in
+    let kept = acceptor.ensures.rules in
+    hosted_run _ _ _ _ _ _ folders.request.now c.args.image folders.zone_bytes.items made.0 made.2.items made.1 acceptor.result hosted.acceptor folders
+    hosted.served c.end_of.result.0 c.end_of.result.1 c.in-Ok.ensures.first c.in-Ok.ensures.new acceptor.ensures.none_came
+    (ap (λ (rules : SessionRules). rules.idle) kept, ap (λ (rules : SessionRules). rules.log) kept) (refl, refl) shown.run
+    (shown.many folders.request.now.sessions acceptor.ensures.counted) c.end_of.ensures.ends c.end_of.ensures.deaf
