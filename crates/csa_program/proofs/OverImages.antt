@@ -7,7 +7,7 @@ use Rattle.command_requests.specs.declared.requests.MatrixRequest.{MatrixRequest
 use Rattle.command_requests.specs.declared.statuses.TheConstants.{ACCEPTED, COMMAND_LINE, INPUT_OUTPUT, OUT_OF_MEMORY, REFUSED}
 use Rattle.command_endings.specs.Ending.{IsOutcome, PrintsRefusal}
 use Rattle.image_commands.specs.Opening.{IsRefusedImage, PrintsOver, SpellsImage}
-use Rattle.image_commands.specs.Matrices.{EndsTable, IsTableCutShort, IsTablePrinted, IsTableRefused, IsTableUnlisted}
+use Rattle.image_commands.specs.Matrices.{EndsTable, IsTableCutShort, IsTablePrinted, IsTableRefused, IsTableSpent, IsTableUnlisted}
 use Rattle.csa_program.specs.Running.{IsTableEnd}
 use Rattle.command_endings.proofs.Outcomes.{outcome_of}
 
@@ -31,21 +31,17 @@ module _ (may_hold : List ℕ → Option (List ℕ) → Type 0) (disk : OutFiles
       → opened ≡ before → EndsTable status → (status ≡ ACCEPTED → IsTablePrinted may_hold disk image request opened after)
       → (status ≡ REFUSED → IsTableRefused may_hold image request opened after)
       → (status ≡ COMMAND_LINE → IsTableUnlisted may_hold image request opened after)
-      → ((status ≡ INPUT_OUTPUT) ⊎ (status ≡ OUT_OF_MEMORY) → IsTableCutShort may_hold image request opened after)
-      → (request.out.now ≢ codes "-" → status ≡ OUT_OF_MEMORY → after ≡ opened) → IsTableEnd may_hold disk input request status before after
-  table_over image opened after held kept ends printed refused unlisted cut silent =
+      → (status ≡ INPUT_OUTPUT → IsTableCutShort may_hold image request opened after)
+      → (status ≡ OUT_OF_MEMORY → IsTableSpent may_hold image request opened after) → IsTableEnd may_hold disk input request status before after
+  table_over image opened after held kept ends printed refused unlisted cut spent =
       subst (λ (was : Option (List ℕ)). IsTableEnd may_hold disk input request status was after) kept (record {
         ends = ends;
         printed = λ is. (image, held, printed is);
         refused = λ is. inr (image, held, refused is);
         unlisted = λ is. (image, held, unlisted is);
         cut = λ is. inr (inr (image, held, cut is));
-        silent = silent;
+        spent = λ is. inr (image, held, spent is);
       })
-
-  not_both : status ≡ REFUSED → (status ≡ INPUT_OUTPUT) ⊎ (status ≡ OUT_OF_MEMORY) → ⊥
-  not_both is (inl failed) = omega (arith, is, failed)
-  not_both is (inr none) = omega (arith, is, none)
 
   pub no_table : (after : Option (List ℕ)) → IsOutcome (PrintsRefusal (IsRefusedImage may_hold request.image.now input)) status before after
       → IsTableEnd may_hold disk input request status before after
@@ -54,30 +50,30 @@ module _ (may_hold : List ℕ → Option (List ℕ) → Type 0) (disk : OutFiles
     printed = λ e. absurd (omega (arith, e, is.0));
     refused = λ e. inl (line, is.1, whole);
     unlisted = λ e. absurd (omega (arith, e, is.0));
-    cut = λ either. absurd (not_both is.0 either);
-    silent = λ out e. absurd (omega (arith, e, is.0));
+    cut = λ e. absurd (omega (arith, e, is.0));
+    spent = λ e. absurd (omega (arith, e, is.0));
   }
   no_table after (inr (inl (failed, s, text, is, begun))) = record {
     ends = inl (inr (inr (inl failed)));
     printed = λ e. absurd (omega (arith, e, failed));
     refused = λ e. absurd (omega (arith, e, failed));
     unlisted = λ e. absurd (omega (arith, e, failed));
-    cut = λ either. inr (inl (text, is.1, begun));
-    silent = λ out e. absurd (omega (arith, e, failed));
+    cut = λ e. inr (inl (text, is.1, begun));
+    spent = λ e. absurd (omega (arith, e, failed));
   }
   no_table after (inr (inr (inl failed, kept))) = record {
     ends = inl (inr (inr (inl failed)));
     printed = λ e. absurd (omega (arith, e, failed));
     refused = λ e. absurd (omega (arith, e, failed));
     unlisted = λ e. absurd (omega (arith, e, failed));
-    cut = λ either. inl kept;
-    silent = λ out e. kept;
+    cut = λ e. inl kept;
+    spent = λ e. inl kept;
   }
   no_table after (inr (inr (inr none, kept))) = record {
     ends = inl (inr (inr (inr none)));
     printed = λ e. absurd (omega (arith, e, none));
     refused = λ e. absurd (omega (arith, e, none));
     unlisted = λ e. absurd (omega (arith, e, none));
-    cut = λ either. inl kept;
-    silent = λ out e. kept;
+    cut = λ e. inl kept;
+    spent = λ e. inl kept;
   }

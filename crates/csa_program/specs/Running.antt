@@ -16,7 +16,7 @@ use Rattle.feed_commands.specs.Building.{IsReport}
 use Rattle.image_commands.specs.Commands.{PrintsAsked, PrintsDepartures, PrintsProfile}
 use Rattle.command_endings.specs.Ending.{IsBegun, IsOutcome, PrintsRefusal}
 use Rattle.feed_commands.specs.Folders.{AreDaysOf, IsBuildRefusal, IsTablesRefusalOf}
-use Rattle.image_commands.specs.Matrices.{EndsTable, IsTableCutShort, IsTablePrinted, IsTableRefused, IsTableUnlisted}
+use Rattle.image_commands.specs.Matrices.{EndsTable, IsTableCutShort, IsTablePrinted, IsTableRefused, IsTableSpent, IsTableUnlisted}
 use Rattle.image_commands.specs.Opening.{IsRefusedImage, PrintsOver, SpellsImage}
 use Rattle.feed_commands.specs.Refusing.{IsFeedRefusal, PrintsOfFeed}
 use Rattle.feed_plans.specs.Zoning.{AreZoneBytes, IsNoZoneOf}
@@ -42,13 +42,17 @@ pub record IsTableEnd (may_hold : List ℕ → Option (List ℕ) → Type 0) (di
       × IsTableRefused may_hold image request before after)
   pub unlisted : status ≡ COMMAND_LINE → (image : ImageValue) × HoldsOfBytes may_hold request.image.now input (SpellsImage image)
       × IsTableUnlisted may_hold image request before after
-  -- a file or a line can't be read or written, or memory ran out
-  pub cut : (status ≡ INPUT_OUTPUT) ⊎ (status ≡ OUT_OF_MEMORY)
+  -- a file or a line can't be read or written
+  pub cut : status ≡ INPUT_OUTPUT
       → (after ≡ before)
       ⊎ ((line : List ℕ) × IsRefusedImage may_hold request.image.now input line × IsBegun before after line)
       ⊎ ((image : ImageValue) × HoldsOfBytes may_hold request.image.now input (SpellsImage image)
       × IsTableCutShort may_hold image request before after)
-  pub silent : request.out.now ≢ codes "-" → status ≡ OUT_OF_MEMORY → after ≡ before
+  -- memory ran out
+  pub spent : status ≡ OUT_OF_MEMORY
+      → (after ≡ before)
+      ⊎ ((image : ImageValue) × HoldsOfBytes may_hold request.image.now input (SpellsImage image)
+      × IsTableSpent may_hold image request before after)
 
 -- `may_hold` says what a file at a path may hold, and the path `-` is the input
 module _ (may_hold : List ℕ → Option (List ℕ) → Type 0) (input : Option (List ℕ)) (request : ServeRequest) where

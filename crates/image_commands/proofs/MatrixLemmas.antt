@@ -11,13 +11,10 @@ use Rattle.matrix_rows.specs.Tables.{AreWithin, CanBeMade, HasWindow, IsTableBeg
 use Rattle.matrix_rows.specs.declared.table.TravelTable.{TravelTable}
 use Rattle.command_requests.specs.declared.requests.MatrixRequest.{MatrixRequest}
 use Rattle.command_requests.specs.declared.statuses.TheConstants.{ACCEPTED, COMMAND_LINE, INPUT_OUTPUT, OUT_OF_MEMORY}
-use Rattle.command_endings.specs.Ending.{Ends, IsBegun}
-use Rattle.timetable.specs.declared.query.QueryFault.TheVariants.{BadWindow}
+use Rattle.command_endings.specs.Ending.{Ends}
 use Rattle.image_files.specs.Texts.{IsTextAt}
-use Rattle.image_commands.specs.Matrices.{AreBadTimes, AreListedIn, AreNoSources, AreOfList, AreSources, EndsTable, EndsUnlisted, IsCutShort}
-use Rattle.image_commands.specs.Matrices.{IsShownInPart, IsTableOf, IsUnasked, IsUnlisted, IsUnlistedIn}
-use Rattle.image_commands.specs.Refusing.{refusal_line}
-use Rattle.image_commands.specs.declared.refusal.CommandRefusal.TheVariants.{Query}
+use Rattle.image_commands.specs.Matrices.{AreListedIn, AreNoSources, AreOfList, AreSources, EndsTable, EndsUnlisted, IsCutShort}
+use Rattle.image_commands.specs.Matrices.{IsShownInPart, IsSpent, IsTableOf, IsTableSpent, IsUnasked, IsUnlisted, IsUnlistedIn}
 use Rattle.image_commands.proofs.Ranges.{below_all}
 
 -- the stops of sets of one stop each
@@ -149,8 +146,9 @@ pub cut_table : (table : TravelTable) (out : List ℕ) (before after : Option (L
 cut_table table out before after window (inl same) = inl same
 cut_table table out before after window (inr part) = inr (inr (window, part))
 
-pub cut_refusal : (status : ℕ) (table : TravelTable) (out : List ℕ) (before after : Option (List ℕ)) → AreBadTimes table.after table.until table.by
-    → (status ≡ INPUT_OUTPUT → IsBegun before after (refusal_line (Query BadWindow))) → (status ≡ OUT_OF_MEMORY → after ≡ before)
-    → (status ≡ INPUT_OUTPUT) ⊎ (status ≡ OUT_OF_MEMORY) → IsCutShort table out before after
-cut_refusal status table out before after bad begun silent (inl is) = inr (inl (bad, begun is))
-cut_refusal status table out before after bad begun silent (inr is) = inl (silent is)
+-- .. of the table that is asked for
+pub spent_table : (may_hold : List ℕ → Option (List ℕ) → Type 0) (image : ImageValue) (request : MatrixRequest) (table : TravelTable)
+    (before after : Option (List ℕ)) → IsTableOf may_hold image request table
+    → (after ≡ before) ⊎ (HasWindow table × IsSpent table request.out.now before after) → IsTableSpent may_hold image request before after
+spent_table may_hold image request table before after is (inl same) = inl same
+spent_table may_hold image request table before after is (inr spent) = inr (table, is, spent.0, spent.1)

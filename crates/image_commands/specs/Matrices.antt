@@ -146,8 +146,8 @@ IsTableRefused may_hold image request before after =
 abbrev pub IsTableUnlisted : (List ℕ → Option (List ℕ) → Type 0) → ImageValue → MatrixRequest → Option (List ℕ) → Option (List ℕ) → Type 0
 IsTableUnlisted may_hold image request before after = HoldsOfList may_hold request image IsNoList × (after ≡ before)
 
--- what was printed of a table if a file or a line can't be written, or memory ran out: nothing, a first part of the line for bad times, or of what is
--- printed of the table
+-- what was printed of a table if a file or a line can't be read or written: nothing, a first part of the line for bad times, or of what is printed of the
+-- table
 abbrev pub IsCutShort : TravelTable → List ℕ → Option (List ℕ) → Option (List ℕ) → Type 0
 IsCutShort table out before after =
     (after ≡ before)
@@ -158,3 +158,12 @@ IsCutShort table out before after =
 abbrev pub IsTableCutShort : (List ℕ → Option (List ℕ) → Type 0) → ImageValue → MatrixRequest → Option (List ℕ) → Option (List ℕ) → Type 0
 IsTableCutShort may_hold image request before after =
     (after ≡ before) ⊎ ((table : TravelTable) × IsTableOf may_hold image request table × IsCutShort table request.out.now before after)
+
+-- what was printed of a table if memory ran out: nothing, or its first rows, if it is to be printed itself
+abbrev pub IsSpent : TravelTable → List ℕ → Option (List ℕ) → Option (List ℕ) → Type 0
+IsSpent table out before after = (after ≡ before) ⊎ ((out ≡ codes "-") × IsTableBegun table before after)
+
+-- the same of the table that is asked for, whose times make a window; or nothing
+abbrev pub IsTableSpent : (List ℕ → Option (List ℕ) → Type 0) → ImageValue → MatrixRequest → Option (List ℕ) → Option (List ℕ) → Type 0
+IsTableSpent may_hold image request before after =
+    (after ≡ before) ⊎ ((table : TravelTable) × IsTableOf may_hold image request table × HasWindow table × IsSpent table request.out.now before after)

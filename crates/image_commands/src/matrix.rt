@@ -12,7 +12,7 @@ ghost use Rattle.matrix_rows.specs.Tables.{AreWithin, CanBeMade, HasWindow, IsTa
 ghost use Rattle.command_endings.specs.Ending.{Ends, EndsUndone, IsBegun};
 ghost use Rattle.image_commands.specs.Matrices.{AreNoSources, AreOfList, AreSources, EndsTable, EndsWritten};
 ghost use Rattle.image_commands.specs.Matrices.{IsBadWindow, IsCutShort};
-ghost use Rattle.image_commands.specs.Matrices.{IsShownInPart, IsTableCutShort, IsTablePrinted};
+ghost use Rattle.image_commands.specs.Matrices.{IsShownInPart, IsSpent, IsTableCutShort, IsTablePrinted, IsTableSpent};
 ghost use Rattle.image_commands.specs.Matrices.{IsTableRefused, IsTableShown, IsTableUnlisted, IsUnasked, IsUnlisted};
 ghost use Rattle.image_commands.specs.Matrices.{counts_of, counts_text};
 ghost use Rattle.image_commands.specs.Refusing.{refusal_line};
@@ -72,10 +72,10 @@ pub fn run<
         (O.contents output.old) (O.contents output.new) }
     ensures unlisted { result ≡ COMMAND_LINE → IsTableUnlisted (H.may_hold rt.now) image.now request.entry
         (O.contents output.old) (O.contents output.new) }
-    ensures cut { (result ≡ INPUT_OUTPUT) ⊎ (result ≡ OUT_OF_MEMORY) → IsTableCutShort (H.may_hold rt.now) image.now
-        request.entry (O.contents output.old) (O.contents output.new) }
-    ensures silent { request.entry.out.now ≢ codes "-" → result ≡ OUT_OF_MEMORY
-        → O.contents output.new ≡ O.contents output.old }
+    ensures cut { result ≡ INPUT_OUTPUT → IsTableCutShort (H.may_hold rt.now) image.now request.entry
+        (O.contents output.old) (O.contents output.new) }
+    ensures spent { result ≡ OUT_OF_MEMORY → IsTableSpent (H.may_hold rt.now) image.now request.entry
+        (O.contents output.old) (O.contents output.new) }
 {
     match stops_asked(rt, image, request, errors) {
         Ok(stops) => {
@@ -128,10 +128,11 @@ fn make_table<H: OutDisk + AllocGlobal + Clock + Threads + Sync, O: Write, E: Wr
         (O.contents output.new) }
     ensures refused { result ≡ REFUSED → IsBadWindow table.now.after table.now.until table.now.by
         (O.contents output.old) (O.contents output.new) }
-    ensures cut { (result ≡ INPUT_OUTPUT) ⊎ (result ≡ OUT_OF_MEMORY) → IsCutShort table.now request.entry.out.now
-        (O.contents output.old) (O.contents output.new) }
-    ensures silent { request.entry.out.now ≢ codes "-" → result ≡ OUT_OF_MEMORY
-        → O.contents output.new ≡ O.contents output.old }
+    ensures cut { result ≡ INPUT_OUTPUT → IsCutShort table.now request.entry.out.now (O.contents output.old)
+        (O.contents output.new) }
+    ensures spent { result ≡ OUT_OF_MEMORY → (O.contents output.new ≡ O.contents output.old)
+        ⊎ (HasWindow table.now × IsSpent table.now request.entry.out.now (O.contents output.old)
+        (O.contents output.new)) }
 {
     if !table.has_window() {
         return refuse_window(rt.alloc(), table, output, errors);
@@ -255,11 +256,10 @@ fn write_asked<H: OutDisk + AllocGlobal + Clock + Threads + Sync, O: Write, E: W
     ensures shown { result ≡ ACCEPTED
         → IsTableShown (H.files rt.now) table.now request.entry.out.now (O.contents output.old)
         (O.contents output.new) }
-    ensures cut { (result ≡ INPUT_OUTPUT) ⊎ (result ≡ OUT_OF_MEMORY)
-        → (O.contents output.new ≡ O.contents output.old)
+    ensures cut { result ≡ INPUT_OUTPUT → (O.contents output.new ≡ O.contents output.old)
         ⊎ IsShownInPart table.now request.entry.out.now (O.contents output.old) (O.contents output.new) }
-    ensures silent { request.entry.out.now ≢ codes "-" → result ≡ OUT_OF_MEMORY
-        → O.contents output.new ≡ O.contents output.old }
+    ensures spent { result ≡ OUT_OF_MEMORY → IsSpent table.now request.entry.out.now (O.contents output.old)
+        (O.contents output.new) }
 {
     let log = if request.progress || is_terminal {
         Some(&mut *errors)

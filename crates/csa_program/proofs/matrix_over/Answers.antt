@@ -8,7 +8,7 @@ returns-in-Ok g c =
     let input = g.I.Read.remaining c.args.input.now in
     let run_result = c.run.ensures in
     table_over may_hold (g.H.OutDisk.files c.args.rt.now) input c.args.request _ _ c.in-Ok.image _ _ c.in-Ok.ensures.image c.in-Ok.ensures.silent
-    run_result.status run_result.printed run_result.refused run_result.unlisted run_result.cut run_result.silent
+    run_result.status run_result.printed run_result.refused run_result.unlisted run_result.cut run_result.spent
 
 pub returns-in-Err : goal.returns-in-Err
 returns-in-Err g c =

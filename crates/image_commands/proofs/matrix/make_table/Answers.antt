@@ -1,5 +1,5 @@
-use Rattle.std.proofs.Common.{rules}
-use Rattle.image_commands.proofs.MatrixLemmas.{can_be_made, cut_refusal, cut_table}
+use Rattle.std.proofs.Common.{inl, inr, rules}
+use Rattle.image_commands.proofs.MatrixLemmas.{can_be_made, cut_table}
 use Rattle.image_commands.proofs.matrix.make_table.Goals as goal
 
 pub write_asked-requires : goal.write_asked-requires
@@ -9,8 +9,10 @@ write_asked-requires g c = (
 )
 
 pub returns-then-not-has_window-clause-cut : goal.returns-then-not-has_window-clause-cut
-returns-then-not-has_window-clause-cut g c =
-    cut_refusal _ c.args.table.now _ _ _ c.if-not-has_window.ensures c.refuse_window.ensures.begun c.refuse_window.ensures.silent
+returns-then-not-has_window-clause-cut g c = λ is. inr (inl (c.if-not-has_window.ensures, c.refuse_window.ensures.begun is))
 
 pub returns-clause-cut : goal.returns-clause-cut
-returns-clause-cut g c = λ ends. cut_table c.args.table.now _ _ _ c.if-not-has_window.ensures (c.write_asked.ensures.cut ends)
+returns-clause-cut g c = λ is. cut_table c.args.table.now _ _ _ c.if-not-has_window.ensures (c.write_asked.ensures.cut is)
+
+pub returns-clause-spent : goal.returns-clause-spent
+returns-clause-spent g c = λ is. inr (c.if-not-has_window.ensures, c.write_asked.ensures.spent is)

@@ -1,6 +1,6 @@
 use Rattle.std.proofs.Common.{◌∙◌, inl, inr, refl}
 use Rattle.image_commands.specs.Matrices.{IsTableOf}
-use Rattle.image_commands.proofs.MatrixLemmas.{ends_asked, sources_are_within, table_asked, targets_are_within, unasked_table}
+use Rattle.image_commands.proofs.MatrixLemmas.{ends_asked, sources_are_within, spent_table, table_asked, targets_are_within, unasked_table}
 use Rattle.image_commands.proofs.matrix.run.Given as given
 use Rattle.image_commands.proofs.matrix.run.Goals.{After-table_of-table}
 use Rattle.image_commands.proofs.matrix.run.Goals as goal
@@ -38,6 +38,11 @@ pub returns-in-Ok-clause-cut : goal.returns-in-Ok-clause-cut
 returns-in-Ok-clause-cut g c = λ ends.
     inr (c.table_of-table.result, asked g (goal.at.returns-in-Ok-clause-cut g c).After-table_of-table, c.make_table.ensures.cut ends)
 
+pub returns-in-Ok-clause-spent : goal.returns-in-Ok-clause-spent
+returns-in-Ok-clause-spent g c = λ is.
+    spent_table (g.H.ImageDisk.may_hold c.args.rt.now) c.args.image.now c.args.request c.table_of-table.result _ _
+    (asked g (goal.at.returns-in-Ok-clause-spent g c).After-table_of-table) (c.make_table.ensures.spent is)
+
 pub returns-in-Err-clause-status : goal.returns-in-Err-clause-status
 returns-in-Err-clause-status g c =
     (unasked_table (g.H.ImageDisk.may_hold c.args.rt.now) c.args.request c.args.image.now _ c.in-Err.ensures.status).0
@@ -53,4 +58,7 @@ pub returns-in-Err-clause-unlisted : goal.returns-in-Err-clause-unlisted
 returns-in-Err-clause-unlisted g c = λ is. (c.in-Err.ensures.status.bad is, refl)
 
 pub returns-in-Err-clause-cut : goal.returns-in-Err-clause-cut
-returns-in-Err-clause-cut g c = λ ends. inl refl
+returns-in-Err-clause-cut g c = λ is. inl refl
+
+pub returns-in-Err-clause-spent : goal.returns-in-Err-clause-spent
+returns-in-Err-clause-spent g c = λ is. inl refl
