@@ -1,6 +1,6 @@
 -- The points that others don't better, pushed one by one.
 use Rattle.std.proofs.Common.{◌≡◌, ℕ, ◌+◌, ◌-◌, ◌<◌, ◌≤◌, not, List, [], ◌∷◌, ◌++◌, length, take, drop, get_or}
-use Rattle.std.proofs.Common.{Contains, sym, ◌∙◌, ap, ap₂, arith, append_assoc, length-drop}
+use Rattle.std.proofs.Common.{Contains, sym, ◌∙◌, ap, ap₂, arith, append_assoc, length-drop, Result, Ok, Err, IsErrAnd, MatchResult}
 use Rattle.std.proofs.lemmas.List.{take_more, get_or-drop, get_or-take, get_or_append_left, length-take-le}
 use Rattle.std.proofs.lemmas.List.Elements.{filter-append}
 use Rattle.criteria.specs.Laws.{Rules}
@@ -11,6 +11,11 @@ use Rattle.fronts.specs.Entries.{AreEntries}
 use Rattle.fronts.specs.Putting.{betters, left_by}
 use Rattle.fronts.proofs.Growth.{front_more, same_part}
 use Rattle.fronts.proofs.Points.{front_at}
+
+-- what is said of an error, at the exit of a `?`
+pub match_err : {T E Q : Type 0} (P : T → Type 0) (F : E → Type 0) (r : Result T E) → IsErrAnd r F → Q → MatchResult r P (λ _. Q)
+match_err P F (Ok x) h q = absurd h
+match_err P F (Err e) h q = q
 
 -- an item that is read among those that came after it
 pub item_read : {X : Type 0} (old now : List X) (k : ℕ) (x : X) → Extends old now → k < length old → x ≡ get_or now k x → get_or old k x ≡ x

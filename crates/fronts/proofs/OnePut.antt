@@ -1,7 +1,7 @@
 -- A front put before a list.
 use Rattle.std.proofs.Common.{◌≡◌, ◌⊎◌, ℕ, ◌+◌, ◌<◌, ◌≤◌, true, false, not, List, [], ◌∷◌, ◌++◌, length, take, drop}
 use Rattle.std.proofs.Common.{get_or, Contains, inl, inr, refl, sym, ◌∙◌, ap, subst, arith, cond, ◌||◌}
-use Rattle.std.proofs.Common.{length-append, append-nil, append_assoc}
+use Rattle.std.proofs.Common.{length-append, append-nil, append_assoc, Result, Ok, Err, IfOk, MatchResult}
 use Rattle.std.proofs.lemmas.Bool.{cases_Bool, true≢false}
 use Rattle.std.proofs.lemmas.List.{length_push, drop_at, take_all}
 use Rattle.std.proofs.lemmas.List.Elements.{Contains-append_left, Contains-append_right, Contains-append_cases}
@@ -12,7 +12,7 @@ use Rattle.fronts.specs.declared.entry.FrontEntry.{FrontEntry}
 use Rattle.fronts.specs.Front.{own, front, next_in, next_of, departure_in, departure_of, points_from, Betters, Extends}
 use Rattle.fronts.specs.Entries.{IsLinked, AreEntries, AreMore}
 use Rattle.fronts.specs.Labels.{SaysTotal}
-use Rattle.fronts.specs.Putting.{betters, outdoes_alone, left_by, MayPut, IsUnion, IsJoined, Follows}
+use Rattle.fronts.specs.Putting.{betters, outdoes_alone, left_by, MayPut, IsPut, IsUnion, IsJoined, Follows}
 use Rattle.fronts.proofs.Growth.{same_points}
 use Rattle.fronts.proofs.Points.{of_front, of_next, front_or_next, unrolled, next_within, departs_at, next_at, first_betters, rest_betters}
 use Rattle.fronts.proofs.Pushing.{front_new, pushed}
@@ -236,12 +236,18 @@ follows_at entries m departure after e lt is f =
     subst (λ d. Follows d (next_of entries m) m departure after) (sym (departs_at entries m e lt is))
     (subst (λ n. Follows e.departure n m departure after) (sym (next_at entries m e lt is)) f)
 
--- what a list is, with a front put before it
-pub record IsPut {V : Type 0} (rules : Rules V) (old now : List (FrontEntry V)) (items more : List (Item V))
-    (departure m : ℕ) (points : List (Item V)) (index : ℕ) : Type 0 where
-  pub more_are : AreMore rules old items now more
-  pub departs : departure_of now index ≡ departure
-  pub joined : IsJoined rules points (points_from old items m) now more index
+module _ {V E : Type 0} (rules : Rules V) (old now : List (FrontEntry V)) (items more : List (Item V)) (departure m : ℕ)
+    (points : List (Item V)) where
+  pub put_more : (result : Result ℕ E) → MatchResult result (IsPut rules old now items more departure m points)
+      (λ _. AreMore rules old items now more) → AreMore rules old items now more
+  put_more (Ok head) put = put.joined.more_are
+  put_more (Err e) put = put
+
+  pub put_joined : (result : Result ℕ E) → MatchResult result (IsPut rules old now items more departure m points)
+      (λ _. AreMore rules old items now more)
+      → IfOk result (IsJoined rules points (points_from old items m) old now items more)
+  put_joined (Ok head) put = put.joined
+  put_joined (Err e) put = tt
 
 is_put : {V : Type 0} (rules : Rules V) (laws : Laws rules) (entries : List (FrontEntry V)) (items more : List (Item V))
     (departure m : ℕ) (points : List (Item V)) (may : MayPut rules entries items departure m points)
@@ -255,13 +261,13 @@ is_put : {V : Type 0} (rules : Rules V) (laws : Laws rules) (entries : List (Fro
 is_put {V} rules laws entries items more departure m points may e first departs f filled part room alone now index pushed_is index_is =
     subst (λ n. IsPut rules entries now items more departure m points n) (sym index_is)
     (subst (λ (es : List (FrontEntry V)). IsPut rules entries es items more departure m points (length entries)) (sym pushed_is) (record {
-      more_are = record {
-        sound = put_are rules laws entries items more may.sound departure m points may e first departs f filled part room alone;
-        entries_more = (e ∷ [], refl);
-        items_more = (_, filled);
-      };
       departs = put_departs rules laws entries items more may.sound departure m points may e first departs f filled part room alone;
       joined = record {
+        more_are = record {
+          sound = put_are rules laws entries items more may.sound departure m points may e first departs f filled part room alone;
+          entries_more = (e ∷ [], refl);
+          items_more = (_, filled);
+        };
         within = put_within rules laws entries items more may.sound departure m points may e first departs f filled part room alone;
         union = put_union rules laws entries items more may.sound departure m points may e first departs f filled part room alone;
       };

@@ -19,10 +19,6 @@ pub record LeadsTo {V : Type 0} (entries : List (FrontEntry V)) (items : List (I
   pub only : (p : Item V) → Contains (points_from entries items m) p → Contains (points_from entries items head) p
   pub all : (p : Item V) → Contains (points_from entries items head) p → time ≤ p.departure → Contains (points_from entries items m) p
 
-pub leads_here : {V : Type 0} (entries : List (FrontEntry V)) (items : List (Item V)) (head time : ℕ) → head < length entries
-    → LeadsTo entries items head time head
-leads_here entries items head time lt = record { within = lt; only = λ p h. h; all = λ p h late. h }
-
 pub departs_at : {V : Type 0} (entries : List (FrontEntry V)) (m : ℕ) (e : FrontEntry V) → m < length entries
     → e ≡ get_or entries m e → departure_of entries m ≡ e.departure
 departs_at entries m e lt is = ap departure_in (slice_get-get_or entries m e lt ∙ ap Some (sym is))
@@ -92,12 +88,6 @@ module _ {V : Type 0} (rules : Rules V) (entries : List (FrontEntry V)) (items :
       → ((m : ℕ) (p : Item V) → 0 < next_of entries m → P (next_of entries m) p → P m p)
       → (m : ℕ) (p : Item V) → Contains (points_from entries items m) p → P m p
   along P here on m p h = along_to P here on m m (omega arith) p h
-
-  -- a list's points depart no earlier than its first entry
-  pub points_late : (m : ℕ) (p : Item V) → Contains (points_from entries items m) p → departure_of entries m ≤ p.departure
-  points_late =
-      along (λ m p. departure_of entries m ≤ p.departure) (λ m p h. (are.each m).late p h)
-      (λ m p some le. let lt = (are.each m).rises some in omega arith)
 
   pub points_admitted : (m : ℕ) (p : Item V) → Contains (points_from entries items m) p → Admits rules p.value
   points_admitted = along (λ m p. Admits rules p.value) (λ m p h. (are.each m).admitted p h) (λ m p some a. a)

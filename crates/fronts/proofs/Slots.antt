@@ -1,6 +1,6 @@
 -- The label in a trip's slot, and labels in slots or in runs.
 use Rattle.std.proofs.Common.{◌≡◌, ℕ, zero, suc, ◌+◌, ◌<◌, Bool, true, false, cond, not, nat_eq, List, [], ◌∷◌, ◌++◌, length, take, drop, set, Contains}
-use Rattle.std.proofs.Common.{inl, inr, refl, sym, ◌∙◌, ap, subst, arith}
+use Rattle.std.proofs.Common.{inl, inr, refl, sym, ◌∙◌, ap, subst, arith, Result, Ok, Err, IfOk, OnErr, MatchResult}
 use Rattle.std.specs.Prelude.{Option, Some, None, slice_get, replicate}
 use Rattle.std.proofs.lemmas.Bool.{cases_eq, cases_lt, eq-eqb, false≢true, ne_eqb}
 use Rattle.std.proofs.lemmas.Option.{slice_get_past}
@@ -33,6 +33,16 @@ module _ {V : Type 0} (slots others : List (Label V)) (trip : ℕ) where
   pub none_there : ((slot : Label V) → slice_get slots trip ≡ Some slot → label_in slot ≡ []) → others ≡ []
       → slot_or (slice_get slots trip) others ≡ []
   none_there empty none = empty_by (slice_get slots trip) refl empty none
+
+-- an offer that is taken, or lost
+module _ {T E : Type 0} (P : T → Type 0) (Q : Type 0) where
+  pub taken_of : (r : Result T E) → MatchResult r P (λ _. Q) → IfOk r P
+  taken_of (Ok x) h = h
+  taken_of (Err e) h = tt
+
+  pub lost_of : (r : Result T E) → MatchResult r P (λ _. Q) → OnErr r Q
+  lost_of (Ok x) h = tt
+  lost_of (Err e) h = h
 
 -- what a criterion answers is what it says
 pub says : {answer said : Bool} → answer ≡ said → answer ≡ true → said ≡ true

@@ -1,12 +1,12 @@
 -- What a search in a list finds, and what putting a front before a list makes of its points.
-use Rattle.std.specs.Prelude.{◌≡◌, ◌⊎◌, ℕ, ◌<◌, ◌≤◌, List, [], ◌∷◌, Bool, true, false, not, filter}
-use Rattle.std.specs.Prelude.{Contains, length}
+use Rattle.std.specs.Prelude.{◌≡◌, ◌⊎◌, ℕ, ◌<◌, ◌≤◌, List, [], ◌∷◌, ◌++◌, Bool, true, false, not, filter}
+use Rattle.std.specs.Prelude.{Contains, length, Result, MatchResult}
 use Rattle.std.specs.List.{list_any}
 use Rattle.criteria.specs.Laws.{Rules, Admits}
 use Rattle.fronts.specs.declared.entry.Item.{Item}
 use Rattle.fronts.specs.declared.entry.FrontEntry.{FrontEntry}
-use Rattle.fronts.specs.Front.{front, next_of, departure_of, points_from, Covers}
-use Rattle.fronts.specs.Entries.{AreEntries}
+use Rattle.fronts.specs.Front.{front, next_of, departure_of, points_from, Covers, Extends}
+use Rattle.fronts.specs.Entries.{AreEntries, AreMore}
 use Rattle.fronts.specs.Labels.{SaysTotal}
 
 -- whether a point of a list is no worse than v (an equal one counts)
@@ -22,6 +22,10 @@ outdoes_alone rules v (p ∷ q ∷ points) = false
 -- the points of a list that `points` don't better
 abbrev pub left_by : {V : Type 0} → Rules V → List (Item V) → List (Item V) → List (Item V)
 left_by rules points others = filter (λ p. not (betters rules points p.value)) others
+
+-- items are pushed: all of these, or if memory runs out only some items
+abbrev pub Pushes : {T E X : Type 0} → Result T E → List X → List X → List X → Type 0
+Pushes result old more new = MatchResult result (λ _. new ≡ old ++ more) (λ _. Extends old new)
 
 -- entry m of a list departs at a time or later, and all points of the list that depart then or later are on the list from there on
 pub record IsLate {V : Type 0} (entries : List (FrontEntry V)) (items : List (Item V)) (head time m : ℕ) : Type 0 where
@@ -71,11 +75,24 @@ pub record IsUnion {V : Type 0} (rules : Rules V) (a b new : List (Item V)) : Ty
   pub kept_first : CoversAll rules a new
   pub kept_second : CoversAll rules b new
 
--- the list that begins at an entry is
-pub record IsJoined {V : Type 0} (rules : Rules V) (a b : List (Item V)) (entries : List (FrontEntry V)) (items : List (Item V))
-    (head : ℕ) : Type 0 where
-  pub within : head < length entries
-  pub union : IsUnion rules a b (points_from entries items head)
+-- entries and items are added, and the list that begins at `head` is made of two sets of points
+pub record IsJoined {V : Type 0} (rules : Rules V) (a b : List (Item V)) (old now : List (FrontEntry V))
+    (items more : List (Item V)) (head : ℕ) : Type 0 where
+  pub more_are : AreMore rules old items now more
+  pub within : head < length now
+  pub union : IsUnion rules a b (points_from now more head)
+
+-- a front is put before the list from entry m on: the new list begins at `index`, with these points of one departure
+pub record IsPut {V : Type 0} (rules : Rules V) (old now : List (FrontEntry V)) (items more : List (Item V))
+    (departure m : ℕ) (points : List (Item V)) (index : ℕ) : Type 0 where
+  pub departs : departure_of now index ≡ departure
+  pub joined : IsJoined rules points (points_from old items m) old now items more index
+
+-- the list from `head` on has what entry `from`'s list and that from `index` on had, and begins no earlier than `from`
+pub record HasJoined {V : Type 0} (rules : Rules V) (old now : List (FrontEntry V)) (items more : List (Item V))
+    (from index head : ℕ) : Type 0 where
+  pub late : departure_of old from ≤ departure_of now head
+  pub joined : IsJoined rules (points_from old items from) (points_from old items index) old now items more head
 
 -- the front of entry `from` may be put before the list from a later entry on, which covers what follows `from` on its own list
 pub record MayJoin {V : Type 0} (rules : Rules V) (entries : List (FrontEntry V)) (items : List (Item V)) (from index : ℕ)

@@ -1,5 +1,5 @@
 -- Labels of many trips, each trip's in a run.
-use Rattle.std.specs.Prelude.{◌≡◌, ◌⊎◌, ℕ, ◌+◌, ◌<◌, ◌≤◌, List, take, drop, length, slice_index_or, Contains}
+use Rattle.std.specs.Prelude.{◌≡◌, ◌⊎◌, ℕ, ◌+◌, ◌<◌, ◌≤◌, List, [], take, drop, length, slice_index_or, Contains}
 use Rattle.reasoning.specs.Lists.{Extends}
 use Rattle.criteria.specs.Laws.{Rules, Admits}
 use Rattle.fronts.specs.declared.labels.Label.{Label}
@@ -38,6 +38,17 @@ pub record AreRuns (runs : List LabelRun) (size : ℕ) : Type 0 where
 pub record AreRunLabels {V : Type 0} (rules : Rules V) (labels : RunLabels V) : Type 0 where
   pub runs : AreRuns labels.runs.items (length labels.labels.items)
   pub admitted : (l : Label V) → Contains labels.labels.items l → Admits rules l.value
+
+-- there are as many runs as before, and the labels are as `AreRunLabels` says
+pub record AreStillRuns {V : Type 0} (rules : Rules V) (old new : RunLabels V) : Type 0 where
+  pub sound : AreRunLabels rules new
+  pub long : length (runs_of new) ≡ length (runs_of old)
+
+-- this many trips have no labels yet
+pub record HaveNone {V : Type 0} (trips : ℕ) (labels : RunLabels V) : Type 0 where
+  pub long : length (runs_of labels) ≡ trips
+  pub sound : (rules : Rules V) → AreRunLabels rules labels
+  pub none : (trip : ℕ) → run_labels labels trip ≡ []
 
 -- the new labels are in a run, and those of other runs where they were; what was in the room of the old run may be gone
 pub record ArePut {V : Type 0} (old : List (Label V)) (run : LabelRun) (new : List (Label V)) (placed : LabelRun)

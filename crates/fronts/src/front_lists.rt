@@ -8,6 +8,9 @@ use bags::Point;
 use criteria::Criterion;
 use std::alloc::{AllocError, Global};
 
+// There is room from the start for an entry and a step for each so many connections that are expected.
+const ROOM_SHARE: usize = 4;
+
 /// Lists of points under a criterion. A list is named by its head, the index of its first entry; 0 names the empty
 /// list.
 ///
@@ -31,11 +34,13 @@ impl<C: Criterion> FrontLists<C> {
     ghost use Rattle.fronts.specs.Lists.{entries_of, steps_of, front_at};
     ghost use Rattle.fronts.specs.Lists.{HasList, IsEmptyAlone, IsFrontFrom, MayTake, AreMoreLists, HasTaken};
 
-    /// Makes the empty list, and no other.
-    pub fn new(alloc: Global, criterion: C) -> Result<Self, AllocError>
+    /// Makes the empty list, and no other, with room for what a scan of `expected` connections mostly adds.
+    pub fn new(alloc: Global, criterion: C, expected: usize) -> Result<Self, AllocError>
         ensures { IfOk result (IsEmptyAlone C.rules criterion) }
     {
-        let mut entries = Vec::new(alloc);
+        let room = expected / ROOM_SHARE;
+        let steps = Vec::with_capacity(alloc, room)?;
+        let mut entries = Vec::with_capacity(alloc, room)?;
         entries.push(FrontEntry {
             departure: u32::MAX,
             next: 0,
@@ -48,7 +53,7 @@ impl<C: Criterion> FrontLists<C> {
             criterion,
             entries,
             items: Vec::new(alloc),
-            steps: Vec::new(alloc),
+            steps,
             passed: Vec::new(alloc),
             kept: Vec::new(alloc),
             alone: Vec::new(alloc),

@@ -1,9 +1,9 @@
 //! Insertions into a list, each of which makes a new list.
 
-ghost use Rattle.std.specs.Prelude.{◌<◌, ◌≤◌, length, IfOk};
-ghost use Rattle.fronts.specs.Front.{departure_of, points_from, Extends};
+ghost use Rattle.std.specs.Prelude.{◌<◌, ◌≤◌, length, IfOk, MatchResult};
+ghost use Rattle.fronts.specs.Front.{points_from, Extends};
 ghost use Rattle.fronts.specs.Entries.{AreMore};
-ghost use Rattle.fronts.specs.Putting.{IsJoined, MayJoin, MayJoinAll};
+ghost use Rattle.fronts.specs.Putting.{HasJoined, IsJoined, MayJoin, MayJoinAll};
 ghost use Rattle.fronts.specs.Walking.{MayInsert, TakesBoardings};
 ghost use Rattle.fronts.specs.Labels.{SaysTotal};
 
@@ -27,11 +27,10 @@ fn join_one<C: Criterion>(
     index: u32,
 ) -> Result<u32, AllocError>
     requires may { MayJoin (C.rules criterion.now) entries.old.items items.old.items from index }
-    ensures more { AreMore (C.rules criterion.now) entries.old.items items.old.items entries.new.items items.new.items }
-    ensures late { IfOk result (λ new. departure_of entries.old.items from ≤ departure_of entries.new.items new) }
-    ensures joined { IfOk result (IsJoined (C.rules criterion.now)
-        (points_from entries.old.items items.old.items from) (points_from entries.old.items items.old.items index)
-        entries.new.items items.new.items) }
+    ensures { MatchResult result
+        (HasJoined (C.rules criterion.now) entries.old.items entries.new.items items.old.items items.new.items from
+        index)
+        (λ _. AreMore (C.rules criterion.now) entries.old.items items.old.items entries.new.items items.new.items) }
 {
     keep_front(criterion, Arena { entries, items }, from, index, kept)?;
     if kept.len() == 0 {
@@ -57,10 +56,11 @@ fn join<C: Criterion>(
 ) -> Result<u32, AllocError>
     requires may { MayJoinAll (C.rules criterion.now) entries.old.items items.old.items head passed.old.items after
         index }
-    ensures more { AreMore (C.rules criterion.now) entries.old.items items.old.items entries.new.items items.new.items }
-    ensures joined { IfOk result (IsJoined (C.rules criterion.now)
-        (points_from entries.old.items items.old.items head) (points_from entries.old.items items.old.items index)
-        entries.new.items items.new.items) }
+    ensures { MatchResult result
+        (IsJoined (C.rules criterion.now) (points_from entries.old.items items.old.items head)
+        (points_from entries.old.items items.old.items index) entries.old.items entries.new.items items.old.items
+        items.new.items)
+        (λ _. AreMore (C.rules criterion.now) entries.old.items items.old.items entries.new.items items.new.items) }
 {
     let mut new = index;
     while let Some(from) = passed.pop() {

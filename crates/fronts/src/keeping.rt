@@ -1,6 +1,6 @@
 //! Points kept for a front that is to be put before a list.
 
-ghost use Rattle.std.specs.Prelude.{◌≡◌, ◌++◌, ◌∷◌, [], OnOk};
+ghost use Rattle.std.specs.Prelude.{◌≡◌, ◌++◌, ◌∷◌, [], OnOk, MatchResult};
 ghost use Rattle.criteria.specs.Laws.{Admits};
 ghost use Rattle.fronts.specs.Front.{front, Extends};
 ghost use Rattle.fronts.specs.Entries.{HasEntry};
@@ -74,9 +74,9 @@ fn keep_value<V: Copy>(
     value: V,
     step: Step,
 ) -> Result<(), AllocError>
-    ensures more { Extends steps.old.items steps.new.items }
-    ensures keeps { OnOk result (IsKept steps.old.items kept.old.items departure value step steps.new.items
-        kept.new.items) }
+    ensures { MatchResult result
+        (λ _. IsKept steps.old.items kept.old.items departure value step steps.new.items kept.new.items)
+        (λ _. Extends steps.old.items steps.new.items) }
 {
     let tag = index_of(steps.len())?;
     steps.push(step)?;
@@ -101,10 +101,10 @@ pub fn keep_walked<C: Criterion>(
     ridden: &[RiddenLabel<C::V>],
 ) -> Result<(), AllocError>
     requires may { MayInsert (C.rules criterion.now) arena.entries.now arena.items.now index boarding.secs ridden.now }
-    ensures more { Extends steps.old.items steps.new.items }
-    ensures kept { OnOk result (AreKept (C.rules criterion.now)
-        (front arena.entry.entries.now arena.entry.items.now index) steps.new.items boarding ridden.now
-        kept.new.items) }
+    ensures { MatchResult result
+        (λ _. Extends steps.old.items steps.new.items × AreKept (C.rules criterion.now)
+        (front arena.entry.entries.now arena.entry.items.now index) steps.new.items boarding ridden.now kept.new.items)
+        (λ _. Extends steps.old.items steps.new.items) }
 {
     kept.clear();
     for i in 0..ridden.len() {

@@ -1,11 +1,11 @@
 //! Fronts put before lists.
 
-ghost use Rattle.std.specs.Prelude.{◌≡◌, ◌+◌, ◌++◌, ◌∷◌, [], ℕ, ◌<◌, ◌≤◌, take, drop, length, true};
-ghost use Rattle.std.specs.Prelude.{Contains, IfOk, OnOk, OnErr};
+ghost use Rattle.std.specs.Prelude.{◌≡◌, ◌∷◌, [], ◌<◌, ◌≤◌, drop, length, true};
+ghost use Rattle.std.specs.Prelude.{Contains, MatchResult};
 ghost use Rattle.criteria.specs.Laws.{Admits};
-ghost use Rattle.fronts.specs.Front.{front, departure_of, points_from, Extends};
+ghost use Rattle.fronts.specs.Front.{front};
 ghost use Rattle.fronts.specs.Entries.{HasEntry, AreMore};
-ghost use Rattle.fronts.specs.Putting.{Follows, left_by, outdoes_alone, MayPut, IsJoined};
+ghost use Rattle.fronts.specs.Putting.{Follows, left_by, outdoes_alone, MayPut, IsPut, Pushes};
 
 use crate::entry::{FrontEntry, Item};
 use crate::valued::some_no_worse;
@@ -14,8 +14,7 @@ use std::alloc::AllocError;
 
 /// Returns a length as a 32-bit index. Past 2^32 - 1 it fails, as if memory had run out.
 pub fn index_of(len: usize) -> Result<u32, AllocError>
-    ensures index { IfOk result (λ index. index ≡ len) }
-    ensures full { OnErr result (4294967295 < len) }
+    ensures { MatchResult result (λ index. index ≡ len) (λ _. 4294967295 < len) }
 {
     if len > u32::MAX as usize {
         return Err(AllocError);
@@ -33,37 +32,10 @@ fn leave<C: Criterion>(
 ) -> Result<(), AllocError>
     requires points { (p : _) → Contains points.now p → Admits (C.rules criterion.now) p.value }
     requires point { Admits (C.rules criterion.now) point.value }
-    ensures extends { Extends items.old.items items.new.items }
-    ensures left { OnOk result (items.new.items ≡ items.old.items
-        ++ left_by (C.rules criterion.now) points.now (point ∷ [])) }
+    ensures { Pushes result items.old.items (left_by (C.rules criterion.now) points.now (point ∷ [])) items.new.items }
 {
     if !some_no_worse(criterion, points, &point.value) {
         items.push(point)?;
-    }
-    Ok(())
-}
-
-// Pushes each of the `count` items from index `rest` on, unless one of `points` is no worse.
-#[inline(always)]
-fn leave_part<C: Criterion>(
-    criterion: &C,
-    items: &mut Vec<Item<C::V>>,
-    points: &[Item<C::V>],
-    rest: u32,
-    count: u32,
-) -> Result<(), AllocError>
-    requires part { rest + count ≤ length items.old.items }
-    requires points { (p : _) → Contains points.now p → Admits (C.rules criterion.now) p.value }
-    requires items { (p : _) → Contains (take count (drop rest items.old.items)) p
-        → Admits (C.rules criterion.now) p.value }
-    ensures extends { Extends items.old.items items.new.items }
-    ensures left { OnOk result (items.new.items ≡ items.old.items
-        ++ left_by (C.rules criterion.now) points.now (take count (drop rest items.old.items))) }
-{
-    let begin = rest as usize;
-    for k in begin..begin + count as usize {
-        let item = items[k];
-        leave(criterion, items, points, item)?;
     }
     Ok(())
 }
@@ -79,9 +51,8 @@ fn leave_front<C: Criterion>(
 ) -> Result<(), AllocError>
     requires entry { HasEntry (C.rules criterion.now) entries.now items.old.items index }
     requires points { (p : _) → Contains points.now p → Admits (C.rules criterion.now) p.value }
-    ensures extends { Extends items.old.items items.new.items }
-    ensures left { OnOk result (items.new.items ≡ items.old.items
-        ++ left_by (C.rules criterion.now) points.now (front entries.now items.old.items index)) }
+    ensures { Pushes result items.old.items
+        (left_by (C.rules criterion.now) points.now (front entries.now items.old.items index)) items.new.items }
 {
     if index == 0 {
         return Ok(());
@@ -93,7 +64,11 @@ fn leave_front<C: Criterion>(
         tag: entry.tag,
     };
     leave(criterion, items, points, own)?;
-    leave_part(criterion, items, points, entry.rest, entry.count)?;
+    let begin = entry.rest as usize;
+    for k in begin..begin + entry.count as usize {
+        let item = items[k];
+        leave(criterion, items, points, item)?;
+    }
     Ok(())
 }
 
@@ -101,8 +76,7 @@ fn leave_front<C: Criterion>(
 #[inline(always)]
 fn push_others<V: Copy>(items: &mut Vec<Item<V>>, points: &[Item<V>]) -> Result<(), AllocError>
     requires some { 0 < length points.now }
-    ensures extends { Extends items.old.items items.new.items }
-    ensures pushed { OnOk result (items.new.items ≡ items.old.items ++ drop 1 points.now) }
+    ensures { Pushes result items.old.items (drop 1 points.now) items.new.items }
 {
     if points.len() > 1 {
         items.extend_from_slice(&points[1..])?;
@@ -135,10 +109,10 @@ pub fn put<C: Criterion>(
     departure: u32,
 ) -> Result<u32, AllocError>
     requires may { MayPut (C.rules criterion.now) entries.old.items items.old.items departure index points.now }
-    ensures more { AreMore (C.rules criterion.now) entries.old.items items.old.items entries.new.items items.new.items }
-    ensures departs { IfOk result (λ new. departure_of entries.new.items new ≡ departure) }
-    ensures joined { IfOk result (IsJoined (C.rules criterion.now) points.now
-        (points_from entries.old.items items.old.items index) entries.new.items items.new.items) }
+    ensures { MatchResult result
+        (IsPut (C.rules criterion.now) entries.old.items entries.new.items items.old.items items.new.items departure
+        index points.now)
+        (λ _. AreMore (C.rules criterion.now) entries.old.items items.old.items entries.new.items items.new.items) }
 {
     let new = index_of(entries.len())?;
     let rest = index_of(items.len())?;
@@ -172,9 +146,10 @@ pub fn put_alone<C: Criterion>(
     requires may { MayPut (C.rules criterion.now) entries.old.items items.now point.departure index (point ∷ []) }
     requires outdone { outdoes_alone (C.rules criterion.now) point.value (front entries.old.items items.now index)
         ≡ true }
-    ensures more { AreMore (C.rules criterion.now) entries.old.items items.now entries.new.items items.now }
-    ensures joined { IfOk result (IsJoined (C.rules criterion.now) (point ∷ [])
-        (points_from entries.old.items items.now index) entries.new.items items.now) }
+    ensures { MatchResult result
+        (IsPut (C.rules criterion.now) entries.old.items entries.new.items items.now items.now point.departure index
+        (point ∷ []))
+        (λ _. AreMore (C.rules criterion.now) entries.old.items items.now entries.new.items items.now) }
 {
     let new = index_of(entries.len())?;
     let next = follow(&entries[index as usize], index, point.departure);

@@ -4,17 +4,17 @@
 //! their number. So what a trip has left behind is no more than its run's `room`, and both together are fewer than four
 //! times the most labels that the trip had at once.
 
-ghost use Rattle.std.specs.Prelude.{◌≡◌, ◌+◌, ◌++◌, [], ℕ, ◌<◌, ◌≤◌, take, drop, length};
-ghost use Rattle.std.specs.Prelude.{Contains, IfOk, OnOk, OnErr};
+ghost use Rattle.std.specs.Prelude.{◌≡◌, ◌+◌, ◌++◌, ◌<◌, ◌≤◌, take, drop, length};
+ghost use Rattle.std.specs.Prelude.{Contains, OnOk, MatchResult};
 ghost use Rattle.criteria.specs.Laws.{Rules, Admits};
 ghost use Rattle.fronts.specs.declared.labels.Label.{Label};
 ghost use Rattle.fronts.specs.declared.run_labels.LabelRun.{LabelRun};
 ghost use Rattle.fronts.specs.Offered.{TakesOffer, LosesOffer, others};
-ghost use Rattle.fronts.specs.RunLabels.{AreRunLabels, ArePut, ArePartlyPut, HasRun, labels_in};
-ghost use Rattle.fronts.specs.RunLabels.{run_labels, runs_of};
+ghost use Rattle.fronts.specs.RunLabels.{AreStillRuns, ArePut, ArePartlyPut, HasRun, run_labels};
 
 use crate::labels::Label;
 use crate::putting::index_of;
+use crate::search::part;
 use crate::valued::some_no_worse;
 use criteria::Criterion;
 use std::alloc::{AllocError, Global};
@@ -37,15 +37,13 @@ pub struct RunLabels<V> {
 }
 
 impl<V: Copy> RunLabels<V> {
-    ghost use Rattle.std.specs.Prelude.{◌≡◌, [], ℕ, IfOk, length};
+    ghost use Rattle.std.specs.Prelude.{◌≡◌, IfOk, length};
     ghost use Rattle.criteria.specs.Laws.{Rules};
-    ghost use Rattle.fronts.specs.RunLabels.{AreRunLabels, HasRun, run_labels, runs_of};
+    ghost use Rattle.fronts.specs.RunLabels.{HasRun, HaveNone, run_labels};
 
     /// Makes the labels of `trips` trips: each trip has none yet.
     pub fn new(alloc: Global, trips: u32) -> Result<Self, AllocError>
-        ensures long { IfOk result (λ labels. length (runs_of labels) ≡ trips) }
-        ensures labels { IfOk result (λ labels. (rules : Rules _) → AreRunLabels rules labels) }
-        ensures none { IfOk result (λ labels. (trip : ℕ) → run_labels labels trip ≡ []) }
+        ensures { IfOk result (HaveNone trips) }
     {
         let none = LabelRun {
             first: 0,
@@ -73,16 +71,9 @@ impl<V: Copy> RunLabels<V> {
         requires { (rules : Rules _) × HasRun rules self.now trip }
         ensures { result.now ≡ run_labels self.now trip }
     {
-        part(&self.labels, self.runs[trip as usize])
+        let run = self.runs[trip as usize];
+        part(&self.labels, run.first, run.count)
     }
-}
-
-// The labels of a run.
-fn part<V>(labels: &[Label<V>], run: LabelRun) -> &[Label<V>]
-    requires { run.first + run.count ≤ length labels.now }
-    ensures { result.now ≡ labels_in labels.now run }
-{
-    &labels[run.first as usize..run.first as usize + run.count as usize]
 }
 
 // Keeps each label unless `value` is no worse, instead of those kept before.
@@ -112,9 +103,8 @@ fn write_over<V: Copy>(labels: &mut Vec<Label<V>>, first: u32, new: &[Label<V>])
     ensures { labels.new.items ≡ take first labels.old.items
         ++ (new.now ++ drop (first + length new.now) labels.old.items) }
 {
-    for k in 0..new.len() {
-        labels[first as usize + k] = new[k];
-    }
+    let begin = first as usize;
+    labels[begin..begin + new.len()].copy_from_slice(new);
 }
 
 // Puts labels where a run is, if it has room for them, or else at the end, with room for nearly as many again. Returns
@@ -126,8 +116,8 @@ fn put<V: Copy>(
 ) -> Result<LabelRun, AllocError>
     requires some { 0 < length new.now }
     requires within { run.first + run.room ≤ length labels.old.items }
-    ensures put { IfOk result (λ placed. ArePut labels.old.items run new.now placed labels.new.items) }
-    ensures err { OnErr result (ArePartlyPut labels.old.items new.now labels.new.items) }
+    ensures { MatchResult result (λ placed. ArePut labels.old.items run new.now placed labels.new.items)
+        (λ _. ArePartlyPut labels.old.items new.now labels.new.items) }
 {
     let count = index_of(new.len())?;
     if count <= run.room {
@@ -153,23 +143,26 @@ pub fn offer_run<C: Criterion>(
 ) -> Result<bool, AllocError>
     requires trip { HasRun (C.rules criterion.now) labels.old trip }
     requires value { Admits (C.rules criterion.now) value }
-    ensures labels { AreRunLabels (C.rules criterion.now) labels.new }
-    ensures long { length (runs_of labels.new) ≡ length (runs_of labels.old) }
-    ensures taken { IfOk result (TakesOffer (C.rules criterion.now) trip (record {
-      value = value;
-      tag = tag;
-    }) (run_labels labels.old) (run_labels labels.new)) }
-    ensures err { OnErr result
-        (LosesOffer (C.rules criterion.now) trip value (run_labels labels.old) (run_labels labels.new)) }
+    ensures labels { AreStillRuns (C.rules criterion.now) labels.old labels.new }
+    ensures taken { MatchResult result
+        (TakesOffer (C.rules criterion.now) trip (record {
+          value = value;
+          tag = tag;
+        }) (run_labels labels.old) (run_labels labels.new))
+        (λ _. LosesOffer (C.rules criterion.now) trip value (run_labels labels.old) (run_labels labels.new)) }
 {
     let run = labels.runs[trip as usize];
-    if some_no_worse(criterion, part(&labels.labels, run), &value) {
+    if some_no_worse(
+        criterion,
+        part(&labels.labels, run.first, run.count),
+        &value,
+    ) {
         return Ok(false);
     }
     let tag = index_of(tag)?;
     keep_others(
         criterion,
-        part(&labels.labels, run),
+        part(&labels.labels, run.first, run.count),
         &value,
         &mut labels.kept,
     )?;

@@ -6,7 +6,7 @@ ghost use Rattle.fronts.specs.Front.{front, departure_of};
 ghost use Rattle.fronts.specs.Entries.{HasEntry};
 ghost use Rattle.fronts.specs.Putting.{betters, outdoes_alone, IsLate, ArePassed};
 
-use crate::entry::{Arena, Item};
+use crate::entry::Arena;
 use crate::valued::some_no_worse;
 use criteria::Criterion;
 use std::alloc::AllocError;
@@ -60,7 +60,7 @@ pub fn outdoes<C: Criterion>(
 }
 
 /// The `count` items from index `rest` on.
-pub fn part<V>(items: &[Item<V>], rest: u32, count: u32) -> &[Item<V>]
+pub fn part<T>(items: &[T], rest: u32, count: u32) -> &[T]
     requires { rest + count ≤ length items.now }
     ensures { result.now ≡ take count (drop rest items.now) }
 {

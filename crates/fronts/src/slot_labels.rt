@@ -2,10 +2,10 @@
 //!
 //! One label is enough if the criterion is total: of two labels the better one stays.
 
-ghost use Rattle.std.specs.Prelude.{◌≡◌, ◌<◌, ◌≤◌, length, IfOk, OnErr};
-ghost use Rattle.criteria.specs.Laws.{Admits, IsTotal};
+ghost use Rattle.std.specs.Prelude.{◌≡◌, ◌<◌, ◌≤◌, length, MatchResult};
+ghost use Rattle.criteria.specs.Laws.{Admits};
 ghost use Rattle.fronts.specs.Offered.{TakesOffer, LosesOffer, is_beaten};
-ghost use Rattle.fronts.specs.SlotLabels.{AreSlots, label_in, slot_label};
+ghost use Rattle.fronts.specs.SlotLabels.{AreStillSlots, HasSlot, label_in, slot_label};
 
 use crate::labels::Label;
 use crate::putting::index_of;
@@ -62,19 +62,15 @@ pub fn offer_slot<C: Criterion>(
     value: C::V,
     tag: usize,
 ) -> Result<bool, AllocError>
-    requires trip { trip < length slots.old.items }
-    requires total { IsTotal (C.rules criterion.now) }
-    requires slots { AreSlots (C.rules criterion.now) slots.old.items }
+    requires slot { HasSlot (C.rules criterion.now) slots.old.items trip }
     requires value { Admits (C.rules criterion.now) value }
-    ensures slots { AreSlots (C.rules criterion.now) slots.new.items }
-    ensures long { length slots.new.items ≡ length slots.old.items }
-    ensures taken { IfOk result
+    ensures slots { AreStillSlots (C.rules criterion.now) slots.old.items slots.new.items }
+    ensures taken { MatchResult result
         (TakesOffer (C.rules criterion.now) trip (record {
           value = value;
           tag = tag;
-        }) (slot_label slots.old.items) (slot_label slots.new.items)) }
-    ensures err { OnErr result
-        (LosesOffer (C.rules criterion.now) trip value (slot_label slots.old.items) (slot_label slots.new.items)) }
+        }) (slot_label slots.old.items) (slot_label slots.new.items))
+        (λ _. LosesOffer (C.rules criterion.now) trip value (slot_label slots.old.items) (slot_label slots.new.items)) }
 {
     let slot = slots[trip as usize];
     if beats(criterion, &slot, &value) {

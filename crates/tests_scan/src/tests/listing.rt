@@ -95,7 +95,7 @@ fn counts(lists: &FrontLists<ArrivalTrips>, head: u32) -> [usize; 4]
 
 #[test]
 fn a_list_stays_when_another_is_made_of_it(rt: HostRuntime) -> Result<(), AllocError> {
-    let mut lists = FrontLists::new(rt.alloc(), ArrivalTrips)?;
+    let mut lists = FrontLists::new(rt.alloc(), ArrivalTrips, 0)?;
     let late = take(&mut lists, 0, 36_000, 1, 40_000, 1)?;
     let both = take(&mut lists, late, 35_000, 2, 39_000, 2)?;
     let same = take(&mut lists, both, 35_000, 3, 41_000, 0)?;
@@ -111,7 +111,7 @@ fn a_list_stays_when_another_is_made_of_it(rt: HostRuntime) -> Result<(), AllocE
 fn a_value_behind_earlier_points_is_compared_with_later_ones_alone(
     rt: HostRuntime,
 ) -> Result<(), AllocError> {
-    let mut lists = FrontLists::new(rt.alloc(), ArrivalTrips)?;
+    let mut lists = FrontLists::new(rt.alloc(), ArrivalTrips, 0)?;
     let late = take(&mut lists, 0, 36_000, 1, 40_000, 1)?;
     let both = take(&mut lists, late, 34_000, 2, 39_000, 1)?;
     let same = take(&mut lists, both, 35_000, 3, 40_000, 1)?;
@@ -128,7 +128,7 @@ fn a_value_behind_earlier_points_is_compared_with_later_ones_alone(
 
 #[test]
 fn two_values_come_at_once(rt: HostRuntime) -> Result<(), AllocError> {
-    let mut lists = FrontLists::new(rt.alloc(), ArrivalTrips)?;
+    let mut lists = FrontLists::new(rt.alloc(), ArrivalTrips, 0)?;
     let one = take(&mut lists, 0, 36_000, 5, 40_000, 1)?;
     let early = TimeTrips {
         time: 39_000,
@@ -157,7 +157,7 @@ fn two_values_come_at_once(rt: HostRuntime) -> Result<(), AllocError> {
 // A list of one point, boarded by label 5.
 #[test]
 fn a_point_tells_its_step(rt: HostRuntime) -> Result<(), AllocError> {
-    let mut lists = FrontLists::new(rt.alloc(), ArrivalTrips)?;
+    let mut lists = FrontLists::new(rt.alloc(), ArrivalTrips, 0)?;
     let one = take(&mut lists, 0, 36_000, 5, 40_000, 1)?;
     let front = lists.front_from(one, 36_000);
     assert!(rt; lists.front_len(front) == 1);

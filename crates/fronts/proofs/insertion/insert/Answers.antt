@@ -33,7 +33,7 @@ known g c =
     c.args.boarding c.in_ok-after.after c.args.ridden.now c.keep_walked.new.steps.items c.keep_walked.new.kept.items
     c.deref.result.now c.deref-3.result.now c.deref-2.result.now c.deref-4.result.now c.deref.ensures.value
     c.deref-2.ensures.value c.deref-3.ensures.value c.deref-4.ensures.value c.requires.may c.requires.few
-    c.in_ok-after.ensures.late c.in_ok-keep_walked.ensures.kept
+    c.in_ok-after.ensures.late c.in_ok-keep_walked.ensures.1
 
 -- the entries that are passed, as they stand before the put
 path : (g : given.Over) (c : goal.In_ok-index g) → IsPath c.args.entries.now.items c.args.head c.pass.new.passed.items c.in_ok-after.after
@@ -74,7 +74,7 @@ join-requires g c =
     let entries = c.args.entries.now.items in
     let two = c.put.new.entries.items in
     let after = c.in_ok-after.after in
-    let more = c.in_ok-index.ensures.more in
+    let more = c.in_ok-index.ensures.joined.more_are in
     let here = (goal.at.join-requires g c).In_ok-index in
     let are = known g (goal.at.join-requires g c).In_ok-keep_walked in
     let grows = extends_long entries two more.entries_more in
@@ -100,25 +100,25 @@ pub returns-in_err-new-clause-more : goal.returns-in_err-new-clause-more
 returns-in_err-new-clause-more g c =
     still_more (g.C.Criterion.rules c.args.criterion.now) c.args.entries.now.items c.put.new.entries.items
     c.join.new.entries.items c.args.items.now.items c.put.new.items.items c.join.new.items.items
-    c.in_ok-index.ensures.more c.in_err-new.ensures.more
+    c.in_ok-index.ensures.joined.more_are c.in_err-new.ensures
 
 pub returns-clause-more : goal.returns-clause-more
 returns-clause-more g c =
     still_more (g.C.Criterion.rules c.args.criterion.now) c.args.entries.now.items c.put.new.entries.items
     c.join.new.entries.items c.args.items.now.items c.put.new.items.items c.join.new.items.items
-    c.in_ok-index.ensures.more c.in_ok-new.ensures.more
+    c.in_ok-index.ensures.joined.more_are c.in_ok-new.ensures.more_are
 
 pub returns-clause-takes : goal.returns-clause-takes
 returns-clause-takes g c =
-    let more = c.in_ok-index.ensures.more in (
-      c.in_ok-new.ensures.joined.within,
+    let more = c.in_ok-index.ensures.joined.more_are in (
+      c.in_ok-new.ensures.within,
       takes_all (g.C.Criterion.rules c.args.criterion.now) (g.met.C.Criterion.laws c.args.criterion.now)
           c.args.entries.now.items c.args.items.now.items c.args.head c.args.boarding c.in_ok-after.after c.args.ridden.now
           c.keep_walked.new.steps.items c.keep_walked.new.kept.items (known g (goal.at.returns-clause-takes g c).In_ok-keep_walked)
           c.put.new.entries.items c.put.new.items.items
           (points_from c.put.new.entries.items c.put.new.items.items c.in_ok-index.index)
           (points_from c.join.new.entries.items c.join.new.items.items c.in_ok-new.new) more.entries_more more.items_more
-          (union g (goal.at.returns-clause-takes g c).In_ok-index) c.in_ok-new.ensures.joined.union,
+          (union g (goal.at.returns-clause-takes g c).In_ok-index) c.in_ok-new.ensures.union,
     )
 
 pub returns-in_err-after-clause-more : goal.returns-in_err-after-clause-more

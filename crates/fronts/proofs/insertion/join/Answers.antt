@@ -7,6 +7,7 @@ use Rattle.fronts.specs.Front.{next_of, departure_of, points_from, Extends}
 use Rattle.fronts.specs.Entries.{AreEntries}
 use Rattle.fronts.specs.Putting.{IsPath, DepartBefore}
 use Rattle.fronts.proofs.Growth.{extends_long, same_departure, same_entries, still_more}
+use Rattle.fronts.proofs.Leaving.{match_err}
 use Rattle.fronts.proofs.Paths.{path_pop}
 use Rattle.fronts.proofs.Joining.{joined_on, joined_here, covers_on}
 use Rattle.fronts.proofs.insertion.join.Goals as goal
@@ -91,7 +92,7 @@ loop-from-preserved g c =
     let late = c.in_ok-new.ensures.late in
     record {
       more = still_more rules first mid last c.args.items.now.items c.loop-from.items.items c.join_one.new.items.items inv.more
-          c.in_ok-new.ensures.more;
+          c.in_ok-new.ensures.joined.more_are;
       within = c.in_ok-new.ensures.joined.within;
       early = λ x h. inv.early x (subst (λ bs. Contains bs x) (sym c.in-Some.ensures.items) (Contains-append_left c.pop.new.self.items (b ∷ []) x h));
       joined = (
@@ -106,11 +107,12 @@ loop-from-preserved g c =
       );
     }
 
-pub returns-in_err-new-clause-more : goal.returns-in_err-new-clause-more
-returns-in_err-new-clause-more g c =
-    still_more (g.C.Criterion.rules c.args.criterion.now) c.args.entries.now.items c.loop-from.entries.items
+pub returns-in_err-new : goal.returns-in_err-new
+returns-in_err-new g c =
+    match_err _ _ c.from_residual.result c.from_residual.ensures.1
+    (still_more (g.C.Criterion.rules c.args.criterion.now) c.args.entries.now.items c.loop-from.entries.items
     c.join_one.new.entries.items c.args.items.now.items c.loop-from.items.items c.join_one.new.items.items
-    c.loop-from.invariant.more c.in_err-new.ensures.more
+    c.loop-from.invariant.more c.in_err-new.ensures)
 
-pub returns-clause-joined : goal.returns-clause-joined
-returns-clause-joined g c = record { within = c.loop-from.invariant.within; union = search rules }
+pub returns : goal.returns
+returns g c = record { more_are = c.loop-from.invariant.more; within = c.loop-from.invariant.within; union = search rules }

@@ -6,6 +6,7 @@ use Rattle.criteria.specs.Laws.{Admits}
 use Rattle.fronts.specs.declared.entry.Item.{Item}
 use Rattle.fronts.specs.Front.{front, Betters}
 use Rattle.fronts.specs.Putting.{betters}
+use Rattle.fronts.proofs.Leaving.{match_err}
 use Rattle.fronts.proofs.OnePut.{betters_some}
 use Rattle.fronts.proofs.Walks.{boardings_none, boardings_more, all_more}
 use Rattle.fronts.proofs.keeping.keep_walked.Goals as goal
@@ -28,18 +29,22 @@ front_betters-requires-clause-value g c =
     ((g.met.C.Criterion.laws c.args.criterion.now).walk_admits c.args.boarding.secs c.index-ridden-i.result.value
     c.requires.may.short (c.requires.may.admitted c.index-ridden-i.result (c.loop-i.i, omega arith, sym c.index-ridden-i.is)))
 
-pub returns-in_err-keep_value-clause-more : goal.returns-in_err-keep_value-clause-more
-returns-in_err-keep_value-clause-more g c =
-    extends_on c.args.steps.now.items c.loop-i.steps.items c.keep_value.new.steps.items c.loop-i.invariant.more
-    c.in_err-keep_value.ensures.more
+pub returns-in_err-keep_value : goal.returns-in_err-keep_value
+returns-in_err-keep_value g c =
+    match_err _ _ c.from_residual.result c.from_residual.ensures.1
+    (extends_on c.args.steps.now.items c.loop-i.steps.items c.keep_value.new.steps.items c.loop-i.invariant.more
+    c.in_err-keep_value.ensures)
 
-pub returns-clause-kept : goal.returns-clause-kept
-returns-clause-kept g c = record {
-  boarded = c.loop-i.invariant.boarded;
-  few = let few = c.loop-i.invariant.few in omega arith;
-  fresh = c.loop-i.invariant.fresh;
-  all = λ k d lt. c.loop-i.invariant.all k d (omega arith);
-}
+pub returns : goal.returns
+returns g c = (
+  c.loop-i.invariant.more,
+  record {
+    boarded = c.loop-i.invariant.boarded;
+    few = let few = c.loop-i.invariant.few in omega arith;
+    fresh = c.loop-i.invariant.fresh;
+    all = λ k d lt. c.loop-i.invariant.all k d (omega arith);
+  },
+)
 
 pub loop-i-preserved : goal.loop-i-preserved
 loop-i-preserved g c =
@@ -54,11 +59,11 @@ loop-i-preserved g c =
       | then-not-front_betters+in_ok-keep_value w ↦ (
           let m = boardings_more rules c.args.boarding c.args.ridden.now laws c.loop-i.steps.items w.keep_value.new.steps.items
           c.loop-i.kept.items w.keep_value.new.kept.items c.walk-value.result r
-          inv.boarded admitted (c.loop-i.i, omega arith, sym c.index-ridden-i.is) c.walk-value.ensures w.in_ok-keep_value.ensures.keeps in
+          inv.boarded admitted (c.loop-i.i, omega arith, sym c.index-ridden-i.is) c.walk-value.ensures w.in_ok-keep_value.ensures in
           rw (w.steps-is, w.kept-is) (record {
-            more = extends_on c.args.steps.now.items c.loop-i.steps.items w.keep_value.new.steps.items inv.more w.in_ok-keep_value.ensures.more;
+            more = extends_on c.args.steps.now.items c.loop-i.steps.items w.keep_value.new.steps.items inv.more (_, w.in_ok-keep_value.ensures.steps_more);
             boarded = m.0;
-            few = let more = ap length w.in_ok-keep_value.ensures.keeps.kept_more in
+            few = let more = ap length w.in_ok-keep_value.ensures.kept_more in
                 let pushed = length_push c.loop-i.kept.items (record {
                   departure = c.args.boarding.departure;
                   value = c.walk-value.result;
@@ -70,7 +75,7 @@ loop-i-preserved g c =
               departure = c.args.boarding.departure;
               value = c.walk-value.result;
               tag = length c.loop-i.steps.items;
-            }) p (subst (λ ps. Contains ps p) w.in_ok-keep_value.ensures.keeps.kept_more h)) [
+            }) p (subst (λ ps. Contains ps p) w.in_ok-keep_value.ensures.kept_more h)) [
               | inl was ↦ inv.fresh p was
               | inr e ↦ subst (λ (z : Item g.row.C-V.Denot). betters rules points z.value ≡ false) e
                   (sym c.front_betters.ensures ∙ w.if-not-front_betters.true)

@@ -20,7 +20,7 @@ returns-then-is_total-clause-labels g c =
     record {
       slots = all_admitted c.in_ok-slots.slots.items c.args.trips none c.in_ok-slots.ensures rules
           (subst (Admits rules) (sym c.arrive.ensures) ((g.met.C.Criterion.laws c.args.criterion.now).arrive_admits 0 (omega arith)));
-      runs = c.in_ok-runs.ensures.labels rules;
+      runs = c.in_ok-runs.ensures.sound rules;
       total = λ some. says c.is_total.ensures c.if-is_total.true;
       partial = λ some total. (let long = c.in_ok-runs.ensures.long in absurd (omega (arith, long, some)));
     }
@@ -37,7 +37,7 @@ returns-clause-labels g c =
     let none = ap length c.new-3.ensures.items in
     record {
       slots = no_slots_are rules c.new-3.result.items c.new-3.ensures.items;
-      runs = c.in_ok-runs-2.ensures.labels rules;
+      runs = c.in_ok-runs-2.ensures.sound rules;
       total = λ some. absurd (omega (arith, none, some));
       partial = λ some. says_not c.is_total.ensures c.if-is_total.false;
     }

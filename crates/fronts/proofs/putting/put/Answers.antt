@@ -5,8 +5,9 @@ use Rattle.fronts.specs.Front.{Extends}
 use Rattle.fronts.specs.Entries.{AreEntries, AreMore, HasEntry}
 use Rattle.fronts.proofs.Growth.{are_more, extends_long, items_added}
 use Rattle.fronts.proofs.Points.{departs_at}
-use Rattle.fronts.proofs.Leaving.{leave_behind}
-use Rattle.fronts.proofs.OnePut.{IsPut, put_all}
+use Rattle.fronts.specs.Putting.{IsPut}
+use Rattle.fronts.proofs.Leaving.{leave_behind, match_err}
+use Rattle.fronts.proofs.OnePut.{put_all}
 use Rattle.fronts.proofs.putting.put.Given as given
 use Rattle.fronts.proofs.putting.put.Goals.{In_ok-leave_front, In_ok-push}
 use Rattle.fronts.proofs.putting.put.Goals as goal
@@ -14,34 +15,37 @@ use Rattle.fronts.proofs.putting.put.Goals as goal
 -- the items when all are pushed
 grown : (g : given.Over) (c : goal.In_ok-leave_front g) → Extends c.args.items.now.items c.leave_front.new.items.items
 grown g c = extends_on c.args.items.now.items c.push_others.new.items.items c.leave_front.new.items.items
-    c.in_ok-push_others.ensures.extends c.in_ok-leave_front.ensures.extends
+    (_, c.in_ok-push_others.ensures) (_, c.in_ok-leave_front.ensures)
 
-pub returns-in_err-push_others-clause-more : goal.returns-in_err-push_others-clause-more
-returns-in_err-push_others-clause-more g c =
-    items_added (g.C.Criterion.rules c.args.criterion.now) c.args.entries.now.items c.args.items.now.items
-    c.push_others.new.items.items c.requires.may.sound c.in_err-push_others.ensures.extends
+pub returns-in_err-push_others : goal.returns-in_err-push_others
+returns-in_err-push_others g c =
+    match_err _ _ c.from_residual-in_err-push_others.result c.from_residual-in_err-push_others.ensures.1
+    (items_added (g.C.Criterion.rules c.args.criterion.now) c.args.entries.now.items c.args.items.now.items
+    c.push_others.new.items.items c.requires.may.sound c.in_err-push_others.ensures)
 
 pub leave_front-requires-clause-entry : goal.leave_front-requires-clause-entry
 leave_front-requires-clause-entry g c =
     let rules = g.C.Criterion.rules c.args.criterion.now in
     let items = c.push_others.new.items.items in
     subst (λ es. HasEntry rules es items c.args.index) (sym c.deref.ensures.value) (record {
-      sound = are_more rules c.args.entries.now.items c.args.items.now.items items c.requires.may.sound c.in_ok-push_others.ensures.extends;
+      sound = are_more rules c.args.entries.now.items c.args.items.now.items items c.requires.may.sound (_, c.in_ok-push_others.ensures);
       within = c.requires.may.within;
     })
 
-pub returns-in_err-leave_front-clause-more : goal.returns-in_err-leave_front-clause-more
-returns-in_err-leave_front-clause-more g c =
-    items_added (g.C.Criterion.rules c.args.criterion.now) c.args.entries.now.items c.args.items.now.items
+pub returns-in_err-leave_front : goal.returns-in_err-leave_front
+returns-in_err-leave_front g c =
+    match_err _ _ c.from_residual-in_err-leave_front.result c.from_residual-in_err-leave_front.ensures.1
+    (items_added (g.C.Criterion.rules c.args.criterion.now) c.args.entries.now.items c.args.items.now.items
     c.leave_front.new.items.items c.requires.may.sound
     (extends_on c.args.items.now.items c.push_others.new.items.items c.leave_front.new.items.items
-    c.in_ok-push_others.ensures.extends c.in_err-leave_front.ensures.extends)
+    (_, c.in_ok-push_others.ensures) c.in_err-leave_front.ensures))
 
-pub returns-in_err-count-clause-more : goal.returns-in_err-count-clause-more
-returns-in_err-count-clause-more g c =
-    items_added (g.C.Criterion.rules c.args.criterion.now) c.args.entries.now.items c.args.items.now.items
+pub returns-in_err-count : goal.returns-in_err-count
+returns-in_err-count g c =
+    match_err _ _ c.from_residual-in_err-count.result c.from_residual-in_err-count.ensures.1
+    (items_added (g.C.Criterion.rules c.args.criterion.now) c.args.entries.now.items c.args.items.now.items
     c.leave_front.new.items.items c.requires.may.sound
-    (grown g (goal.at.returns-in_err-count-clause-more g c).In_ok-leave_front)
+    (grown g (goal.at.returns-in_err-count g c).In_ok-leave_front))
 
 pub follow-next-requires : goal.follow-next-requires
 follow-next-requires g c =
@@ -49,13 +53,14 @@ follow-next-requires g c =
     let departs = departs_at c.args.entries.now.items c.args.index c.index.result.now c.requires.may.within c.index.ensures in
     omega arith
 
-pub returns-in_err-push-clause-more : goal.returns-in_err-push-clause-more
-returns-in_err-push-clause-more g c =
+pub returns-in_err-push : goal.returns-in_err-push
+returns-in_err-push g c =
     let rules = g.C.Criterion.rules c.args.criterion.now in
-    subst (λ es. AreMore rules c.args.entries.now.items c.args.items.now.items es c.leave_front.new.items.items)
+    match_err _ _ c.from_residual-in_err-push.result c.from_residual-in_err-push.ensures.1
+    (subst (λ es. AreMore rules c.args.entries.now.items c.args.items.now.items es c.leave_front.new.items.items)
     (sym c.in_err-push.ensures.items)
     (items_added rules c.args.entries.now.items c.args.items.now.items c.leave_front.new.items.items c.requires.may.sound
-    (grown g (goal.at.returns-in_err-push-clause-more g c).In_ok-leave_front))
+    (grown g (goal.at.returns-in_err-push g c).In_ok-leave_front)))
 
 -- what the put does
 made : (g : given.Over) (c : goal.In_ok-push g)
@@ -75,10 +80,10 @@ made g c =
     } in
     let grows = extends_long c.args.items.now.items c.leave_front.new.items.items
     (extends_on c.args.items.now.items c.push_others.new.items.items c.leave_front.new.items.items
-    c.in_ok-push_others.ensures.extends c.in_ok-leave_front.ensures.extends) in
-    let new_is = c.in_ok-new.ensures.index in
-    let rest_is = c.in_ok-rest.ensures.index in
-    let count_is = c.in_ok-count.ensures.index in
+    (_, c.in_ok-push_others.ensures) (_, c.in_ok-leave_front.ensures)) in
+    let new_is = c.in_ok-new.ensures in
+    let rest_is = c.in_ok-rest.ensures in
+    let count_is = c.in_ok-count.ensures in
     put_all rules (g.met.C.Criterion.laws c.args.criterion.now) c.args.entries.now.items c.deref.result.now
     c.push.new.self.items c.args.items.now.items c.leave_front.new.items.items c.args.departure c.args.index
     c.in_ok-new.new c.args.points.now e c.index.result.now x
@@ -86,14 +91,8 @@ made g c =
     c.follow-next.ensures (leave_behind rules c.args.points.now c.deref.result.now c.args.items.now.items
     c.push_others.new.items.items c.leave_front.new.items.items (drop 1 c.args.points.now)
     (subst (λ es. AreEntries rules es c.args.items.now.items) (sym c.deref.ensures.value) c.requires.may.sound)
-    c.args.index c.in_ok-push_others.ensures.pushed c.in_ok-leave_front.ensures.left) (omega arith) (omega arith)
+    c.args.index c.in_ok-push_others.ensures c.in_ok-leave_front.ensures) (omega arith) (omega arith)
     c.in_ok-push.ensures.items (omega arith)
 
-pub returns-clause-more : goal.returns-clause-more
-returns-clause-more g c = (made g c).more_are
-
-pub returns-clause-departs : goal.returns-clause-departs
-returns-clause-departs g c = (made g c).departs
-
-pub returns-clause-joined : goal.returns-clause-joined
-returns-clause-joined g c = (made g c).joined
+pub returns : goal.returns
+returns g c = made g c

@@ -2,7 +2,9 @@ use Rattle.std.proofs.Common.{◌∷◌, [], refl, sym, subst, arith}
 use Rattle.fronts.specs.declared.entry.FrontEntry.{FrontEntry}
 use Rattle.fronts.specs.Entries.{AreMore}
 use Rattle.fronts.proofs.Growth.{same_entries}
-use Rattle.fronts.proofs.OnePut.{IsPut, put_one}
+use Rattle.fronts.specs.Putting.{IsPut}
+use Rattle.fronts.proofs.Leaving.{match_err}
+use Rattle.fronts.proofs.OnePut.{put_one}
 use Rattle.fronts.proofs.putting.put_alone.Given as given
 use Rattle.fronts.proofs.putting.put_alone.Goals.{In_ok-push}
 use Rattle.fronts.proofs.putting.put_alone.Goals as goal
@@ -22,19 +24,17 @@ made g c =
       tag = x.tag;
       value = x.value;
     } in
-    let new_is = c.in_ok-new.ensures.index in
+    let new_is = c.in_ok-new.ensures in
     put_one rules (g.met.C.Criterion.laws c.args.criterion.now) c.args.entries.now.items c.push.new.self.items
     c.args.items.now c.args.index c.in_ok-new.new x e c.index.result.now c.requires.may
     c.requires.outdone refl refl refl c.index.ensures c.follow-next.ensures c.in_ok-push.ensures.items (omega (arith, new_is))
 
-pub returns-clause-more : goal.returns-clause-more
-returns-clause-more g c = (made g c).more_are
+pub returns : goal.returns
+returns g c = made g c
 
-pub returns-clause-joined : goal.returns-clause-joined
-returns-clause-joined g c = (made g c).joined
-
-pub returns-in_err-push-clause-more : goal.returns-in_err-push-clause-more
-returns-in_err-push-clause-more g c =
+pub returns-in_err-push : goal.returns-in_err-push
+returns-in_err-push g c =
     let rules = g.C.Criterion.rules c.args.criterion.now in
-    subst (λ es. AreMore rules c.args.entries.now.items c.args.items.now es c.args.items.now) (sym c.in_err-push.ensures.items)
-    (same_entries rules c.args.entries.now.items c.args.items.now c.requires.may.sound)
+    match_err _ _ c.from_residual-in_err-push.result c.from_residual-in_err-push.ensures.1
+    (subst (λ es. AreMore rules c.args.entries.now.items c.args.items.now es c.args.items.now) (sym c.in_err-push.ensures.items)
+    (same_entries rules c.args.entries.now.items c.args.items.now c.requires.may.sound))

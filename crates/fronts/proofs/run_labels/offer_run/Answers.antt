@@ -1,10 +1,10 @@
 use Rattle.std.proofs.Common.{◌≡◌, List, ◌++◌, ◌∷◌, [], false, not, length, Contains, inl, inr, refl, sym, ◌∙◌, ap, ap₂, subst}
-use Rattle.std.proofs.lemmas.List.{get_or_default}
-use Rattle.reasoning.proofs.OptionLemmas.{on_err}
+use Rattle.std.proofs.lemmas.List.{get_or_default, length-set}
 use Rattle.fronts.specs.declared.labels.Label.{Label}
 use Rattle.fronts.specs.declared.run_labels.LabelRun.{LabelRun}
 use Rattle.fronts.specs.RunLabels.{ArePut, labels_in, no_run, run_at, run_labels}
 use Rattle.fronts.specs.Offered.{is_beaten, others}
+use Rattle.fronts.proofs.Leaving.{match_err}
 use Rattle.fronts.proofs.Runs.{partly_same, run_here, run_there, runs_put, runs_sound, with_admitted}
 use Rattle.fronts.proofs.run_labels.offer_run.Given as given
 use Rattle.fronts.proofs.run_labels.offer_run.Goals.{After-deref-3, After-some_no_worse}
@@ -50,15 +50,18 @@ returns-clause-labels g c =
     let are = c.requires.trip.sound in
     let label : Label g.row.C-V.Denot = record { value = c.args.value; tag = c.in_ok-tag.tag } in
     let run_is = c.index-run.ensures ∙ get_or_default runs c.args.trip run no_run c.requires.trip.there in
-    let put = subst (λ (r : LabelRun). ArePut old r c.deref-3.result.now placed now) run_is c.in_ok-labels.ensures.put in
+    let put = subst (λ (r : LabelRun). ArePut old r c.deref-3.result.now placed now) run_is c.in_ok-labels.ensures in
     let new_is = kept_are g (goal.at.returns-clause-labels g c).After-deref-3 in
     record {
-      runs = runs_put runs c.args.trip placed c.requires.trip.there (length old) (length now) are.runs put.counted put.within put.longer put.apart;
-      admitted = λ l h. elim (put.only l h) [
-        | inl was ↦ are.admitted l was
-        | inr is ↦ with_admitted rules old run c.args.value label are.admitted c.requires.value l
-            (subst (λ (xs : List (Label g.row.C-V.Denot)). Contains xs l) new_is is)
-      ];
+      sound = record {
+        runs = runs_put runs c.args.trip placed c.requires.trip.there (length old) (length now) are.runs put.counted put.within put.longer put.apart;
+        admitted = λ l h. elim (put.only l h) [
+          | inl was ↦ are.admitted l was
+          | inr is ↦ with_admitted rules old run c.args.value label are.admitted c.requires.value l
+              (subst (λ (xs : List (Label g.row.C-V.Denot)). Contains xs l) new_is is)
+        ];
+      };
+      long = length-set runs c.args.trip placed;
     }
 
 pub returns-clause-taken : goal.returns-clause-taken
@@ -71,13 +74,13 @@ returns-clause-taken g c =
     let placed = c.in_ok-labels.field-0 in
     let are = c.requires.trip.sound.runs in
     let run_is = c.index-run.ensures ∙ get_or_default runs c.args.trip run no_run c.requires.trip.there in
-    let put = subst (λ (r : LabelRun). ArePut old r c.deref-3.result.now placed now) run_is c.in_ok-labels.ensures.put in
+    let put = subst (λ (r : LabelRun). ArePut old r c.deref-3.result.now placed now) run_is c.in_ok-labels.ensures in
     record {
       judged = sym (ap not (free g (goal.at.returns-clause-taken g c).After-some_no_worse c.if-some_no_worse.false));
       taken = ap (labels_in now) (run_here runs c.args.trip placed c.requires.trip.there c.args.trip refl) ∙ put.here
           ∙ kept_are g (goal.at.returns-clause-taken g c).After-deref-3
           ∙ ap₂ (λ r t. others rules c.args.value (labels_in old r) ++ record { value = c.args.value; tag = t } ∷ []) run_is
-          c.in_ok-tag.ensures.index;
+          c.in_ok-tag.ensures;
       elsewhere = λ k other. ap (labels_in now) (run_there runs c.args.trip placed c.requires.trip.there k other)
           ∙ put.others (run_at runs k) (are.counted k) (are.within k) (are.apart k c.args.trip other);
     }
@@ -89,35 +92,35 @@ returns-then-some_no_worse-clause-taken g c = record {
   elsewhere = λ k other. refl;
 }
 
-pub returns-in_err-tag-clause-err : goal.returns-in_err-tag-clause-err
-returns-in_err-tag-clause-err g c =
-    on_err c.from_residual.result _ (record {
-      free = free g (goal.at.returns-in_err-tag-clause-err g c).After-some_no_worse c.if-some_no_worse.false;
+pub returns-in_err-tag-clause-taken : goal.returns-in_err-tag-clause-taken
+returns-in_err-tag-clause-taken g c =
+    match_err _ _ c.from_residual.result c.from_residual.ensures.1 (record {
+      free = free g (goal.at.returns-in_err-tag-clause-taken g c).After-some_no_worse c.if-some_no_worse.false;
       stay = λ k. refl;
     })
 
-pub returns-in_err-keep_others-clause-err : goal.returns-in_err-keep_others-clause-err
-returns-in_err-keep_others-clause-err g c =
-    on_err c.from_residual-in_err-keep_others.result _ (record {
-      free = free g (goal.at.returns-in_err-keep_others-clause-err g c).After-some_no_worse c.if-some_no_worse.false;
+pub returns-in_err-keep_others-clause-taken : goal.returns-in_err-keep_others-clause-taken
+returns-in_err-keep_others-clause-taken g c =
+    match_err _ _ c.from_residual-in_err-keep_others.result c.from_residual-in_err-keep_others.ensures.1 (record {
+      free = free g (goal.at.returns-in_err-keep_others-clause-taken g c).After-some_no_worse c.if-some_no_worse.false;
       stay = λ k. refl;
     })
 
-pub returns-in_err-push-clause-err : goal.returns-in_err-push-clause-err
-returns-in_err-push-clause-err g c =
-    on_err c.from_residual-in_err-push.result _ (record {
-      free = free g (goal.at.returns-in_err-push-clause-err g c).After-some_no_worse c.if-some_no_worse.false;
+pub returns-in_err-push-clause-taken : goal.returns-in_err-push-clause-taken
+returns-in_err-push-clause-taken g c =
+    match_err _ _ c.from_residual-in_err-push.result c.from_residual-in_err-push.ensures.1 (record {
+      free = free g (goal.at.returns-in_err-push-clause-taken g c).After-some_no_worse c.if-some_no_worse.false;
       stay = λ k. refl;
     })
 
-pub returns-in_err-labels-clause-err : goal.returns-in_err-labels-clause-err
-returns-in_err-labels-clause-err g c =
+pub returns-in_err-labels-clause-taken : goal.returns-in_err-labels-clause-taken
+returns-in_err-labels-clause-taken g c =
     let labels = c.args.labels.now in
     let labels_are = c.requires.trip.sound.runs in
-    on_err c.from_residual-in_err-labels.result _ (record {
-      free = free g (goal.at.returns-in_err-labels-clause-err g c).After-some_no_worse c.if-some_no_worse.false;
+    match_err _ _ c.from_residual-in_err-labels.result c.from_residual-in_err-labels.ensures.1 (record {
+      free = free g (goal.at.returns-in_err-labels-clause-taken g c).After-some_no_worse c.if-some_no_worse.false;
       stay = λ k. partly_same labels.labels.items c.deref-3.result.now c.put.new.labels.items (run_at labels.runs.items k)
-          (labels_are.counted k) (labels_are.within k) c.in_err-labels.ensures.err;
+          (labels_are.counted k) (labels_are.within k) c.in_err-labels.ensures;
     })
 
 pub returns-in_err-labels-clause-labels : goal.returns-in_err-labels-clause-labels
@@ -127,6 +130,9 @@ returns-in_err-labels-clause-labels g c =
     let run = c.index-run.result.now in
     let label : Label g.row.C-V.Denot = record { value = c.args.value; tag = c.in_ok-tag.tag } in
     let new_is = kept_are g (goal.at.returns-in_err-labels-clause-labels g c).After-deref-3 in
-    runs_sound rules labels _ c.deref-3.result.now c.requires.trip.sound refl c.in_err-labels.ensures.err
-    (λ l h. with_admitted rules labels.labels.items run c.args.value label c.requires.trip.sound.admitted c.requires.value l
-    (subst (λ (xs : List (Label g.row.C-V.Denot)). Contains xs l) new_is h))
+    record {
+      sound = runs_sound rules labels _ c.deref-3.result.now c.requires.trip.sound refl c.in_err-labels.ensures
+          (λ l h. with_admitted rules labels.labels.items run c.args.value label c.requires.trip.sound.admitted c.requires.value l
+          (subst (λ (xs : List (Label g.row.C-V.Denot)). Contains xs l) new_is h));
+      long = refl;
+    }

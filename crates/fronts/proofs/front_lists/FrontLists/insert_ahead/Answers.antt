@@ -12,6 +12,7 @@ use Rattle.fronts.specs.Walking.{TakesBoardings}
 use Rattle.fronts.proofs.Ahead.{read_low, read_fresh, ahead_none, ahead_may, ahead_one}
 use Rattle.fronts.proofs.Growth.{more_lists, more_none}
 use Rattle.fronts.proofs.Mapped.{takes_points, taken_if_ok}
+use Rattle.fronts.proofs.OnePut.{put_more, put_joined}
 use Rattle.fronts.proofs.front_lists.FrontLists.insert_ahead.Given as given
 use Rattle.fronts.proofs.front_lists.FrontLists.insert_ahead.Goals.{In_ok-push, After-deref-3}
 use Rattle.fronts.proofs.front_lists.FrontLists.insert_ahead.Goals as goal
@@ -61,7 +62,7 @@ abbrev point : (g : given.Over) (c : In_ok-push g) → Item g.row.C-V.Denot
 point g c = record { departure = c.args.boarding.departure; value = c.walk-value.result; tag = c.in_ok-tag.tag }
 
 numbered : (g : given.Over) (c : In_ok-push g) → c.in_ok-tag.tag ≡ length (steps_of c.args.self.now)
-numbered g c = let tag_is = c.in_ok-tag.ensures.index in omega (arith, tag_is)
+numbered g c = let tag_is = c.in_ok-tag.ensures in omega (arith, tag_is)
 
 fresh : (g : given.Over) (c : In_ok-push g)
     → betters (g.C.Criterion.rules (lists_criterion c.args.self.now))
@@ -85,7 +86,8 @@ may_put g c =
 -- what the lists are once it is put
 taken : (g : given.Over) (c : In_ok-push g) (entries : List (FrontEntry g.row.C-V.Denot)) (items : List (Item g.row.C-V.Denot)) (new : ℕ)
     → IsJoined (g.C.Criterion.rules (lists_criterion c.args.self.now)) (point g c ∷ [])
-    (points_from (entries_of c.args.self.now) (items_of c.args.self.now) c.args.head) entries items new
+    (points_from (entries_of c.args.self.now) (items_of c.args.self.now) c.args.head) (entries_of c.args.self.now) entries
+    (items_of c.args.self.now) items new
     → (new < length entries) × TakesBoardings (g.C.Criterion.rules (lists_criterion c.args.self.now)) c.push.new.self.items
     c.args.boarding (c.args.ride ∷ []) (points_from (entries_of c.args.self.now) (items_of c.args.self.now) c.args.head)
     (points_from entries items new)
@@ -115,8 +117,8 @@ pub returns-then-outdoes-clause-more : goal.returns-then-outdoes-clause-more
 returns-then-outdoes-clause-more g c =
     let lists = c.args.self.now in
     more_lists g.C.Criterion.rules lists _ (subst (λ items. AreMore (g.C.Criterion.rules (lists_criterion lists)) (entries_of lists)
-    items c.put_alone.new.entries.items items) c.deref-then-outdoes.ensures.value c.put_alone.ensures.more) refl
-    (_, c.in_ok-push.ensures.items)
+    items c.put_alone.new.entries.items items) c.deref-then-outdoes.ensures.value
+    (put_more _ _ _ _ _ _ _ _ c.put_alone.result c.put_alone.ensures)) refl (_, c.in_ok-push.ensures.items)
 
 pub returns-then-outdoes-clause-taken : goal.returns-then-outdoes-clause-taken
 returns-then-outdoes-clause-taken g c =
@@ -127,7 +129,7 @@ returns-then-outdoes-clause-taken g c =
     taken_if_ok g.C.Criterion.rules c.args.boarding (c.args.ride ∷ []) lists _ c.args.head c.put_alone.result
     (IfOk-weaker c.put_alone.result _ _ (taken g here entries (items_of lists))
     (subst (λ items. IfOk c.put_alone.result (IsJoined rules (point g here ∷ []) (points_from (entries_of lists) items c.args.head)
-    entries items)) c.deref-then-outdoes.ensures.value c.put_alone.ensures.joined))
+    (entries_of lists) entries items items)) c.deref-then-outdoes.ensures.value (put_joined _ _ _ _ _ _ _ _ c.put_alone.result c.put_alone.ensures)))
 
 pub returns-in_err-push-2-clause-more : goal.returns-in_err-push-2-clause-more
 returns-in_err-push-2-clause-more g c =
@@ -156,7 +158,8 @@ put-requires g c =
     }
 
 pub returns-clause-more : goal.returns-clause-more
-returns-clause-more g c = more_lists g.C.Criterion.rules c.args.self.now _ c.put.ensures.more refl (_, c.in_ok-push.ensures.items)
+returns-clause-more g c =
+    more_lists g.C.Criterion.rules c.args.self.now _ (put_more _ _ _ _ _ _ _ _ c.put.result c.put.ensures) refl (_, c.in_ok-push.ensures.items)
 
 pub returns-clause-taken : goal.returns-clause-taken
 returns-clause-taken g c =
@@ -166,5 +169,6 @@ returns-clause-taken g c =
     let items = c.put.new.items.items in
     taken_if_ok g.C.Criterion.rules c.args.boarding (c.args.ride ∷ []) lists _ c.args.head c.put.result
     (IfOk-weaker c.put.result _ _ (taken g (goal.at.returns-clause-taken g c).In_ok-push entries items)
-    (subst (λ ps. IfOk c.put.result (IsJoined rules ps (points_from (entries_of lists) (items_of lists) c.args.head) entries items))
-    (kept_is g (goal.at.returns-clause-taken g c).After-deref-3) c.put.ensures.joined))
+    (subst (λ ps. IfOk c.put.result (IsJoined rules ps (points_from (entries_of lists) (items_of lists) c.args.head)
+    (entries_of lists) entries (items_of lists) items)) (kept_is g (goal.at.returns-clause-taken g c).After-deref-3)
+    (put_joined _ _ _ _ _ _ _ _ c.put.result c.put.ensures)))

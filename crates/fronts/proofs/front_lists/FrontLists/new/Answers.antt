@@ -8,8 +8,8 @@ use Rattle.fronts.proofs.front_lists.FrontLists.new.Goals as goal
 pub returns : goal.returns
 returns g c =
     let rules = g.C.Criterion.rules c.args.criterion in
-    let sound = first_sound rules c.arrive.result c.new-entries.result.items c.push.new.self.items c.new.result.items
-    c.new-entries.ensures.items c.in_ok-push.ensures.items c.new.ensures.items in
+    let sound = first_sound rules c.arrive.result c.in_ok-entries.entries.items c.push.new.self.items c.new.result.items
+    c.in_ok-entries.ensures.items c.in_ok-push.ensures.items c.new.ensures.items in
     let end : FrontEntry g.row.C-V.Denot = record {
       departure = 4294967295;
       next = 0;
@@ -22,6 +22,6 @@ returns g c =
       under = refl;
       sound = sound;
       empty = ap (map point_of) (none_at_end rules c.push.new.self.items c.new.result.items sound);
-      alone = ap length c.in_ok-push.ensures.items ∙ ap (λ es. length (es ++ end ∷ [])) c.new-entries.ensures.items;
-      no_steps = c.new-2.ensures.items;
+      alone = ap length c.in_ok-push.ensures.items ∙ ap (λ es. length (es ++ end ∷ [])) c.in_ok-entries.ensures.items;
+      no_steps = c.in_ok-steps.ensures.items;
     }
