@@ -14,10 +14,11 @@ use crate::stop_lists::WantedStops;
 use crate::stop_words::{append_lines, append_points, append_summary, summary_of};
 use command_requests::DeparturesForm;
 use criteria::ShowsFigures;
+use droppable_sources::in_place;
 use image_facts::stop_name;
 use image_verifier::Verified;
 use journeys::{Departure, departures_from};
-use profile_scan::{InPlace, ProfilesToAny};
+use profile_scan::ProfilesToAny;
 use std::alloc::{AllocError, Global};
 use text_pieces::Form;
 
@@ -284,6 +285,6 @@ fn journeys_from<C: ShowsFigures>(
         → AttainsBetween (C.rules (criterion_to_any shown.now.profiles.now)) shown.now.image.now.timetable
         (from_stop (asked_to_any shown.now.profiles.now) stop) (point_of departure) departure.journey) }
 {
-    let source = InPlace::new(shown.image);
+    let source = in_place(shown.image);
     departures_from(shown.alloc, &source, shown.profiles, stop)
 }

@@ -12,9 +12,10 @@ use crate::stop_lists::WantedStops;
 use crate::stop_words::append_counts;
 use command_requests::DeparturesForm;
 use criteria::ShowsFigures;
+use droppable_sources::in_place;
 use image_verifier::Verified;
 use journeys::window_len;
-use profile_scan::{ConnSource, Destinations, InPlace, profiles_to_any};
+use profile_scan::{ConnSource, Destinations, profiles_to_any};
 use std::alloc::{AllocError, Global};
 use timetable::Query;
 
@@ -34,7 +35,7 @@ pub fn departures_text<C: ShowsFigures>(
     ensures { IfOk result (λ text. AreShown C.figures (C.rules criterion.now) form image.now
         (question_to_any destinations.now) wanted.now (string_bytes text)) }
 {
-    let mut source = InPlace::new(image);
+    let mut source = in_place(image);
     let read = window_size(&source, destinations);
     let profiles = profiles_to_any(alloc, &mut source, criterion, destinations)?;
     let shown = AnswersToPrint {

@@ -21,11 +21,12 @@ use answer_replies::PointForm;
 use command_endings::status;
 use command_requests::{AnswerForm, ProfileRequest};
 use criteria::{Arrival, ArrivalTrips, ArrivalTripsWalk, CriterionName, ShowsFigures};
+use droppable_sources::in_place;
 use feed_messages::explain;
 use image_files::{OutDisk, put_text_into};
 use image_verifier::Verified;
 use journeys::{Answer, Window};
-use profile_scan::{InPlace, SetQuery};
+use profile_scan::SetQuery;
 use station_answers::{NoQuestion, answer_between, question_between};
 use std::alloc::{AllocError, Global};
 use std::io;
@@ -146,7 +147,7 @@ fn profile_by<C: ShowsFigures>(
     requires { IsAskableBetween image.now.timetable.stops (question query.now) }
     ensures { IfOk result (IsShown C.figures (C.rules criterion.now) request.now image.now (question query.now)) }
 {
-    let mut source = InPlace::new(image);
+    let mut source = in_place(image);
     let answer = answer_between(alloc, &mut source, criterion, query)?;
     let picture = picture_asked(alloc, image, criterion, request, query, &answer)?;
     let text = text_in_form(alloc, image, criterion, &answer, request.form)?;

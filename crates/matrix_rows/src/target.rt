@@ -18,8 +18,9 @@ use crate::set_names::set_name;
 use crate::table::TravelTable;
 use bags::Point;
 use criteria::{Arrival, ArrivalTrips, ArrivalTripsWalk, CriterionName, ShowsFigures};
+use droppable_sources::in_place;
 use image_verifier::Verified;
-use profile_scan::{Destinations, InPlace, ProfilesToAny, profiles_to_any};
+use profile_scan::{Destinations, ProfilesToAny, profiles_to_any};
 use std::alloc::{AllocError, Global};
 use travel_times::{Pair, Rows, Span, mean_wait, put_pair, put_point};
 
@@ -122,7 +123,7 @@ fn answers<C: ShowsFigures>(
     ensures keeps { IfOk result (λ profiles. (criterion_to_any profiles ≡ criterion.now)
         × (asked_to_any profiles ≡ question_to_any destinations.now)) }
 {
-    let mut source = InPlace::new(table.image);
+    let mut source = in_place(table.image);
     profiles_to_any(alloc, &mut source, criterion, destinations)
 }
 

@@ -22,7 +22,7 @@ use crate::answering::profile;
 use crate::found::Found;
 use criteria::Criterion;
 use image_verifier::Verified;
-use sources::{ConnSource, Decoded, InPlace};
+use sources::{ConnSource, Decoded, InPlace, ReadLog};
 use std::alloc::{AllocError, Global};
 use timetable::Query;
 
@@ -121,34 +121,36 @@ pub fn two_sources<A: ConnSource, B: ConnSource, C: Criterion>(
 /// The answers to one query from an image in place and its decoded lists, and both sources: their logs say which
 /// connections each was asked for.
 #[derive(Drop)]
-pub struct FromBoth<'a, C: Criterion> {
-    pub in_place: InPlace<'a>,
-    pub decoded: Decoded,
+pub struct FromBoth<'a, C: Criterion, L> {
+    pub in_place: InPlace<'a, L>,
+    pub decoded: Decoded<L>,
     pub found_in_place: Found<C>,
     pub found_decoded: Found<C>,
 }
 
 /// An image read in place and its lists decoded give a query the same points, tags aside, and each is asked once for
 /// each connection of the window, from the last to the first. It fails only as `profile` does.
-pub fn both_sources<'a, C: Criterion>(
+pub fn both_sources<'a, C: Criterion, L: ReadLog + Drop>(
     alloc: Global,
     image: &'a Verified,
     criterion: &C,
     query: &Query,
-) -> Result<FromBoth<'a, C>, AllocError>
+    first: L,
+    second: L,
+) -> Result<FromBoth<'a, C, L>, AllocError>
     requires { IsAskable image.now.timetable.stops query.now }
     ensures answers { IfOk result (λ both.
         Answers criterion.now (C.rules criterion.now) image.now.timetable query.now both.found_in_place
         × Answers criterion.now (C.rules criterion.now) image.now.timetable query.now both.found_decoded) }
     ensures same { IfOk result
         (λ both. map untagged (listed both.found_in_place) ≡ map untagged (listed both.found_decoded)) }
-    ensures log { IfOk result (λ both. ⟦<InPlace<'a> as ConnSource>⟧.log both.in_place
-        ≡ reverse (window image.now.timetable query.now)) }
-    ensures decoded_log { IfOk result (λ both. ⟦<Decoded as ConnSource>⟧.log both.decoded
-        ≡ reverse (window image.now.timetable query.now)) }
+    ensures log { IfOk result (λ both. ⟦<InPlace<'a, L> as ConnSource>⟧.log both.in_place
+        ≡ L.reads first ++ reverse (window image.now.timetable query.now)) }
+    ensures decoded_log { IfOk result (λ both. ⟦<Decoded<L> as ConnSource>⟧.log both.decoded
+        ≡ L.reads second ++ reverse (window image.now.timetable query.now)) }
 {
-    let mut in_place = InPlace::new(image);
-    let mut decoded = Decoded::of(alloc, image)?;
+    let mut in_place = InPlace::new(image, first);
+    let mut decoded = Decoded::of(alloc, image, second)?;
     let found = two_sources(alloc, &mut in_place, &mut decoded, criterion, query)?;
     Ok(FromBoth {
         in_place,

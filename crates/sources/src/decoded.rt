@@ -1,6 +1,6 @@
 //! An image as a source, decoded into lists: for tests and comparisons.
 
-ghost use Rattle.std.specs.Prelude.{◌≡◌, ◌≤◌, ◌<◌, ◌+◌, ℕ, [], length, slice_index_or, IfOk, OnOk};
+ghost use Rattle.std.specs.Prelude.{◌≡◌, ◌≤◌, ◌<◌, ◌+◌, ℕ, length, slice_index_or, IfOk, OnOk};
 ghost use Rattle.std.specs.List.Sorted.{IsNonDecreasingBy};
 ghost use Rattle.std.proofs.Props.{props};
 ghost use Rattle.timetable.specs.declared.network.Connection.{Connection};
@@ -9,21 +9,21 @@ ghost use Rattle.timetable.specs.LegalProp.{IsLegal-prop};
 ghost use Rattle.timetable.specs.Limits.{IsWithinLimits};
 ghost use Rattle.sources.specs.FootStarts.{of_lists, AreStarts, HoldsBelow};
 
-use crate::source::ConnSource;
+use crate::source::{ConnSource, ReadLog};
 use image_verifier::Verified;
 use std::alloc::{AllocError, Global};
-use timetable::{Connection, Footpath, Trace};
+use timetable::{Connection, Footpath};
 
 /// Copies of the connections and the footpaths of an image, with the index at which the footpaths
 /// into each stop start.
 #[derive(Drop)]
-pub struct Decoded {
+pub struct Decoded<L> {
     stops: u32,
     trips: u32,
     connections: Vec<Connection>,
     footpaths: Vec<Footpath>,
     starts: Vec<usize>,
-    log: Trace<usize>,
+    log: L,
     ghost legal: { IsLegal (of_lists stops trips connections.items footpaths.items) } by { IsLegal-prop (of_lists stops trips connections.items footpaths.items) },
     ghost limits: { IsWithinLimits (of_lists stops trips connections.items footpaths.items) } by { Prim.hlevel props },
     ghost indexed: { AreStarts (of_lists stops trips connections.items footpaths.items) starts.items } by { Prim.hlevel props },
@@ -89,11 +89,12 @@ fn first_departure(connections: &[Connection], time: u32) -> usize
     connections.partition_point(|connection| connection.dep < time)
 }
 
-impl Decoded {
-    /// Decodes an image. The log is empty. The memory of each list is taken at once.
-    pub fn of(alloc: Global, image: &Verified) -> Result<Decoded, AllocError>
-        ensures timetable { IfOk result (λ source. ⟦<Decoded as ConnSource>⟧.timetable source ≡ image.now.timetable) }
-        ensures log { IfOk result (λ source. ⟦<Decoded as ConnSource>⟧.log source ≡ []) }
+impl<L: ReadLog + Drop> Decoded<L> {
+    /// Decodes an image into a source that goes on with this log. The memory of each list is taken at once.
+    pub fn of(alloc: Global, image: &Verified, log: L) -> Result<Decoded<L>, AllocError>
+        ensures timetable { IfOk result
+            (λ source. ⟦<Decoded<L> as ConnSource>⟧.timetable source ≡ image.now.timetable) }
+        ensures log { IfOk result (λ source. ⟦<Decoded<L> as ConnSource>⟧.log source ≡ L.reads log) }
     {
         let connections = decode_connections(alloc, image)?;
         let (footpaths, starts) = decode_footpaths(alloc, image)?;
@@ -103,15 +104,15 @@ impl Decoded {
             connections,
             footpaths,
             starts,
-            log: Trace::new(),
+            log,
         })
     }
 }
 
-impl ConnSource for Decoded {
+impl<L: ReadLog> ConnSource for Decoded<L> {
     ghost timetable = { λ source. of_lists source.stops source.trips source.connections.items source.footpaths.items };
 
-    ghost log = { λ source. source.log };
+    ghost log = { λ source. L.reads source.log };
 
     fn stops(&self) -> u32 {
         self.stops
@@ -126,7 +127,7 @@ impl ConnSource for Decoded {
     }
 
     fn connection(&mut self, i: usize) -> Connection {
-        self.log.note(&i);
+        self.log.note(i);
         self.connections[i]
     }
 

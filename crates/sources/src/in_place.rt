@@ -1,6 +1,6 @@
 //! An image as a source, read where it is.
 
-ghost use Rattle.std.specs.Prelude.{◌≡◌, []};
+ghost use Rattle.std.specs.Prelude.{◌≡◌};
 ghost use Rattle.std.specs.List.{flat_map};
 ghost use Rattle.std.proofs.Props.{props};
 ghost use Rattle.timetable.specs.Legal.{IsLegal};
@@ -9,32 +9,33 @@ ghost use Rattle.timetable.specs.Limits.{IsWithinLimits};
 ghost use Rattle.image_layout.specs.Spelling.{footpath_words};
 ghost use Rattle.sources.specs.FootStarts.{AreStarts};
 
-use crate::source::ConnSource;
+use crate::source::{ConnSource, ReadLog};
 use image_layout::Header;
 use image_verifier::{Departures, Verified, first_departure};
-use timetable::{Connection, Footpath, Trace};
+use timetable::{Connection, Footpath};
 
 /// An image that is read in place: it is borrowed, and nothing of it is copied. Where its footpaths are is computed
-/// from its header once, and not for each connection.
+/// from its header once, and not for each connection. What it is asked for is noted in its log, which only
+/// [`InPlace::into_log`] gives back: if the log can't be dropped, neither can the source.
 #[derive(Drop)]
-pub struct InPlace<'a> {
+pub struct InPlace<'a, L> {
     image: &'a Verified,
     // for each stop the index at which the footpaths into it start, and the number of all footpaths
     starts: &'a [u32],
     // two words for each footpath, the stop that it leaves and its seconds
     footpaths: &'a [u32],
-    log: Trace<usize>,
+    log: L,
     ghost legal: { IsLegal image.now.timetable } by { IsLegal-prop image.now.timetable },
     ghost limits: { IsWithinLimits image.now.timetable } by { Prim.hlevel props },
     ghost indexed: { AreStarts image.now.timetable starts.now } by { Prim.hlevel props },
     ghost spelled: { footpaths.now ≡ flat_map footpath_words image.now.timetable.footpaths } by { Prim.hlevel props },
 }
 
-impl<'a> InPlace<'a> {
-    /// The image as a source, with an empty log.
-    pub fn new(image: &'a Verified) -> InPlace<'a>
-        ensures timetable { ⟦<InPlace<'a> as ConnSource>⟧.timetable result ≡ image.now.timetable }
-        ensures log { ⟦<InPlace<'a> as ConnSource>⟧.log result ≡ [] }
+impl<'a, L: ReadLog> InPlace<'a, L> {
+    /// The image as a source, which goes on with this log.
+    pub fn new(image: &'a Verified, log: L) -> InPlace<'a, L>
+        ensures timetable { ⟦<InPlace<'a, L> as ConnSource>⟧.timetable result ≡ image.now.timetable }
+        ensures log { ⟦<InPlace<'a, L> as ConnSource>⟧.log result ≡ L.reads log }
     {
         // The contract of this call says that the timetable is legal and within the limits.
         image.stops();
@@ -44,15 +45,22 @@ impl<'a> InPlace<'a> {
             image,
             starts: &words[header.foot_index_offset()..header.footpath_offset()],
             footpaths: &words[header.footpath_offset()..header.name_index_offset()],
-            log: Trace::new(),
+            log,
         }
+    }
+
+    /// The log, in which everything is noted that was asked for.
+    pub fn into_log(self) -> L
+        ensures { L.reads result ≡ ⟦<InPlace<'a, L> as ConnSource>⟧.log self.entry }
+    {
+        self.log
     }
 }
 
-impl<'a> ConnSource for InPlace<'a> {
+impl<'a, L: ReadLog> ConnSource for InPlace<'a, L> {
     ghost timetable = { λ source. source.image.now.timetable };
 
-    ghost log = { λ source. source.log };
+    ghost log = { λ source. L.reads source.log };
 
     fn stops(&self) -> u32 {
         self.image.stops()
@@ -67,7 +75,7 @@ impl<'a> ConnSource for InPlace<'a> {
     }
 
     fn connection(&mut self, i: usize) -> Connection {
-        self.log.note(&i);
+        self.log.note(i);
         self.image.connection(i)
     }
 

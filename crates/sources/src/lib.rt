@@ -8,4 +8,4 @@ mod source;
 pub use decoded::Decoded;
 pub use image_verifier::{Departures, first_departure};
 pub use in_place::InPlace;
-pub use source::ConnSource;
+pub use source::{ConnSource, ReadLog};

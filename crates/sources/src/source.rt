@@ -10,6 +10,16 @@ ghost use Rattle.sources.specs.FirstAt.{IsFirstAt};
 
 use timetable::{Connection, Footpath};
 
+/// Where it is noted which connections a source was asked for. Only contracts see what was noted.
+pub trait ReadLog {
+    // the indices that were noted, the oldest first
+    ghost reads: { Self → List ℕ };
+
+    /// Notes one more index.
+    fn note(&mut self, index: usize)
+        ensures { reads self.new ≡ reads self.old ++ index ∷ [] };
+}
+
 /// Where a scan gets its connections and footpaths from.
 ///
 /// It stands for a legal timetable within the limits, and keeps a log of the connections asked for,

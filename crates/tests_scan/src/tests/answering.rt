@@ -9,11 +9,12 @@ ghost use Rattle.profile_scan.specs.Found.{listed};
 use super::images::{REPEATED, image};
 use super::in_turn::InTurn;
 use criteria::{Arrival, ArrivalTrips, Criterion, Figures, ShowsFigures};
+use droppable_sources::{DroppableLog, decoded, in_place};
 use image_layout::{sample_words, second_sample_words};
 use image_verifier::Verified;
 use journeys::{Answer, Window, answer_query, check, extract, journey_text, query_of};
 use profile_scan::{Found, laws, profile};
-use sources::{ConnSource, Decoded, InPlace};
+use sources::ConnSource;
 use std::alloc::{AllocError, Global};
 use std::process::Abort;
 use std::test::*;
@@ -159,10 +160,10 @@ fn assert_answers<C: ShowsFigures>(
     expected: &[(u32, u32, &str)],
 ) -> Result<(), Fail> {
     let image = image(alloc, words)?;
-    let mut in_place = InPlace::new(&image);
-    assert_answer(rt, alloc, &image, &mut in_place, criterion, query, expected)?;
-    let mut decoded = Decoded::of(alloc, &image)?;
-    assert_answer(rt, alloc, &image, &mut decoded, criterion, query, expected)
+    let mut words = in_place(&image);
+    assert_answer(rt, alloc, &image, &mut words, criterion, query, expected)?;
+    let mut lists = decoded(alloc, &image)?;
+    assert_answer(rt, alloc, &image, &mut lists, criterion, query, expected)
 }
 
 /// The same under earliest arrival alone.
@@ -307,7 +308,14 @@ fn give_one_answer(alloc: Global, words: &[u32]) -> Result<bool, Fail> {
     if ASKED.check(image.stops()).is_err() {
         return Ok(false);
     }
-    let both = laws::both_sources(alloc, &image, &ArrivalTrips, &ASKED)?;
+    let both = laws::both_sources(
+        alloc,
+        &image,
+        &ArrivalTrips,
+        &ASKED,
+        DroppableLog::new(),
+        DroppableLog::new(),
+    )?;
     laws::found_answers(&both.found_in_place);
     Ok(depart_together(&both.found_in_place, &both.found_decoded))
 }
@@ -334,7 +342,7 @@ fn answered<S: ConnSource, C: Criterion>(
 /// The seconds of the footpath from the source to the target, as an answer has it.
 fn walk_beside(alloc: Global, words: &[u32]) -> Result<Option<u32>, Fail> {
     let image = image(alloc, words)?;
-    Ok(answered(alloc, &mut InPlace::new(&image), &Arrival)?.walk)
+    Ok(answered(alloc, &mut in_place(&image), &Arrival)?.walk)
 }
 
 #[test]
@@ -381,7 +389,7 @@ fn is_answered(alloc: Global, answer: &Answer<ArrivalTrips>) -> Result<bool, All
 fn refused_growth_is_reported(rt: HostRuntime) -> Result<(), Fail> {
     let alloc = rt.alloc();
     let image = image(alloc, &sample_words())?;
-    let mut source = InTurn::of(InPlace::new(&image));
+    let mut source = InTurn::of(in_place(&image));
     let answer = answered(alloc, &mut source, &ArrivalTrips);
     assert!(rt; source.in_turn);
     let answer = answer?;

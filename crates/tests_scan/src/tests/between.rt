@@ -2,9 +2,9 @@
 
 use super::images::image;
 use criteria::{Arrival, ShowsFigures};
+use droppable_sources::in_place;
 use image_verifier::Verified;
 use profile_scan::{FoundBetween, SetQuery, profile_between};
-use sources::InPlace;
 use station_answers::check_between;
 use std::alloc::{AllocError, Global};
 use std::test::*;
@@ -33,7 +33,7 @@ fn found_between(
     asked: &SetQuery,
 ) -> Result<FoundBetween<Arrival>, Fail> {
     match check_between(asked, image.stops()) {
-        Ok(()) => Ok(profile_between(alloc, &mut InPlace::new(image), &Arrival, asked)?),
+        Ok(()) => Ok(profile_between(alloc, &mut in_place(image), &Arrival, asked)?),
         Err(_) => Err(Fail::new("it can be asked")),
     }
 }

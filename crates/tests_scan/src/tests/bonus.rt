@@ -12,9 +12,10 @@ ghost use Rattle.tests_scan.specs.Bonus.{less_monotone, less_below};
 
 use super::images::image;
 use criteria::{Arrival, Criterion};
+use droppable_sources::{decoded, in_place};
 use image_verifier::Verified;
 use journeys::{Answer, answer_query, journey_text};
-use sources::{ConnSource, Decoded, InPlace};
+use sources::ConnSource;
 use std::alloc::Global;
 use std::cmp::Ordering;
 use std::process::Abort;
@@ -139,14 +140,8 @@ fn assert_answers<C: Criterion<V = u32>>(
     criterion: &C,
     expected: &[(u32, u32, &str)],
 ) -> Result<(), Fail> {
-    assert_answer(rt, alloc, &mut InPlace::new(image), criterion, expected)?;
-    assert_answer(
-        rt,
-        alloc,
-        &mut Decoded::of(alloc, image)?,
-        criterion,
-        expected,
-    )
+    assert_answer(rt, alloc, &mut in_place(image), criterion, expected)?;
+    assert_answer(rt, alloc, &mut decoded(alloc, image)?, criterion, expected)
 }
 
 /// Riding twice arrives half a minute later, but gets one more minute off. When the scan reads the trips of that

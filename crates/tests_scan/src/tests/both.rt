@@ -4,9 +4,10 @@ ghost use Rattle.tests_scan.specs.Both.{both_rules, both_laws};
 
 use super::images::image;
 use criteria::{Arrival, ArrivalTrips, Criterion};
+use droppable_sources::in_place;
 use image_layout::sample_words;
 use journeys::{Answer, answer_query, journey_text};
-use sources::{ConnSource, InPlace};
+use sources::ConnSource;
 use std::alloc::Global;
 use std::cmp::Ordering;
 use std::process::Abort;
@@ -93,7 +94,7 @@ fn assert_departures(
 fn two_criteria_at_once(rt: HostRuntime) -> Result<(), Fail> {
     let alloc = rt.alloc();
     let image = image(alloc, &sample_words())?;
-    let mut source = InPlace::new(&image);
+    let mut source = in_place(&image);
     let stops = source.stops();
     ASKED.check(stops).ok().ok_or("the query can be asked")?;
     let answer = answer_query(alloc, &mut source, &Both(Arrival, ArrivalTrips), &ASKED)?;

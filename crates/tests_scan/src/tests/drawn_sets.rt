@@ -5,11 +5,11 @@ use super::answering::{WITH_CHAIN, WITH_DIRECT_TRIP, WITH_WALK, is_worth};
 use super::images::image;
 use super::random_images::{Dice, random_words};
 use criteria::{Arrival, ArrivalTrips, ArrivalTripsWalk, Figures, ShowsFigures};
+use droppable_sources::in_place;
 use image_layout::{sample_words, second_sample_words};
 use image_verifier::Verified;
 use journeys::{Answer, Departure, answer_query, check};
 use profile_scan::SetQuery;
-use sources::InPlace;
 use station_answers::{answer_between, answer_by_targets, check_between, direct_walk};
 use std::alloc::{AllocError, Global};
 use std::process::Abort;
@@ -73,7 +73,7 @@ fn shown_of_pairs<C: ShowsFigures>(
             if query.check(image.stops()).is_err() {
                 return Err(Fail::new("a pair can be asked"));
             }
-            let answer = answer_query(alloc, &mut InPlace::new(image), criterion, &query)?;
+            let answer = answer_query(alloc, &mut in_place(image), criterion, &query)?;
             add_shown(criterion, &answer, &mut all)?;
             *walk = least(*walk, answer.walk);
         }
@@ -170,7 +170,7 @@ fn answer_of<C: ShowsFigures>(
     asked: &SetQuery,
 ) -> Result<Answer<C>, Fail> {
     match check_between(asked, image.stops()) {
-        Ok(()) => Ok(answer_between(alloc, &mut InPlace::new(image), criterion, asked)?),
+        Ok(()) => Ok(answer_between(alloc, &mut in_place(image), criterion, asked)?),
         Err(_) => Err(Fail::new("it can be asked")),
     }
 }
@@ -201,7 +201,7 @@ fn answer_by_each_target<C: ShowsFigures>(
     asked: &SetQuery,
 ) -> Result<Answer<C>, Fail> {
     match check_between(asked, image.stops()) {
-        Ok(()) => Ok(answer_by_targets(alloc, &mut InPlace::new(image), criterion, asked)?),
+        Ok(()) => Ok(answer_by_targets(alloc, &mut in_place(image), criterion, asked)?),
         Err(_) => Err(Fail::new("it can be asked")),
     }
 }
@@ -323,7 +323,7 @@ fn walk_between(
 ) -> Result<Option<Footpath>, Fail> {
     let asked = between(alloc, from, to)?;
     match check_between(&asked, image.stops()) {
-        Ok(()) => Ok(direct_walk(&InPlace::new(image), &asked)),
+        Ok(()) => Ok(direct_walk(&in_place(image), &asked)),
         Err(_) => Err(Fail::new("it can be asked")),
     }
 }

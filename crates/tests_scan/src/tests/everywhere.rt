@@ -10,11 +10,12 @@ use super::in_turn::InTurn;
 use super::random_images::{Dice, random_words};
 use bags::Point;
 use criteria::{Arrival, ArrivalTrips, ArrivalTripsWalk, ShowsFigures};
+use droppable_sources::in_place;
 use image_layout::{sample_words, second_sample_words};
 use image_verifier::Verified;
 use journeys::{check, extract};
 use profile_scan::{Destination, Found, Profiles, profile, profiles_to};
-use sources::{ConnSource, InPlace};
+use sources::ConnSource;
 use std::alloc::Global;
 use std::process::Abort;
 use std::test::*;
@@ -111,7 +112,7 @@ fn assert_found<C: ShowsFigures>(
     requires differ { asked.now.source ≢ (destination_of profiles.now).target }
     requires answered { AnswerAll C.rules image.now.timetable profiles.now }
 {
-    let found = profiles.found_from(alloc, &InPlace::new(image), asked.source)?;
+    let found = profiles.found_from(alloc, &in_place(image), asked.source)?;
     assert_same(rt, alloc, image, criterion, &found, alone, asked)
 }
 
@@ -143,7 +144,7 @@ fn assert_stop<C: ShowsFigures>(
     requires answered { AnswerAll C.rules image.now.timetable profiles.now }
 {
     let asked = profiles.destination().query_from(stop);
-    let mut source = InTurn::before(InPlace::new(image), asked.by);
+    let mut source = InTurn::before(in_place(image), asked.by);
     let alone = answer_from(alloc, &mut source, criterion, &asked)?;
     assert!(rt; source.in_turn && source.left == left);
     assert_listed(rt, image, criterion, profiles, &alone, stop);
@@ -192,7 +193,7 @@ fn assert_answers<C: ShowsFigures>(
     criterion: &C,
     asked: &Destination,
 ) -> Result<(), Fail> {
-    let mut source = InTurn::before(InPlace::new(image), asked.by);
+    let mut source = InTurn::before(in_place(image), asked.by);
     let profiles = answers_to(alloc, &mut source, criterion, asked)?;
     assert!(rt; source.in_turn);
     assert_stops(rt, alloc, image, criterion, &profiles, source.left)
@@ -247,7 +248,7 @@ fn as_each_stop_alone(rt: HostRuntime) -> Result<(), Fail> {
 fn refused_growth_is_reported_of_all_stops(rt: HostRuntime) -> Result<(), Fail> {
     let alloc = rt.alloc();
     let image = image(alloc, &sample_words())?;
-    let mut source = InTurn::of(InPlace::new(&image));
+    let mut source = InTurn::of(in_place(&image));
     let profiles = answers_to(alloc, &mut source, &ArrivalTrips, &ASKED);
     assert!(rt; source.in_turn);
     let profiles = profiles?;

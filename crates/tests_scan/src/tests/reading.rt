@@ -3,9 +3,10 @@
 ghost use Rattle.std.specs.Prelude.{◌<◌};
 
 use super::images::image;
+use droppable_sources::{DroppableLog, decoded, in_place};
 use image_layout::sample_words;
 use image_verifier::{Departures, Verified, first_departure};
-use sources::{ConnSource, Decoded, InPlace};
+use sources::{ConnSource, InPlace};
 use std::mem::size_of;
 use std::process::Abort;
 use std::test::*;
@@ -72,15 +73,15 @@ fn assert_sample<S: ConnSource>(rt: &impl Abort, source: &mut S) {
 #[test]
 fn the_sample_is_read(rt: HostRuntime) -> Result<(), Fail> {
     let image = image(rt.alloc(), &sample_words())?;
-    assert_sample(&rt, &mut InPlace::new(&image));
-    assert_sample(&rt, &mut Decoded::of(rt.alloc(), &image)?);
+    assert_sample(&rt, &mut in_place(&image));
+    assert_sample(&rt, &mut decoded(rt.alloc(), &image)?);
     Ok(())
 }
 
 #[test]
 fn a_log_takes_no_bytes(rt: HostRuntime) {
     assert_eq!(rt;
-        size_of::<InPlace<'static>>(),
+        size_of::<InPlace<'static, DroppableLog>>(),
         size_of::<(&'static Verified, &'static [u32], &'static [u32])>()
     );
 }
@@ -99,8 +100,8 @@ fn assert_early<S: ConnSource>(rt: &impl Abort, source: &S) {
 #[test]
 fn footpaths_and_departures(rt: HostRuntime) -> Result<(), Fail> {
     let image = image(rt.alloc(), &EARLY)?;
-    assert_early(&rt, &InPlace::new(&image));
-    assert_early(&rt, &Decoded::of(rt.alloc(), &image)?);
+    assert_early(&rt, &in_place(&image));
+    assert_early(&rt, &decoded(rt.alloc(), &image)?);
     assert!(rt; first_departure(&mut Departures::of(&image), 31) == 2);
     Ok(())
 }
@@ -110,7 +111,7 @@ fn footpaths_and_departures(rt: HostRuntime) -> Result<(), Fail> {
 #[test]
 fn refused_growth_is_reported(rt: HostRuntime) -> Result<(), Fail> {
     let image = image(rt.alloc(), &EARLY)?;
-    let mut source = Decoded::of(rt.alloc(), &image)?;
+    let mut source = decoded(rt.alloc(), &image)?;
     assert!(rt; source.len() == 3 && last_departure(&mut source) == Some(40));
     Ok(())
 }

@@ -12,4 +12,4 @@ returns-clause-journeys g c =
     subst (λ (t : TimetableValue). IfOk c.departures_from.result (λ departures. (departure : _) → Contains departures.items departure
     → AttainsBetween (g.C.Criterion.rules (criterion_to_any profiles)) t (from_stop (asked_to_any profiles) c.args.stop)
     (point_of departure) departure.journey))
-    c.new-source.ensures.timetable c.departures_from.ensures.journeys
+    c.in_place-source.ensures.timetable c.departures_from.ensures.journeys

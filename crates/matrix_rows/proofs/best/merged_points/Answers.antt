@@ -1,22 +1,17 @@
-use Rattle.std.proofs.Common.{◌∙◌, Contains, IfOk, Result, Ok, Err, arith, subst, sym}
+use Rattle.std.proofs.Common.{◌∙◌, Contains, arith, subst, sym}
 use Rattle.std.proofs.lemmas.List.{take_all}
 use Rattle.std.proofs.lemmas.List.Elements.{Contains-get_or}
+use Rattle.std.proofs.lemmas.Result.{IfOk-weaker}
 use Rattle.criteria.specs.Laws.{Admits}
 use Rattle.bags.specs.Bag.{points_of}
 use Rattle.bags.specs.Dominance.{IsBag}
-use Rattle.profile_scan.specs.SetQuery.{IsAnswerBetween}
 use Rattle.profile_scan.specs.Everywhere.{asked_to_any, listed_to_any}
 use Rattle.profile_scan.specs.LawStatements.{CanScan}
 use Rattle.profile_scan.proofs.OrderLemmas.{listed_bag}
 use Rattle.matrix_rows.specs.Merging.{TakesIn}
-use Rattle.matrix_rows.specs.Tables.{from_stops}
 use Rattle.matrix_rows.proofs.Answering.{answer_at}
 use Rattle.matrix_rows.proofs.Merges.{AreMerged, answer_admits, merged_is_answer, merged_more, none_merged}
 use Rattle.matrix_rows.proofs.best.merged_points.Goals as goal
-
-on_ok_of_three : {T E : Type 0} (P Q R S : T → Type 0) (r : Result T E) → ((x : T) → P x → Q x → R x → S x) → IfOk r P → IfOk r Q → IfOk r R → IfOk r S
-on_ok_of_three P Q R S (Ok x) each p q s = each x p q s
-on_ok_of_three P Q R S (Err e) each p q s = tt
 
 pub loop-stop-init : goal.loop-stop-init
 loop-stop-init g c = record {
@@ -82,9 +77,10 @@ returns g c =
     let merged = subst (λ ss. AreMerged rules (listed_to_any profiles) ss (points_of best))
     (take_all c.loop-stop.stop-index stops c.loop-stop-test.false) c.loop-stop.invariant.merged in
     let bag = subst (λ k. IsBag (g.C.Criterion.rules k) (points_of best)) c.loop-stop.invariant.same best.kept in
-    on_ok_of_three _ _ _ (λ points. IsAnswerBetween rules t (from_stops d stops) points.items) c.in_order.result
-    (λ points ordered only each.
+    IfOk-weaker c.in_order.result _ _
+    (λ points listed.
     merged_is_answer rules laws t d can stops (listed_to_any profiles) (points_of best) points.items
     (λ stop h. answer_at g.C.Criterion.rules t profiles criterion stop c.requires.answered c.requires.same (c.requires.within stop h))
-    merged (listed_bag rules laws (points_of best) points.items bag ordered only) ordered only each)
-    c.in_order.ensures.ordered c.in_order.ensures.only c.in_order.ensures.each
+    merged (listed_bag rules laws (points_of best) points.items bag listed.ordered listed.only) listed.ordered
+    listed.only listed.each)
+    c.in_order.ensures

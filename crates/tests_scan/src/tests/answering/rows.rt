@@ -4,9 +4,10 @@
 use super::{ASKED, NO_TRIPS, WITH_CHAIN, WITH_DIRECT_TRIP, WITH_WALK, by, until};
 use crate::tests::images::{REPEATED, image};
 use criteria::{Arrival, ArrivalTrips, ArrivalTripsWalk, ShowsFigures};
+use droppable_sources::{decoded, in_place};
 use image_layout::{sample_words, second_sample_words};
 use journeys::{Answer, Departure, answer_query, journey_string};
-use sources::{ConnSource, Decoded, InPlace};
+use sources::ConnSource;
 use std::alloc::{AllocError, Global};
 use std::process::Abort;
 use std::test::*;
@@ -175,9 +176,9 @@ fn both_texts<C: ShowsFigures>(
     query: &Query,
 ) -> Result<(String, String), Fail> {
     let image = image(alloc, words)?;
-    let in_place = answer_text(alloc, &mut InPlace::new(&image), criterion, query)?;
-    let decoded = answer_text(alloc, &mut Decoded::of(alloc, &image)?, criterion, query)?;
-    Ok((in_place, decoded))
+    let of_words = answer_text(alloc, &mut in_place(&image), criterion, query)?;
+    let of_lists = answer_text(alloc, &mut decoded(alloc, &image)?, criterion, query)?;
+    Ok((of_words, of_lists))
 }
 
 /// Asserts that each query has its answer over both.

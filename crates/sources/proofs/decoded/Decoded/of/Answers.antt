@@ -6,7 +6,7 @@ use Rattle.sources.specs.FootStarts.{of_lists, AreStarts}
 use Rattle.sources.proofs.decoded.Decoded.of.Goals as goal
 
 pub invariant_of-result : goal.invariant_of-result
-invariant_of-result c =
+invariant_of-result g c =
     let t = c.args.image.now.timetable in
     let is : t ≡ of_lists c.stops.result c.trips.result c.in_ok-connections.connections.items c.in_ok-footpaths.footpaths.items =
     λ i. of_lists (sym c.stops.ensures.stops i) (sym c.trips.ensures i) (sym c.in_ok-connections.ensures i) (sym c.in_ok-footpaths.ensures.footpaths i) in

@@ -5,7 +5,7 @@ use Rattle.sources.proofs.StartLemmas.{start_order}
 use Rattle.sources.proofs.decoded.DecodedConnSource.walks_into.Goals as goal
 
 pub returns-clause-order : goal.returns-clause-order
-returns-clause-order c =
+returns-clause-order g c =
     let s = c.args.self.now in
     let stop = c.args.stop in
     let t = of_lists s.stops s.trips s.connections.items s.footpaths.items in

@@ -5,10 +5,10 @@ use Rattle.sources.proofs.Feet.{index_starts, words_whole, words_header}
 use Rattle.sources.proofs.in_place.InPlace.new.Goals as goal
 
 pub of-header-requires : goal.of-header-requires
-of-header-requires c = (words_whole c.words-words.result.now c.args.image.now c.words-words.ensures).has_header
+of-header-requires g c = (words_whole c.words-words.result.now c.args.image.now c.words-words.ensures).has_header
 
 pub slice_bounds-result-end : goal.slice_bounds-result-end
-slice_bounds-result-end c =
+slice_bounds-result-end g c =
     let words = c.words-words.result.now in
     let whole = words_whole words c.args.image.now c.words-words.ensures in
     omega (
@@ -21,7 +21,7 @@ slice_bounds-result-end c =
     )
 
 pub slice_bounds-result-end-2 : goal.slice_bounds-result-end-2
-slice_bounds-result-end-2 c =
+slice_bounds-result-end-2 g c =
     let words = c.words-words.result.now in
     let whole = words_whole words c.args.image.now c.words-words.ensures in
     omega (
@@ -34,7 +34,7 @@ slice_bounds-result-end-2 c =
     )
 
 pub invariant_of-result : goal.invariant_of-result
-invariant_of-result c =
+invariant_of-result g c =
     let image = c.args.image.now in
     let t = image.timetable in
     let words = c.words-words.result.now in

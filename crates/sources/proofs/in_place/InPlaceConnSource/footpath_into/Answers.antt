@@ -8,19 +8,19 @@ use Rattle.image_layout.proofs.Spelled.{piece_word, pieces_long}
 use Rattle.sources.proofs.in_place.InPlaceConnSource.footpath_into.Goals as goal
 
 pub bounds-self-index : goal.bounds-self-index
-bounds-self-index c =
+bounds-self-index g c =
     let s = c.args.self.now in
     let fs = s.image.now.timetable.footpaths in
     omega (arith, c.requires.index, ap (λ (w : List ℕ). length w) s.spelled, pieces_long footpath_words 2 (λ x. refl) fs)
 
 pub bounds-self-index-2 : goal.bounds-self-index-2
-bounds-self-index-2 c =
+bounds-self-index-2 g c =
     let s = c.args.self.now in
     let fs = s.image.now.timetable.footpaths in
     omega (arith, c.requires.index, ap (λ (w : List ℕ). length w) s.spelled, pieces_long footpath_words 2 (λ x. refl) fs)
 
 pub returns : goal.returns
-returns c =
+returns g c =
     let s = c.args.self.now in
     let fs = s.image.now.timetable.footpaths in
     let k = c.args.index in
