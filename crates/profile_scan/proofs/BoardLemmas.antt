@@ -1,5 +1,5 @@
 -- Boarding, over the footpaths into a connection's start.
-use Rattle.std.proofs.Common.{◌≡◌, ◌⊎◌, ◌↔◌, ℕ, ◌+◌, ◌-◌, ◌<◌, ◌≤◌, Bool, true, false, List, Contains, length}
+use Rattle.std.proofs.Common.{◌≡◌, ◌⊎◌, ◌↔◌, ℕ, ◌+◌, ◌-◌, ◌<◌, ◌≤◌, Bool, true, false, List, Contains, length, vec_len}
 use Rattle.std.proofs.Common.{slice_get, Option, Some, None, refl, sym, ◌∙◌, ap, subst, inl, inr, arith}
 use Rattle.std.proofs.lemmas.Bool.{cases_lt}
 use Rattle.std.proofs.lemmas.Option.{same_Some}
@@ -14,13 +14,22 @@ use Rattle.timetable.specs.Journeys.{connection_at, IsStart, start_end, start_se
 use Rattle.timetable.proofs.LegalLemmas.{Contains-At, At-Contains}
 use Rattle.profile_scan.specs.SetQuery.{SetQueryValue}
 use Rattle.profile_scan.specs.Values.{started}
-use Rattle.profile_scan.specs.Matching.{Spellings}
+use Rattle.fronts.specs.Lists.{steps_of}
+use Rattle.fronts.specs.declared.entry.RiddenLabel.{RiddenLabel}
+use Rattle.profile_scan.specs.Matching.{Spellings, from_to}
+use Rattle.profile_scan.specs.ScanRecords.{scan_records, spelling_of}
 use Rattle.profile_scan.specs.Steps.{Offer, TakesIn, boardings, settings_out, MayBoard, MaySetOut}
 use Rattle.profile_scan.specs.Points.{Covers}
 use Rattle.profile_scan.specs.Starts.{IsLed, SaysLed}
 use Rattle.profile_scan.specs.Adding.{each_of, StandsBetween, AreWalksInto, IsTried, StartsFrom, MayStart, boardings_by, settings_out_by}
+use Rattle.profile_scan.specs.ScanState.{AreStops, points_at}
+use Rattle.profile_scan.specs.Parts.{BoardsAfter, BoardsAfterEach}
+use Rattle.profile_scan.specs.declared.hop.Hop.{Hop}
+use Rattle.profile_scan.specs.declared.stops.Stops.{Stops}
 use Rattle.profile_scan.proofs.Admitted.{AreAdmitted}
 use Rattle.profile_scan.proofs.Offers.{takes_none, takes_more, takes_as}
+use Rattle.profile_scan.proofs.PartLemmas.{lists_none, lists_on}
+use Rattle.profile_scan.proofs.ScanRecordLemmas.{grows_on, steps_grow}
 
 between_more : (walks : List Footpath) (begin end : ℕ) (y : Footpath) → StandsBetween walks begin end y → StandsBetween walks begin (end + 1) y
 between_more walks begin end y s = (s.0, s.1, omega (arith, s.2), s.3)
@@ -48,7 +57,7 @@ none_tried walks begin None s = inr refl
 none_tried walks begin (Some f) s = absurd (omega (arith, s.1, s.2))
 
 -- no footpath yet
-pub walks_first : {A V : Type 0} (rules : Rules V) (walks : List Footpath) (offer : Footpath
+walks_first : {A V : Type 0} (rules : Rules V) (walks : List Footpath) (offer : Footpath
     → Offer A V) (begin : ℕ) (old : List (Point V))
     → TakesIn rules (each_of (StandsBetween walks begin begin) offer) old old
 walks_first rules walks offer begin old =
@@ -81,7 +90,7 @@ module _ {V : Type 0} (rules : Rules V) (laws : Laws rules) (t : TimetableValue)
   start_secs_allowed begin end (Some f) v s a = laws.walk_admits f.secs v (walk_secs_allowed begin end f s) a
 
   -- one footpath more
-  pub walks_next : (tags : Spellings) (i : ℕ) (c : Connection) (stop begin place : ℕ) (x : Footpath)
+  walks_next : (tags : Spellings) (i : ℕ) (c : Connection) (stop begin place : ℕ) (x : Footpath)
       (old mid new : List (Point V)) → begin ≤ place → At t.footpaths place x
       → TakesIn rules (each_of (StandsBetween t.footpaths begin place) (boardings_by rules tags i c stop labels)) old
       mid → TakesIn rules (boardings_by rules tags i c stop labels x) mid new
@@ -282,3 +291,32 @@ module _ {V : Type 0} (rules : Rules V) (t : TimetableValue) (tags : Spellings) 
       } in
       here.covered (way.start, way.label) (tried opened.source way.start opened.is_start opened.leads, (may, opened.is_label)))
       here
+
+-- passengers board after each of some footpaths, one more at a time
+module _ {K V : Type 0} (rules_of : K → Rules V) (criterion : K) (laws : Laws (rules_of criterion)) (t : TimetableValue) (limits : IsWithinLimits t)
+    (hop : Hop V) (rides : List (RiddenLabel V)) (begin : ℕ) where
+  pub boards_first : (stops : Stops K V) → AreStops rules_of criterion t.stops stops → BoardsAfterEach rules_of criterion t begin begin hop rides stops stops
+  boards_first stops are = record {
+    stops = lists_none rules_of criterion t.stops stops are;
+    takes = λ labels ridden admitted stop exits set_outs before all ext_before ext.
+        walks_first (rules_of criterion) t.footpaths (boardings_by (rules_of criterion) (from_to (spelling_of t.footpaths before)
+        (spelling_of t.footpaths all)) hop.place hop.connection stop labels) begin (points_at stops stop);
+  }
+
+  pub boards_next : (k : ℕ) (walk : Footpath) (old mid new : Stops K V) → begin ≤ k → At t.footpaths k walk
+      → BoardsAfterEach rules_of criterion t begin k hop rides old mid
+      → BoardsAfter rules_of criterion (vec_len mid.heads) hop k walk rides mid new
+      → BoardsAfterEach rules_of criterion t begin (k + 1) hop rides old new
+  boards_next k walk old mid new low at before here = record {
+    stops = lists_on rules_of criterion t.stops old mid new before.stops here.stops;
+    takes = λ labels ridden admitted stop exits set_outs was all ext_was ext.
+        let s0 = scan_records exits (steps_of old.lists) set_outs in
+        let s1 = scan_records exits (steps_of mid.lists) set_outs in
+        let s2 = scan_records exits (steps_of new.lists) set_outs in
+        walks_next (rules_of criterion) laws t limits labels admitted (from_to (spelling_of t.footpaths was) (spelling_of t.footpaths all))
+        hop.place hop.connection stop begin k walk (points_at old stop) (points_at mid stop) (points_at new stop) low at
+        (before.takes labels ridden admitted stop exits set_outs was all ext_was
+        (grows_on s1 s2 all (steps_grow exits (steps_of mid.lists) (steps_of new.lists) set_outs here.stops.steps) ext))
+        (here.takes labels ridden t.footpaths at stop exits set_outs was all
+        (grows_on was s0 s1 ext_was (steps_grow exits (steps_of old.lists) (steps_of mid.lists) set_outs before.stops.steps)) ext);
+  }

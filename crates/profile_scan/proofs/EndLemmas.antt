@@ -39,7 +39,7 @@ end_secs c q None walk secs ends = absurd ends
 end_secs c q (Some way) None secs ends = tt
 end_secs c q (Some way) (Some f) secs ends = subst (λ (w : Footpath). IsSecs w.secs) (sym ends.1) secs
 
-end_time : (c : Connection) (q : SetQueryValue) (way : Option FinalWalk) (walk : Option Footpath) → IsTime c.arr → IsTime q.by
+pub end_time : (c : Connection) (q : SetQueryValue) (way : Option FinalWalk) (walk : Option Footpath) → IsTime c.arr → IsTime q.by
     → IsEnding c q way walk → IsTime (c.arr + start_secs walk)
 end_time c q None walk arrival by ends = absurd ends
 end_time c q (Some way) None arrival by ends = omega arith

@@ -18,7 +18,7 @@ use Rattle.profile_scan.specs.SetQuery.{IsPointBetween}
 use Rattle.profile_scan.specs.Values.{journey_value}
 use Rattle.profile_scan.specs.Continuations.{CountsFrom}
 use Rattle.profile_scan.specs.Plain.{IsPlainOf}
-use Rattle.profile_scan.specs.Points.{untagged}
+use Rattle.profile_scan.specs.Points.{AreInOrder, untagged}
 use Rattle.profile_scan.specs.Matching.{IsAttained, Matches}
 use Rattle.profile_scan.specs.ScanRecords.{ScanRecords, spelling_of}
 use Rattle.profile_scan.specs.JourneyNodes.{IsJourneySpelled, IsSpelledAgain}
@@ -27,7 +27,7 @@ use Rattle.profile_scan.specs.Answered.{IsAnsweredBetween}
 use Rattle.profile_scan.specs.Destinations.{CanBeAsked, query_from, question_to}
 use Rattle.profile_scan.specs.LawStatements.{CanScan}
 use Rattle.profile_scan.specs.Origins.{found_by, found_from, from_stop}
-use Rattle.profile_scan.specs.Everywhere.{AnswerAll, AnswerToAny, AnswersFrom, AreInOrder, asked_to_any, criterion_of_profiles, listed_from, points_in}
+use Rattle.profile_scan.specs.Everywhere.{AnswerAll, AnswerToAny, AnswersFrom, asked_to_any, criterion_of_profiles, listed_from, points_in}
 use Rattle.profile_scan.specs.Everywhere.{scan_records_from, walk_from, walk_to_any}
 use Rattle.profile_scan.specs.declared.destination.Destination.{Destination}
 use Rattle.profile_scan.specs.declared.nodes.Node.{Node}

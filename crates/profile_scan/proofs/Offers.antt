@@ -237,7 +237,3 @@ module _ {V : Type 0} (rules : Rules V) where
 pub on_ok_more : {T E : Type 0} (r : Result T E) (P Q : Type 0) → (P → Q) → OnOk r P → OnOk r Q
 on_ok_more (Ok x) P Q f h = f h
 on_ok_more (Err e) P Q f h = h
-
-pub on_ok_both : {T E : Type 0} (r : Result T E) (P Q : Type 0) → OnOk r P → OnOk r Q → OnOk r (P × Q)
-on_ok_both (Ok x) P Q p q = (p, q)
-on_ok_both (Err e) P Q p q = p

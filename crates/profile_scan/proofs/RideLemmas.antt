@@ -90,6 +90,10 @@ one_alone [] x long is = absurd (omega arith)
 one_alone (y ∷ []) x long is = ap (λ z. z ∷ []) (sym is)
 one_alone (y ∷ z ∷ zs) x long is = absurd (omega arith)
 
+-- what holds of the only element
+pub of_only : {X : Type 0} (P : X → Type 0) (x : X) → P x → (y : X) → Contains (x ∷ []) y → P y
+of_only P x holds y h = elim (Contains-push_cases [] x y h) [ inl n ↦ absurd (not_in_nil y n) | inr e ↦ subst P e holds ]
+
 -- one label alone
 module _ {V : Type 0} (rules : Rules V) (values : List V) (x : Point V) where
   pub alone_ridden : (r : RiddenLabel V) → any_no_worse rules values r.value ≡ false → r.value ≡ rules.ride x.value
@@ -107,10 +111,7 @@ module _ {V : Type 0} (rules : Rules V) (values : List V) (x : Point V) where
       (ridden_none rules values (x ∷ []) [] refl))
 
   pub alone_admitted : Admits rules x.value → (p : Point V) → Contains (survivors rules values (x ∷ [])) p → Admits rules p.value
-  alone_admitted fair p h = elim (Contains-push_cases [] x p (from_survivors rules values (x ∷ []) p h).0) [
-    | inl n ↦ absurd (not_in_nil p n)
-    | inr e ↦ subst (λ (z : Point V). Admits rules z.value) e fair
-  ]
+  alone_admitted fair p h = of_only (λ (z : Point V). Admits rules z.value) x fair p (from_survivors rules values (x ∷ []) p h).0
 
 -- boarding connection `first` after the footpath at an index
 abbrev pub by_walk : ℕ → ℕ → ℕ → Footpath → Boarding

@@ -1,5 +1,5 @@
 -- What one scan for all sources keeps, and what it finds.
-use Rattle.std.specs.Prelude.{◌≡◌, ◌≢◌, ℕ, ◌<◌, List, [], length, Contains, AllPairs, Option, Some, None, slice_get}
+use Rattle.std.specs.Prelude.{◌≡◌, ◌≢◌, ℕ, ◌<◌, List, [], length, Contains, Option, Some, None, slice_get}
 use Rattle.std.specs.Prelude.{slice_index_or}
 use Rattle.std.specs.Global.{Vec}
 use Rattle.criteria.specs.Laws.{Rules}
@@ -11,7 +11,7 @@ use Rattle.timetable.specs.Journeys.{Counts}
 use Rattle.profile_scan.specs.SetQuery.{SetQueryValue, CountsBetween, IsAnswerBetween, IsDirectWalk, question, secs_of}
 use Rattle.profile_scan.specs.Values.{journey_value}
 use Rattle.profile_scan.specs.Plain.{IsPlain, IsPlainOf}
-use Rattle.profile_scan.specs.Points.{Before, IsAnswer}
+use Rattle.profile_scan.specs.Points.{AreInOrder, IsAnswer}
 use Rattle.profile_scan.specs.Matching.{IsAttained}
 use Rattle.profile_scan.specs.ScanRecords.{ScanRecords, spelling_of}
 use Rattle.profile_scan.specs.ScanState.{IsDirectSecs, scan_records_of, walk_by, final_walks_of}
@@ -25,12 +25,6 @@ use Rattle.profile_scan.specs.declared.to_any.ProfilesToAny.{ProfilesToAny}
 -- what is written down, as one source sees it
 abbrev pub scan_records_from : {K V : Type 0} {c : _} → ProfilesToAny K V c → ℕ → ScanRecords
 scan_records_from profiles = scan_records_of scan_value_from profiles.state
-
--- points are those of another list, in order
-pub record AreInOrder {V : Type 0} (rules : Rules V) (found points : List (Point V)) : Type 0 where
-  pub ordered : AllPairs (Before rules) points
-  pub only : (p : Point V) → Contains points p → Contains found p
-  pub each : (p : Point V) → Contains found p → Contains points p
 
 abbrev pub points_in : {V : Type 0} → Option (Vec (Point V)) → List (Point V)
 points_in None = []

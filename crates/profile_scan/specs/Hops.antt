@@ -49,10 +49,13 @@ pub record KnowsSources {V : Type 0} (sources : List ℕ) (hop : Hop V) (starts 
   pub within : IfSome start (λ walk. walk.from < length starts.leads.items)
   pub says : (stop : ℕ) (lead : StopAccess) → slice_get starts.leads.items stop ≡ Some lead → SaysSource sources stop lead.here
 
--- the connection is at its index, the starts lead from the sources, it is known whether it begins at a source and whether a footpath leads there from
--- one, and the way leads from where it ends to a target
+-- the connection is at its index, begins and ends at stops and is of a trip; the starts lead from the sources; it is known whether it begins at a source and
+-- whether a footpath leads there from one; and the way leads from where it ends to a target
 pub record IsHopOf {V : Type 0} (rules : Rules V) (t : TimetableValue) (q : SetQueryValue) (known : Starts) (hop : Hop V) : Type 0 where
   pub stands : StandsAt t hop.place hop.connection
+  pub begins : hop.connection.from < t.stops
+  pub ends : hop.connection.to < t.stops
+  pub on_trip : hop.connection.trip < t.trips
   pub by : IsTime q.by
   pub starts : AreStarts t q.sources known
   pub access : IsStopAccess t q.sources hop.connection.from hop.access

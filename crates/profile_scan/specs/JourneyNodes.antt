@@ -4,6 +4,7 @@ use Rattle.bags.specs.declared.point.Point.{Point}
 use Rattle.timetable.specs.declared.network.Footpath.{Footpath}
 use Rattle.timetable.specs.JourneyValue.{JourneyValue}
 use Rattle.fronts.specs.declared.entry.Step.{Step}
+use Rattle.fronts.specs.Front.{Extends}
 use Rattle.profile_scan.specs.Continuations.{Aboard}
 use Rattle.profile_scan.specs.Nodes.{spelling}
 use Rattle.profile_scan.specs.Points.{untagged}
@@ -58,6 +59,11 @@ IsJourneySpelled walks s tag = (j : JourneyValue) × ((spelling_of walks s).jour
 abbrev pub SaysJourney : List Footpath → ScanRecords → ℕ → List Node → ℕ → Type 0
 SaysJourney walks s tag nodes number = (j : JourneyValue) → (spelling_of walks s).journey tag ≡ Some j
     → (spelling nodes).journey number ≡ Some j
+
+-- nodes are added, and something is so
+pub record AddsNodes (old new : List Node) (Says : Type 0) : Type 0 where
+  pub nodes : Extends old new
+  pub says : Says
 
 -- a point has the departure and the value of one of `points`, and its tag is the number of a node that says the journey of that one
 pub record IsSpelledAgain {V : Type 0} (walks : List Footpath) (s : ScanRecords) (points : List (Point V)) (nodes : List Node)

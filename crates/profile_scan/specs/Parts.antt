@@ -1,5 +1,5 @@
 -- What each part of a scan's state takes in at a connection, and what it keeps.
-use Rattle.std.specs.Prelude.{◌≡◌, ◌≢◌, ◌<◌, ℕ, List, Contains, slice_get, vec_len, Option, Some, IfSome}
+use Rattle.std.specs.Prelude.{◌≡◌, ◌≢◌, ◌<◌, ◌+◌, ℕ, List, [], Contains, slice_get, vec_len, Option, Some, IfSome}
 use Rattle.criteria.specs.Laws.{Rules, Admits, IsSecs}
 use Rattle.bags.specs.Bag.{criterion_of}
 use Rattle.bags.specs.declared.point.Point.{Point}
@@ -12,19 +12,23 @@ use Rattle.fronts.specs.declared.entry.Step.{Step}
 use Rattle.fronts.specs.declared.labels.Label.{Label}
 use Rattle.profile_scan.specs.Matching.{Spellings}
 use Rattle.timetable.specs.TimetableValue.{TimetableValue}
-use Rattle.profile_scan.specs.Bound.{survivors}
-use Rattle.profile_scan.specs.Steps.{Offer, boardings}
-use Rattle.profile_scan.specs.Adding.{Takes, IsRelabelled, AreRidden, StandsBetween, each_of, boardings_by}
+use Rattle.timetable.specs.declared.network.Connection.{Connection}
+use Rattle.profile_scan.specs.Bound.{AreBounds, survivors}
+use Rattle.profile_scan.specs.Steps.{Offer, boardings, settings_out}
+use Rattle.profile_scan.specs.Adding.{Takes, IsRelabelled, AreRidden, AreWalksInto, StandsBetween, each_of, boardings_by}
 use Rattle.profile_scan.specs.Adding.{label_points, trip_points}
 use Rattle.profile_scan.specs.ScanRecords.{SourceValue, scan_records}
-use Rattle.profile_scan.specs.Hops.{IsHop}
+use Rattle.profile_scan.specs.Hops.{IsAsked, IsHop, IsHopOf, KnowsSources, StandsAt}
 use Rattle.profile_scan.specs.Origins.{AreUnder, ChangesOrigins, kept_of, scan_value_from}
-use Rattle.profile_scan.specs.ScanState.{AreStops, points_at}
-use Rattle.profile_scan.specs.SetQuery.{SetQueryValue}
+use Rattle.profile_scan.specs.ScanState.{AreSteps, AreStops, HasFound, HasStop, IsScan, IsState, points_at, scan_records_of}
+use Rattle.profile_scan.specs.SetQuery.{SetQueryValue, asked_from, question}
 use Rattle.profile_scan.specs.declared.hop.Hop.{Hop}
+use Rattle.profile_scan.specs.declared.hop.ScanQuery.{ScanQuery}
 use Rattle.profile_scan.specs.declared.origin.Origin.{Origin}
 use Rattle.profile_scan.specs.declared.origins.Origins.{Origins}
 use Rattle.profile_scan.specs.declared.stops.Stops.{Stops}
+use Rattle.profile_scan.specs.declared.scan.Scan.{Scan}
+use Rattle.profile_scan.specs.declared.scan.State.{State}
 use Rattle.profile_scan.specs.declared.scan_records.Exit.{Exit}
 use Rattle.profile_scan.specs.declared.scan_records.SetOut.{SetOut}
 use Rattle.profile_scan.specs.declared.trips.Trips.{Trips}
@@ -38,6 +42,12 @@ pub record ChangesTrip {K V : Type 0} (rules : Rules V) (trip : ℕ) (old new : 
 pub record CanLeave {K V : Type 0} (rules : Rules V) (q : SetQueryValue) (here : Hop V) (trips : Trips K V) : Type 0 where
   pub hop : IsHop rules q here
   pub trip : HasTrip rules trips.labels here.connection.trip
+
+-- and there is a list for the stop where the hop's connection ends
+pub record CanChange {K V : Type 0} (rules_of : K → Rules V) (criterion : K) (q : SetQueryValue) (here : Hop V) (trips : Trips K V)
+    (kept : Stops K V) : Type 0 where
+  pub can : CanLeave (rules_of criterion) q here trips
+  pub stop : HasStop rules_of criterion here.connection.to kept
 
 -- the labels of one trip take an offer in, and no others change
 pub record TripTakes {A K V : Type 0} (rules : Rules V) (index : ℕ) (offer : Spellings → Offer A V) (old new : Trips K V) : Type 0 where
@@ -74,7 +84,13 @@ pub record CanSetOut {K V : Type 0} {c : _} (rules_of : K → Rules V) (criterio
   pub found : criterion_of origin.found ≡ criterion
   pub labels : AdmitsLabels (rules_of criterion) of_trip
 
--- the same from one of several stops
+-- and whether the start is from a source can be looked up
+pub record CanSetOutBy {K V : Type 0} {c : _} (rules_of : K → Rules V) (query : ScanQuery K) (hop : Hop V) (start : Option Footpath)
+    (of_trip : List (Label V)) (origin : Origin K V c) : Type 0 where
+  pub lead : KnowsSources (question query.query).sources hop query.starts start
+  pub can : CanSetOut rules_of query.criterion start of_trip origin
+
+-- a start may be tried from one of several stops
 pub record CanSetOutFrom {K V : Type 0} {c : _} (rules_of : K → Rules V) (criterion : K) (from : ℕ) (start : Option Footpath) (of_trip : List (Label V))
     (kept : Origins K V c) : Type 0 where
   pub secs : IfSome start (λ walk. IsSecs walk.secs)
@@ -95,11 +111,54 @@ pub record OriginsTake {A K V : Type 0} {c : _} (rules_of : K → Rules V) (crit
   pub origins : ChangesOrigins criterion old new
   pub takes : (walks : List Footpath) (stop : ℕ) → SourceTakes (rules_of criterion) walks (offer stop) (scan_value_from old stop) (scan_value_from new stop)
 
--- `count` stops, and the ridden values are admitted
-pub record AreReady {K V : Type 0} (rules_of : K → Rules V) (criterion : K) (count : ℕ)
+-- it is made, and nothing is found for any question
+pub record IsNewSource {K V O : Type 0} (IsUnder : K → ℕ → O → Type 0) (kept : O → ℕ → SourceValue V) (criterion : K) (stops : ℕ) (new : O)
+    : Type 0 where
+  pub under : IsUnder criterion stops new
+  pub none : (index : ℕ) → (kept new index).found ≡ []
+
+-- what is kept where journeys set out may take in the settings out at a hop, by labels of its trip
+pub record CanSetOutAt {K V O : Type 0} (rules_of : K → Rules V) (IsUnder : K → ℕ → O → Type 0) (t : TimetableValue) (query : ScanQuery K)
+    (here : Hop V) (of_trip : List (Label V)) (kept : O) : Type 0 where
+  pub hop : IsHopOf (rules_of query.criterion) t (question query.query) query.starts here
+  pub under : IsUnder query.criterion t.stops kept
+  pub labels : AdmitsLabels (rules_of query.criterion) of_trip
+
+-- and it takes them in, for each question
+pub record SetsOut {K V O : Type 0} (rules_of : K → Rules V) (IsUnder : K → ℕ → O → Type 0) (sources : List ℕ → ℕ → List ℕ)
+    (kept : O → ℕ → SourceValue V) (t : TimetableValue) (query : ScanQuery K) (here : Hop V) (of_trip : List (Label V))
+    (old new : O) : Type 0 where
+  pub under : IsUnder query.criterion t.stops new
+  pub set_outs : (index : ℕ) → Extends (kept old index).set_outs (kept new index).set_outs
+  pub takes : (index : ℕ) → SourceTakes (rules_of query.criterion) t.footpaths
+      (λ tags. settings_out (rules_of query.criterion) t (asked_from sources (question query.query) index) tags here.place (label_points of_trip))
+      (kept old index) (kept new index)
+
+-- `count` stops, and these ridden values are admitted
+pub record AreReady {K V : Type 0} (rules_of : K → Rules V) (criterion : K) (count : ℕ) (rides : List (RiddenLabel V))
     (kept : Stops K V) : Type 0 where
   pub stops : AreStops rules_of criterion count kept
-  pub ridden : (r : RiddenLabel V) → Contains kept.ridden.items r → Admits (rules_of criterion) r.value
+  pub ridden : (r : RiddenLabel V) → Contains rides r → Admits (rules_of criterion) r.value
+
+-- passengers may board with these ridden values after a footpath
+pub record CanBoardAfter {K V : Type 0} (rules_of : K → Rules V) (criterion : K) (walk : Footpath) (rides : List (RiddenLabel V))
+    (kept : Stops K V) : Type 0 where
+  pub secs : IsSecs walk.secs
+  pub stop : walk.from < vec_len kept.heads
+  pub ready : AreReady rules_of criterion (vec_len kept.heads) rides kept
+
+-- the same after each of the footpaths at the indices `begin..end`, which lead to the stop where the connection begins
+pub record CanBoardAfterEach {K V : Type 0} (rules_of : K → Rules V) (criterion : K) (t : TimetableValue) (begin end : ℕ) (hop : Hop V)
+    (rides : List (RiddenLabel V)) (kept : Stops K V) : Type 0 where
+  pub walks : AreWalksInto t hop.connection.from begin end
+  pub ready : AreReady rules_of criterion t.stops rides kept
+
+-- the same at a hop, with labels of its trip
+pub record CanBoard {K V : Type 0} (rules_of : K → Rules V) (t : TimetableValue) (query : ScanQuery K) (here : Hop V) (of_trip : List (Label V))
+    (kept : Stops K V) : Type 0 where
+  pub hop : IsHopOf (rules_of query.criterion) t (question query.query) query.starts here
+  pub stops : AreStops rules_of query.criterion t.stops kept
+  pub labels : AdmitsLabels (rules_of query.criterion) of_trip
 
 -- steps are only added
 pub record ChangesStops {K V : Type 0} (rules_of : K → Rules V) (criterion : K) (count : ℕ)
@@ -150,3 +209,36 @@ pub record Boards {K V : Type 0} (rules_of : K → Rules V) (criterion : K) (t :
   pub takes : (stop : ℕ) → StopTakes (rules_of criterion) t.footpaths stop
       (λ tags. boardings (rules_of criterion) t tags hop.place stop (survivors (rules_of criterion) hop.bound.now (label_points labels)))
       old new
+
+-- a state may take a hop in: its bound is of points found
+pub record CanTake {K V O : Type 0} (rules_of : K → Rules V) (IsUnder : K → ℕ → O → Type 0) (kept : O → ℕ → SourceValue V)
+    (t : TimetableValue) (query : ScanQuery K) (here : Hop V) (old : State K O V) : Type 0 where
+  pub hop : IsHopOf (rules_of query.criterion) t (question query.query) query.starts here
+  pub bound : (index : ℕ) → AreBounds (rules_of query.criterion) t (kept old.origin index).found (here.place + 1) here.bound.now
+  pub state : IsState rules_of IsUnder query.criterion t.stops t.trips old
+
+-- and it takes in the connection at an index, for each question
+pub record TakesConnection {K V O : Type 0} (rules_of : K → Rules V) (IsUnder : K → ℕ → O → Type 0) (sources : List ℕ → ℕ → List ℕ)
+    (kept : O → ℕ → SourceValue V) (t : TimetableValue) (query : ScanQuery K) (place : ℕ) (old new : State K O V) : Type 0 where
+  pub state : IsState rules_of IsUnder query.criterion t.stops t.trips new
+  pub step : AreSteps (rules_of query.criterion) t sources kept (question query.query) place old new
+
+-- a scan may make the step of the connection at an index
+pub record CanStep {K V O : Type 0} (rules_of : K → Rules V) (IsUnder : K → ℕ → O → Type 0) (kept : O → ℕ → SourceValue V)
+    (t : TimetableValue) (query : ScanQuery K) (place : ℕ) (c : Connection) (old : Scan K O V) : Type 0 where
+  pub asked : IsAsked t query
+  pub stands : StandsAt t place c
+  pub scan : IsScan rules_of IsUnder kept query.criterion t (place + 1) old
+
+-- and it makes that step, for each question
+pub record MakesStep {K V O : Type 0} (rules_of : K → Rules V) (IsUnder : K → ℕ → O → Type 0) (sources : List ℕ → ℕ → List ℕ)
+    (kept : O → ℕ → SourceValue V) (t : TimetableValue) (query : ScanQuery K) (place : ℕ) (old new : Scan K O V) : Type 0 where
+  pub scan : IsScan rules_of IsUnder kept query.criterion t place new
+  pub step : AreSteps (rules_of query.criterion) t sources kept (question query.query) place old.state new.state
+
+-- a scan has read the connections from an index on: for each question the points found match
+pub record HasScanned {K V O : Type 0} (rules_of : K → Rules V) (IsUnder : K → ℕ → O → Type 0) (sources : List ℕ → ℕ → List ℕ)
+    (kept : O → ℕ → SourceValue V) (t : TimetableValue) (query : ScanQuery K) (start : ℕ) (scan : Scan K O V) : Type 0 where
+  pub under : IsUnder query.criterion t.stops scan.state.origin
+  pub found : (index : ℕ) → HasFound (rules_of query.criterion) t (asked_from sources (question query.query) index) start
+      (scan_records_of kept scan.state index) (kept scan.state.origin index).found

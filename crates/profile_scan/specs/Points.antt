@@ -56,6 +56,12 @@ IsAnswer rules t q = IsAnswerOf rules (IsPoint rules t q)
 abbrev pub untagged : {V : Type 0} → Point V → ℕ × V
 untagged p = (p.departure, p.value)
 
+-- points are those of another list, in order
+pub record AreInOrder {V : Type 0} (rules : Rules V) (found points : List (Point V)) : Type 0 where
+  pub ordered : AllPairs (Before rules) points
+  pub only : (p : Point V) → Contains points p → Contains found p
+  pub each : (p : Point V) → Contains found p → Contains points p
+
 -- points in order, and one that can be put among them: it comes before or after each
 pub record CanPut {V : Type 0} (rules : Rules V) (points : List (Point V)) (point : Point V) : Type 0 where
   pub ordered : AllPairs (Before rules) points

@@ -8,13 +8,14 @@ use Rattle.timetable.specs.TimetableValue.{TimetableValue}
 use Rattle.bags.specs.Dominance.{IsCovered}
 use Rattle.criteria.specs.Laws.{Rules, Admits}
 use Rattle.fronts.specs.Lists.{IsSound, lists_criterion, entries_of, steps_of, list_points}
-use Rattle.fronts.specs.Labels.{AreLabels, trips_of}
+use Rattle.fronts.specs.Labels.{AreLabels, HasTrip, trips_of}
 use Rattle.profile_scan.specs.Adding.{trip_points}
-use Rattle.profile_scan.specs.SetQuery.{SetQueryValue}
+use Rattle.profile_scan.specs.SetQuery.{SetQueryValue, asked_from}
 use Rattle.profile_scan.specs.Values.{journey_value}
 use Rattle.profile_scan.specs.Continuations.{CountsFrom}
 use Rattle.profile_scan.specs.Plain.{IsPlainOf}
-use Rattle.profile_scan.specs.Matching.{Matches, ScanValue}
+use Rattle.profile_scan.specs.Matching.{Matches, ScanValue, from_to}
+use Rattle.profile_scan.specs.Steps.{IsStep}
 use Rattle.profile_scan.specs.ScanRecords.{SourceValue, ScanRecords, scan_records, spelling_of}
 use Rattle.profile_scan.specs.declared.last_offers.LastOffer.{LastOffer}
 use Rattle.profile_scan.specs.declared.stops.Stops.{Stops}
@@ -122,6 +123,19 @@ scan_value_of kept state index = record {
 abbrev pub scan_records_of : {K V O : Type 0} → (O → ℕ → SourceValue V) → State K O V → ℕ → ScanRecords
 scan_records_of kept state index =
     scan_records state.trips.exits.items (steps_of state.stops.lists) (kept state.origin index).set_outs
+
+-- the step of the connection at an index, for each question
+abbrev pub AreSteps : {K V O : Type 0} → Rules V → TimetableValue → (List ℕ → ℕ → List ℕ) → (O → ℕ → SourceValue V) → SetQueryValue → ℕ
+    → State K O V → State K O V → Type 0
+AreSteps rules t sources kept q place old new =
+    (index : ℕ) → IsStep rules t (asked_from sources q index)
+    (from_to (spelling_of t.footpaths (scan_records_of kept old index)) (spelling_of t.footpaths (scan_records_of kept new index)))
+    place (scan_value_of kept old index) (scan_value_of kept new index)
+
+-- a state has this trip and this stop
+pub record HasTripAndStop {K V O : Type 0} (rules_of : K → Rules V) (criterion : K) (of_trip of_stop : ℕ) (state : State K O V) : Type 0 where
+  pub trip : HasTrip (rules_of criterion) state.trips.labels of_trip
+  pub stop : HasStop rules_of criterion of_stop state.stops
 
 -- a state for `stops` stops and `trips` trips, under a criterion
 pub record IsState {K V O : Type 0} (rules_of : K → Rules V) (IsUnder : K → ℕ → O → Type 0) (criterion : K) (stops trips : ℕ)

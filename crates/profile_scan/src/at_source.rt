@@ -1,16 +1,11 @@
 //! Where the journeys of a scan set out, and what it keeps there.
 
-ghost use Rattle.std.specs.Prelude.{◌≡◌, [], ℕ, List, IfOk, OnOk, Contains};
+ghost use Rattle.std.specs.Prelude.{ℕ, List, IfOk, OnOk, Contains};
 ghost use Rattle.criteria.specs.Laws.{Admits};
 ghost use Rattle.bags.specs.Dominance.{IsBag};
-ghost use Rattle.fronts.specs.Front.{Extends};
 ghost use Rattle.profile_scan.specs.ScanRecords.{SourceValue};
-ghost use Rattle.profile_scan.specs.Adding.{label_points};
-ghost use Rattle.profile_scan.specs.Steps.{settings_out};
 ghost use Rattle.profile_scan.specs.Bound.{IsRenewed};
-ghost use Rattle.profile_scan.specs.Hops.{IsHopOf};
-ghost use Rattle.profile_scan.specs.SetQuery.{asked_from, question};
-ghost use Rattle.profile_scan.specs.Parts.{AdmitsLabels, SourceTakes};
+ghost use Rattle.profile_scan.specs.Parts.{CanSetOutAt, IsNewSource, SetsOut};
 
 use crate::bound::Bound;
 use crate::hop::{Hop, ScanQuery};
@@ -35,8 +30,7 @@ pub trait AtSource<C: Criterion>: Drop {
 
     /// Nothing found yet, in a timetable of `stops` stops.
     fn new(alloc: Global, criterion: &C, stops: u32) -> Result<Self, AllocError>
-        ensures under { IfOk result (λ side. IsUnder criterion.now stops side) }
-        ensures none { IfOk result (λ side. (index : ℕ) → (kept side index).found ≡ []) };
+        ensures { IfOk result (IsNewSource IsUnder kept criterion.now stops) };
 
     /// Adds values to a bound: those of points that depart at `time` or later and were found for every question. What
     /// the bound excluded stays excluded.
@@ -57,18 +51,9 @@ pub trait AtSource<C: Criterion>: Drop {
         hop: &Hop<C::V>,
         labels: &[Label<C::V>],
     ) -> Result<(), AllocError>
-        requires hop { IsHopOf (C.rules asked.now.criterion) (S.timetable source.now)
-            (question asked.now.query) asked.now.starts hop.now }
-        requires under { IsUnder asked.now.criterion (S.timetable source.now).stops self.old }
-        requires labels { AdmitsLabels (C.rules asked.now.criterion) labels.now }
-        ensures under { OnOk result (IsUnder asked.now.criterion (S.timetable source.now).stops self.new) }
-        ensures set_outs { OnOk result ((index : ℕ)
-            → Extends (kept self.old index).set_outs (kept self.new index).set_outs) }
-        ensures takes { OnOk result ((index : ℕ)
-            → SourceTakes (C.rules asked.now.criterion) (S.timetable source.now).footpaths
-            (λ tags. settings_out (C.rules asked.now.criterion) (S.timetable source.now)
-            (asked_from sources (question asked.now.query) index) tags hop.now.place (label_points labels.now))
-            (kept self.old index) (kept self.new index)) };
+        requires { CanSetOutAt C.rules IsUnder (S.timetable source.now) asked.now hop.now labels.now self.old }
+        ensures { OnOk result (SetsOut C.rules IsUnder sources kept (S.timetable source.now) asked.now hop.now
+            labels.now self.old self.new) };
 
     // the points found are a bag
     ghost bags: { (criterion : C) (stops : ℕ) (side : Self) → IsUnder criterion stops side → (index : ℕ)

@@ -1,8 +1,8 @@
 //! The answer of a query.
 
-ghost use Rattle.std.specs.Prelude.{◌≡◌, ◌<◌, IfOk, OnOk, Contains, AllPairs, length, slice_get, Some};
+ghost use Rattle.std.specs.Prelude.{◌≡◌, ◌<◌, IfOk, OnOk, length, slice_get, Some};
 ghost use Rattle.bags.specs.Bag.{criterion_of, points_of};
-ghost use Rattle.profile_scan.specs.Points.{Before, CanPut, IsIndexFor, IsPut};
+ghost use Rattle.profile_scan.specs.Points.{AreInOrder, CanPut, IsIndexFor, IsPut};
 ghost use Rattle.profile_scan.specs.Answered.{Answer};
 
 use crate::nodes::Node;
@@ -74,9 +74,7 @@ pub fn in_order<C: Criterion>(
     bag: &Bag<C>,
 ) -> Result<Vec<Point<C::V>>, AllocError>
     requires { criterion_of bag.now ≡ criterion.now }
-    ensures ordered { IfOk result (λ points. AllPairs (Before (C.rules criterion.now)) points.items) }
-    ensures only { IfOk result (λ points. (p : _) → Contains points.items p → Contains (points_of bag.now) p) }
-    ensures each { IfOk result (λ points. (p : _) → Contains (points_of bag.now) p → Contains points.items p) }
+    ensures { IfOk result (λ points. AreInOrder (C.rules criterion.now) (points_of bag.now) points.items) }
 {
     let mut points = Vec::with_capacity(alloc, bag.len())?;
     let mut left = bag.len();

@@ -2,7 +2,6 @@
 
 ghost use Rattle.std.specs.Prelude.{◌≡◌, ◌++◌, ◌∷◌, [], ℕ, IfOk, Contains, Some, None, length, map};
 ghost use Rattle.bags.specs.declared.point.Point.{Point};
-ghost use Rattle.fronts.specs.Front.{Extends};
 ghost use Rattle.profile_scan.specs.Views.{scan_records_seen};
 ghost use Rattle.profile_scan.specs.declared.journey_nodes.Change.{Change};
 ghost use Rattle.profile_scan.specs.JourneyNodes.{IsRoute, change, ending, IsLabelSpelled, SaysLabel, IsJourneySpelled};
@@ -36,10 +35,9 @@ struct LastAlighting {
 impl<'a, C: Criterion> ScanView<'a, C> {
     ghost use Rattle.std.specs.Prelude.{◌≡◌, ◌++◌, ◌∷◌, [], ℕ, IfOk, Contains, Some, None, length, map};
     ghost use Rattle.bags.specs.declared.point.Point.{Point};
-    ghost use Rattle.fronts.specs.Front.{Extends};
     ghost use Rattle.profile_scan.specs.Views.{scan_records_seen};
     ghost use Rattle.profile_scan.specs.declared.journey_nodes.Change.{Change};
-    ghost use Rattle.profile_scan.specs.JourneyNodes.{IsRoute, change, ending};
+    ghost use Rattle.profile_scan.specs.JourneyNodes.{AddsNodes, IsRoute, change, ending};
     ghost use Rattle.profile_scan.specs.JourneyNodes.{IsLabelSpelled, SaysLabel, IsJourneySpelled};
     ghost use Rattle.profile_scan.specs.JourneyNodes.{SaysJourney, IsSpelledAgain};
 
@@ -91,10 +89,10 @@ impl<'a, C: Criterion> ScanView<'a, C> {
     // one that ends, like the one that `add_journey_nodes` gets from `note_route`; for any other the number means
     // nothing.
     fn add_end_node(&self, label: usize, nodes: &mut Vec<Node>) -> Result<usize, AllocError>
-        ensures nodes { Extends nodes.old.items nodes.new.items }
-        ensures says { IfOk result (λ number. (walks : _) → IsLabelSpelled walks (scan_records_seen self.now) label
+        ensures { IfOk result (λ number. AddsNodes nodes.old.items nodes.new.items
+            ((walks : _) → IsLabelSpelled walks (scan_records_seen self.now) label
             → change (scan_records_seen self.now) label ≡ None
-            → SaysLabel walks (scan_records_seen self.now) label nodes.new.items number) }
+            → SaysLabel walks (scan_records_seen self.now) label nodes.new.items number)) }
     {
         match self.end_after(label) {
             None => Ok(nodes.len()),
@@ -121,10 +119,8 @@ impl<'a, C: Criterion> ScanView<'a, C> {
         requires next { (c : Change) × (change (scan_records_seen self.now) label ≡ Some c)
             × SaysLabel (S.timetable source.now).footpaths (scan_records_seen self.now) c.step.label nodes.old.items
             next }
-        ensures nodes { Extends nodes.old.items nodes.new.items }
-        ensures says { IfOk result
-            (λ number. SaysLabel (S.timetable source.now).footpaths (scan_records_seen self.now) label nodes.new.items
-            number) }
+        ensures { IfOk result (λ number. AddsNodes nodes.old.items nodes.new.items
+            (SaysLabel (S.timetable source.now).footpaths (scan_records_seen self.now) label nodes.new.items number)) }
     {
         match self.change_after(label) {
             None => Ok(next),
@@ -158,10 +154,8 @@ impl<'a, C: Criterion> ScanView<'a, C> {
         nodes: &mut Vec<Node>,
     ) -> Result<usize, AllocError>
         requires { IsJourneySpelled (S.timetable source.now).footpaths (scan_records_seen self.now) tag }
-        ensures nodes { Extends nodes.old.items nodes.new.items }
-        ensures says { IfOk result
-            (λ number. SaysJourney (S.timetable source.now).footpaths (scan_records_seen self.now) tag nodes.new.items
-            number) }
+        ensures { IfOk result (λ number. AddsNodes nodes.old.items nodes.new.items
+            (SaysJourney (S.timetable source.now).footpaths (scan_records_seen self.now) tag nodes.new.items number)) }
     {
         let set_out = self.origin.set_outs[tag];
         let last = self.note_route(set_out.label, route)?;
@@ -182,8 +176,7 @@ impl<'a, C: Criterion> ScanView<'a, C> {
 
 // Adds a node, and returns its number.
 fn add(nodes: &mut Vec<Node>, node: Node) -> Result<usize, AllocError>
-    ensures nodes { Extends nodes.old.items nodes.new.items }
-    ensures added { IfOk result (λ number. (number ≡ length nodes.old.items)
+    ensures { IfOk result (λ number. (number ≡ length nodes.old.items)
         × (nodes.new.items ≡ nodes.old.items ++ node ∷ [])) }
 {
     let number = nodes.len();

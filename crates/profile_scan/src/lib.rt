@@ -11,7 +11,7 @@
 //! else it renews the bound for the connection's departure, makes a `Hop` and calls `State::take`:
 //!
 //! 1. Leave the trip, if passengers may get off. The journey may end there, or one footpath on (`hop.final_walk`):
-//!    `Trips::end` offers that to the labels of the connection's trip, with the value that `value_at_end` makes. Or
+//!    `Trips::end` offers that to the labels of the connection's trip, with the value of that arrival. Or
 //!    the passenger may change: `Trips::change` offers the stop's points that depart at the arrival or later; it reads
 //!    the stops as they were before this connection, and `hop.bound`. Both change only those labels, by
 //!    `fronts::offer_label`, and append to `exits`. Staying on needs no code: the labels of the trip remain. A stop's
@@ -96,5 +96,5 @@ pub use found_between::FoundBetween;
 pub use nodes::Node;
 pub use profiles::{Profiles, profiles_to};
 pub use set_query::SetQuery;
-pub use sources::{ConnSource, Decoded, InPlace};
+pub use sources::{ConnSource, Decoded, InPlace, ReadLog};
 pub use to_any::{ProfilesToAny, profiles_to_any};

@@ -3,7 +3,6 @@
 ghost use Rattle.std.specs.Prelude.{◌≡◌, ◌-◌, IfSome, MatchBool, MatchOption};
 ghost use Rattle.criteria.specs.Laws.{Admits, IsSecs};
 ghost use Rattle.timetable.specs.Journeys.{start_secs};
-ghost use Rattle.profile_scan.specs.Values.{started};
 ghost use Rattle.profile_scan.specs.Adding.{IsInTime, StartsFrom};
 ghost use Rattle.profile_scan.specs.SetQuery.{question};
 ghost use Rattle.profile_scan.specs.Hops.{KnowsSources};
@@ -11,7 +10,7 @@ ghost use Rattle.profile_scan.specs.Hops.{KnowsSources};
 use crate::at_source::AtSource;
 use crate::bound::Bound;
 use crate::hop::{Hop, ScanQuery};
-use crate::riding::label_at;
+use crate::riding::{label_at, started};
 use crate::scan_records::SetOut;
 use crate::set_query::SetQuery;
 use bags::Bag;
@@ -36,8 +35,7 @@ impl<C: Criterion> Origin<C> {
     ghost use Rattle.timetable.specs.Journeys.{start_secs};
     ghost use Rattle.profile_scan.specs.Adding.{label_points, only_if, set_out_way, settings_out_after, MayStart};
     ghost use Rattle.profile_scan.specs.Steps.{settings_out};
-    ghost use Rattle.profile_scan.specs.Hops.{KnowsSources};
-    ghost use Rattle.profile_scan.specs.Parts.{CanSetOut, OriginTakes};
+    ghost use Rattle.profile_scan.specs.Parts.{CanSetOut, CanSetOutBy, OriginTakes};
 
     /// Makes an origin without points.
     pub fn empty(alloc: Global, criterion: C) -> Self
@@ -89,7 +87,8 @@ impl<C: Criterion> Origin<C> {
     {
         for k in 0..labels.len() {
             let label = label_at(labels, k);
-            let value = value_with_start(&asked.criterion, departure.start, &label.value);
+            let ridden = asked.criterion.ride(&label.value);
+            let value = started(&asked.criterion, departure.start, &ridden);
             let set_out = SetOut {
                 start: departure.start,
                 first: place,
@@ -110,8 +109,7 @@ impl<C: Criterion> Origin<C> {
         start: Option<Footpath>,
         labels: &[Label<C::V>],
     ) -> Result<(), AllocError>
-        requires lead { KnowsSources (question asked.now.query).sources hop.now asked.now.starts start }
-        requires can { CanSetOut C.rules asked.now.criterion start labels.now self.old }
+        requires { CanSetOutBy C.rules asked.now hop.now start labels.now self.old }
         ensures { OnOk result (OriginTakes C.rules asked.now.criterion
             (λ tags. only_if (MayStart (question asked.now.query) hop.now.connection start)
             (settings_out_after (C.rules asked.now.criterion) tags hop.now.place
@@ -227,17 +225,4 @@ pub fn departure_with(
         return None;
     }
     Some(SourceDeparture { start, time })
-}
-
-// A label's value with the ride in its trip, and with a start before that.
-fn value_with_start<C: Criterion>(criterion: &C, start: Option<Footpath>, value: &C::V) -> C::V
-    requires secs { IfSome start (λ walk. IsSecs walk.secs) }
-    requires admitted { Admits (C.rules criterion.now) value.now }
-    ensures { result ≡ started (C.rules criterion.now) start ((C.rules criterion.now).ride value.now) }
-{
-    let ridden = criterion.ride(value);
-    match start {
-        None => ridden,
-        Some(walk) => criterion.walk(walk.secs, &ridden),
-    }
 }

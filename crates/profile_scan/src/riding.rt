@@ -1,7 +1,8 @@
 //! The labels of a trip as points, and their values with the ride in the trip.
 
-ghost use Rattle.std.specs.Prelude.{◌≡◌, ◌<◌, OnOk, IfOk, Contains, slice_get, Some, length};
-ghost use Rattle.criteria.specs.Laws.{Admits};
+ghost use Rattle.std.specs.Prelude.{◌≡◌, ◌<◌, OnOk, IfOk, IfSome, Contains, slice_get, Some, length};
+ghost use Rattle.criteria.specs.Laws.{Admits, IsSecs};
+ghost use Rattle.profile_scan.specs.Values.{started};
 ghost use Rattle.bags.specs.declared.point.Point.{Point};
 ghost use Rattle.profile_scan.specs.Adding.{label_points, AreRidden};
 ghost use Rattle.profile_scan.specs.Bound.{survivors, RidesLabel};
@@ -11,6 +12,7 @@ use bags::Point;
 use criteria::Criterion;
 use fronts::{Label, RiddenLabel};
 use std::alloc::AllocError;
+use timetable::Footpath;
 
 /// Returns a tag or an index as a number of 32 bits. Past 2^32 - 1 it fails, as if memory had run out.
 pub fn number_of(tag: usize) -> Result<u32, AllocError>
@@ -20,6 +22,18 @@ pub fn number_of(tag: usize) -> Result<u32, AllocError>
         return Err(AllocError);
     }
     Ok(tag as u32)
+}
+
+/// A value with a start, or a last footpath, before it.
+pub fn started<C: Criterion>(criterion: &C, walk: Option<Footpath>, value: &C::V) -> C::V
+    requires secs { IfSome walk (λ walk. IsSecs walk.secs) }
+    requires admitted { Admits (C.rules criterion.now) value.now }
+    ensures { result ≡ started (C.rules criterion.now) walk value.now }
+{
+    match walk {
+        None => *value,
+        Some(walk) => criterion.walk(walk.secs, value),
+    }
 }
 
 // A label's point.

@@ -24,25 +24,26 @@ pub struct State<C: Criterion, O> {
 }
 
 impl<C: Criterion, O: AtSource<C>> State<C, O> {
-    ghost use Rattle.profile_scan.specs.SetQuery.{asked_from, question};
-    ghost use Rattle.std.specs.Prelude.{◌≡◌, ◌+◌, ℕ, IfOk, OnOk, true};
-    ghost use Rattle.profile_scan.specs.Matching.{from_to};
-    ghost use Rattle.profile_scan.specs.Steps.{IsIdle, IsStep};
+    ghost use Rattle.std.specs.Prelude.{◌≡◌, IfOk, OnOk, true};
+    ghost use Rattle.profile_scan.specs.Steps.{IsIdle};
     ghost use Rattle.profile_scan.specs.Adding.{trip_points};
-    ghost use Rattle.profile_scan.specs.Bound.{AreBounds};
-    ghost use Rattle.profile_scan.specs.ScanRecords.{spelling_of};
-    ghost use Rattle.profile_scan.specs.ScanState.{HasStop, IsNewState, IsState, points_at};
-    ghost use Rattle.profile_scan.specs.ScanState.{scan_value_of, scan_records_of};
-    ghost use Rattle.profile_scan.specs.Hops.{IsHopOf};
-    ghost use Rattle.fronts.specs.Labels.{HasTrip};
+    ghost use Rattle.profile_scan.specs.Parts.{CanTake, TakesConnection};
+    ghost use Rattle.profile_scan.specs.ScanState.{HasTripAndStop, IsNewState, points_at};
 
-    // A state for `stops` stops and `trips` trips, before any connection is read.
-    fn new(alloc: Global, criterion: &C, stops: u32, trips: u32) -> Result<Self, AllocError>
+    // A state for `stops` stops and `trips` trips, before any connection is read, with room for what `expected`
+    // connections mostly add.
+    fn new(
+        alloc: Global,
+        criterion: &C,
+        stops: u32,
+        trips: u32,
+        expected: usize,
+    ) -> Result<Self, AllocError>
         ensures { IfOk result (IsNewState C.rules O.IsUnder O.kept criterion.now stops trips) }
     {
-        let trips = Trips::new(alloc, criterion, trips)?;
+        let trips = Trips::new(alloc, criterion, trips, expected)?;
         let origin = O::new(alloc, criterion, stops)?;
-        let stops = Stops::new(alloc, criterion, stops)?;
+        let stops = Stops::new(alloc, criterion, stops, expected)?;
         Ok(State {
             trips,
             stops,
@@ -53,8 +54,7 @@ impl<C: Criterion, O: AtSource<C>> State<C, O> {
     // Returns true only if the connection can add nothing; false is always safe. The stop is looked at first: few lead
     // nowhere, but half of the trips have labels, and a branch on that is often mispredicted.
     fn is_idle(&self, asked: &ScanQuery<C>, connection: &Connection, way: Option<FinalWalk>) -> bool
-        requires trip { HasTrip (C.rules asked.now.criterion) self.now.trips.labels connection.now.trip }
-        requires stop { HasStop C.rules asked.now.criterion connection.now.to self.now.stops }
+        requires { HasTripAndStop C.rules asked.now.criterion connection.now.trip connection.now.to self.now }
         ensures { result ≡ true → IsIdle connection.now way
             (trip_points self.now.trips.labels connection.now.trip) (points_at self.now.stops connection.now.to) }
     {
@@ -77,20 +77,9 @@ impl<C: Criterion, O: AtSource<C>> State<C, O> {
         source: &S,
         hop: &Hop<C::V>,
     ) -> Result<(), AllocError>
-        requires hop { IsHopOf (C.rules asked.now.criterion) (S.timetable source.now)
-            (question asked.now.query) asked.now.starts hop.now }
-        requires bound { (index : ℕ) → AreBounds (C.rules asked.now.criterion) (S.timetable source.now)
-            (O.kept self.old.origin index).found (hop.now.place + 1) hop.now.bound.now }
-        requires state { IsState C.rules O.IsUnder asked.now.criterion
-            (S.timetable source.now).stops (S.timetable source.now).trips self.old }
-        ensures state { OnOk result (IsState C.rules O.IsUnder asked.now.criterion
-            (S.timetable source.now).stops (S.timetable source.now).trips self.new) }
-        ensures step { OnOk result ((index : ℕ)
-            → IsStep (C.rules asked.now.criterion) (S.timetable source.now)
-            (asked_from O.sources (question asked.now.query) index)
-            (from_to (spelling_of (S.timetable source.now).footpaths (scan_records_of O.kept self.old index))
-            (spelling_of (S.timetable source.now).footpaths (scan_records_of O.kept self.new index)))
-            hop.now.place (scan_value_of O.kept self.old index) (scan_value_of O.kept self.new index)) }
+        requires { CanTake C.rules O.IsUnder O.kept (S.timetable source.now) asked.now hop.now self.old }
+        ensures { OnOk result (TakesConnection C.rules O.IsUnder O.sources O.kept (S.timetable source.now) asked.now
+            hop.now.place self.old self.new) }
     {
         if hop.connection.alight {
             self.trips.end(asked, hop)?;
@@ -133,13 +122,8 @@ pub struct Scan<C: Criterion, O> {
 }
 
 impl<C: Criterion, O: AtSource<C>> Scan<C, O> {
-    ghost use Rattle.profile_scan.specs.SetQuery.{asked_from, question};
-    ghost use Rattle.std.specs.Prelude.{◌≡◌, ◌+◌, ℕ, OnOk};
-    ghost use Rattle.profile_scan.specs.Matching.{from_to};
-    ghost use Rattle.profile_scan.specs.Steps.{IsStep};
-    ghost use Rattle.profile_scan.specs.ScanRecords.{spelling_of};
-    ghost use Rattle.profile_scan.specs.ScanState.{IsScan, scan_value_of, scan_records_of};
-    ghost use Rattle.profile_scan.specs.Hops.{IsAsked, StandsAt};
+    ghost use Rattle.std.specs.Prelude.{OnOk};
+    ghost use Rattle.profile_scan.specs.Parts.{CanStep, MakesStep};
 
     // Unless the connection at index `place` can add nothing, renews the bound and takes the connection in.
     fn step<S: ConnSource>(
@@ -149,18 +133,9 @@ impl<C: Criterion, O: AtSource<C>> Scan<C, O> {
         connection: &Connection,
         place: u32,
     ) -> Result<(), AllocError>
-        requires asked { IsAsked (S.timetable source.now) asked.now }
-        requires stands { StandsAt (S.timetable source.now) place connection.now }
-        requires scan { IsScan C.rules O.IsUnder O.kept asked.now.criterion
-            (S.timetable source.now) (place + 1) self.old }
-        ensures scan { OnOk result (IsScan C.rules O.IsUnder O.kept asked.now.criterion
-            (S.timetable source.now) place self.new) }
-        ensures step { OnOk result ((index : ℕ)
-            → IsStep (C.rules asked.now.criterion) (S.timetable source.now)
-            (asked_from O.sources (question asked.now.query) index)
-            (from_to (spelling_of (S.timetable source.now).footpaths (scan_records_of O.kept self.old.state index))
-            (spelling_of (S.timetable source.now).footpaths (scan_records_of O.kept self.new.state index)))
-            place (scan_value_of O.kept self.old.state index) (scan_value_of O.kept self.new.state index)) }
+        requires { CanStep C.rules O.IsUnder O.kept (S.timetable source.now) asked.now place connection.now self.old }
+        ensures { OnOk result (MakesStep C.rules O.IsUnder O.sources O.kept (S.timetable source.now) asked.now place
+            self.old self.new) }
     {
         let way = asked.final_walks.final_walk_from(connection.to);
         if self.state.is_idle(asked, connection, way) {
@@ -182,10 +157,9 @@ impl<C: Criterion, O: AtSource<C>> Scan<C, O> {
 }
 
 ghost use Rattle.std.specs.Prelude.{◌-◌, ◌++◌, ℕ, IfOk, OnOk, OnErr, take};
-ghost use Rattle.profile_scan.specs.SetQuery.{asked_from, question};
 ghost use Rattle.profile_scan.specs.Hops.{IsWindow};
 ghost use Rattle.profile_scan.specs.Window.{falling};
-ghost use Rattle.profile_scan.specs.ScanState.{HasFound, scan_records_of};
+ghost use Rattle.profile_scan.specs.Parts.{HasScanned};
 
 /// Scans the connections of a window, the last first. For each question, the points found match every journey whose
 /// first connection is in the window or later.
@@ -197,17 +171,21 @@ pub fn scan_window<S: ConnSource, C: Criterion, O: AtSource<C>>(
 ) -> Result<Scan<C, O>, AllocError>
     requires { IsWindow (S.timetable source.old) asked.now window.start window.end }
     ensures timetable { S.timetable source.new ≡ S.timetable source.old }
-    ensures under { IfOk result (λ scan.
-        O.IsUnder asked.now.criterion (S.timetable source.old).stops scan.state.origin) }
-    ensures found { IfOk result (λ scan. (index : ℕ) → HasFound (C.rules asked.now.criterion)
-        (S.timetable source.old) (asked_from O.sources (question asked.now.query) index) window.start
-        (scan_records_of O.kept scan.state index) (O.kept scan.state.origin index).found) }
+    ensures scanned { IfOk result (HasScanned C.rules O.IsUnder O.sources O.kept (S.timetable source.old) asked.now
+        window.start) }
     ensures log { OnOk result
         (S.log source.new ≡ S.log source.old ++ falling window.start (window.end - window.start)) }
     ensures err { OnErr result ((n : ℕ)
         × (S.log source.new ≡ S.log source.old ++ take n (falling window.start (window.end - window.start)))) }
 {
-    let state = State::new(alloc, &asked.criterion, source.stops(), source.trips())?;
+    let expected = window.end - window.start;
+    let state = State::new(
+        alloc,
+        &asked.criterion,
+        source.stops(),
+        source.trips(),
+        expected,
+    )?;
     let mut scan = Scan {
         state,
         bound: Bound::new(alloc),

@@ -23,20 +23,23 @@ pub struct Stops<C: Criterion> {
 }
 
 impl<C: Criterion> Stops<C> {
-    ghost use Rattle.std.specs.Prelude.{◌≡◌, ◌<◌, [], ◌∷◌, ℕ, true, IfOk, OnOk, vec_len, slice_index};
-    ghost use Rattle.criteria.specs.Laws.{Admits, IsSecs};
+    ghost use Rattle.std.specs.Prelude.{◌≡◌, ◌<◌, [], ◌∷◌, true, IfOk, OnOk, vec_len, slice_index};
+    ghost use Rattle.criteria.specs.Laws.{Admits};
     ghost use Rattle.bags.specs.Dominance.{IsCovered};
-    ghost use Rattle.profile_scan.specs.Adding.{AreWalksInto};
-    ghost use Rattle.profile_scan.specs.ScanState.{AreNewStops, AreStops, HasStop, points_at};
-    ghost use Rattle.profile_scan.specs.Hops.{IsHopOf};
-    ghost use Rattle.profile_scan.specs.SetQuery.{question};
-    ghost use Rattle.profile_scan.specs.Parts.{AdmitsLabels, AreReady, Boards, BoardsAfter, BoardsAfterEach};
+    ghost use Rattle.profile_scan.specs.ScanState.{AreNewStops, HasStop, points_at};
+    ghost use Rattle.profile_scan.specs.Parts.{Boards, BoardsAfter, BoardsAfterEach, CanBoard, CanBoardAfter};
+    ghost use Rattle.profile_scan.specs.Parts.{CanBoardAfterEach};
 
-    /// Makes the lists of `count` stops, which are empty.
-    pub fn new(alloc: Global, criterion: &C, count: u32) -> Result<Self, AllocError>
+    /// Makes the lists of `count` stops, which are empty, with room for what `expected` connections mostly add.
+    pub fn new(
+        alloc: Global,
+        criterion: &C,
+        count: u32,
+        expected: usize,
+    ) -> Result<Self, AllocError>
         ensures { IfOk result (AreNewStops C.rules criterion.now count) }
     {
-        let lists = FrontLists::new(alloc, *criterion)?;
+        let lists = FrontLists::new(alloc, *criterion, expected)?;
         let heads = vec![in alloc; 0u32; count as usize]?;
         let offers = none_offered(alloc, criterion, count as usize)?;
         Ok(Stops {
@@ -80,9 +83,7 @@ impl<C: Criterion> Stops<C> {
         walk_index: usize,
         walk: Footpath,
     ) -> Result<(), AllocError>
-        requires secs { IsSecs walk.secs }
-        requires stop { walk.from < vec_len self.old.heads }
-        requires ready { AreReady C.rules asked.now.criterion (vec_len self.old.heads) self.old }
+        requires { CanBoardAfter C.rules asked.now.criterion walk self.old.ridden.items self.old }
         ensures { OnOk result (BoardsAfter C.rules asked.now.criterion (vec_len self.old.heads) hop.now walk_index walk
             self.old.ridden.items self.old self.new) }
     {
@@ -113,8 +114,8 @@ impl<C: Criterion> Stops<C> {
         hop: &Hop<C::V>,
         walks: Range<usize>,
     ) -> Result<(), AllocError>
-        requires walks { AreWalksInto (S.timetable source.now) hop.now.connection.from walks.start walks.end }
-        requires ready { AreReady C.rules asked.now.criterion (S.timetable source.now).stops self.old }
+        requires { CanBoardAfterEach C.rules asked.now.criterion (S.timetable source.now)
+            walks.start walks.end hop.now self.old.ridden.items self.old }
         ensures { OnOk result (BoardsAfterEach C.rules asked.now.criterion (S.timetable source.now)
             walks.start walks.end hop.now self.old.ridden.items self.old self.new) }
     {
@@ -136,9 +137,7 @@ impl<C: Criterion> Stops<C> {
         walk: Footpath,
         ride: RiddenLabel<C::V>,
     ) -> Result<(), AllocError>
-        requires secs { IsSecs walk.secs }
-        requires has { HasStop C.rules asked.now.criterion walk.from self.old }
-        requires ride { Admits (C.rules asked.now.criterion) ride.value }
+        requires { CanBoardAfter C.rules asked.now.criterion walk (ride ∷ []) self.old }
         ensures { OnOk result (BoardsAfter C.rules asked.now.criterion (vec_len self.old.heads) hop.now walk_index walk
             (ride ∷ []) self.old self.new) }
     {
@@ -178,9 +177,8 @@ impl<C: Criterion> Stops<C> {
         walks: Range<usize>,
         ride: RiddenLabel<C::V>,
     ) -> Result<(), AllocError>
-        requires walks { AreWalksInto (S.timetable source.now) hop.now.connection.from walks.start walks.end }
-        requires stops { AreStops C.rules asked.now.criterion (S.timetable source.now).stops self.old }
-        requires ride { Admits (C.rules asked.now.criterion) ride.value }
+        requires { CanBoardAfterEach C.rules asked.now.criterion (S.timetable source.now)
+            walks.start walks.end hop.now (ride ∷ []) self.old }
         ensures { OnOk result (BoardsAfterEach C.rules asked.now.criterion (S.timetable source.now)
             walks.start walks.end hop.now (ride ∷ []) self.old self.new) }
     {
@@ -201,11 +199,8 @@ impl<C: Criterion> Stops<C> {
         hop: &Hop<C::V>,
         label: &Label<C::V>,
     ) -> Result<(), AllocError>
-        requires hop { IsHopOf (C.rules asked.now.criterion) (S.timetable source.now)
-            (question asked.now.query) asked.now.starts hop.now }
+        requires can { CanBoard C.rules (S.timetable source.now) asked.now hop.now (label.now ∷ []) self.old }
         requires boards { hop.now.connection.board ≡ true }
-        requires stops { AreStops C.rules asked.now.criterion (S.timetable source.now).stops self.old }
-        requires label { Admits (C.rules asked.now.criterion) label.now.value }
         ensures { OnOk result
             (Boards C.rules asked.now.criterion (S.timetable source.now) hop.now (label.now ∷ []) self.old self.new) }
     {
@@ -233,10 +228,7 @@ impl<C: Criterion> Stops<C> {
         hop: &Hop<C::V>,
         labels: &[Label<C::V>],
     ) -> Result<(), AllocError>
-        requires hop { IsHopOf (C.rules asked.now.criterion) (S.timetable source.now)
-            (question asked.now.query) asked.now.starts hop.now }
-        requires stops { AreStops C.rules asked.now.criterion (S.timetable source.now).stops self.old }
-        requires labels { AdmitsLabels (C.rules asked.now.criterion) labels.now }
+        requires { CanBoard C.rules (S.timetable source.now) asked.now hop.now labels.now self.old }
         ensures { OnOk result
             (Boards C.rules asked.now.criterion (S.timetable source.now) hop.now labels.now self.old self.new) }
     {

@@ -4,10 +4,9 @@
 //! A trip is left where a connection ends: at a target, one footpath before one, or to change.
 
 ghost use Rattle.std.specs.Prelude.{◌≡◌, ◌+◌, ◌≤◌, [], ℕ, true, false, IfOk, IfSome, MatchOption, OnOk, Option};
-ghost use Rattle.criteria.specs.Laws.{Admits, IsTime, IsSecs};
+ghost use Rattle.criteria.specs.Laws.{IsTime, IsSecs};
 ghost use Rattle.timetable.specs.declared.network.Footpath.{Footpath};
 ghost use Rattle.timetable.specs.Journeys.{start_secs};
-ghost use Rattle.profile_scan.specs.Values.{started};
 ghost use Rattle.profile_scan.specs.Bound.{any_no_worse, survivors};
 ghost use Rattle.profile_scan.specs.ScanRecords.{IsExit};
 ghost use Rattle.profile_scan.specs.declared.scan_records.Exit.TheVariants.{Changes};
@@ -17,6 +16,7 @@ ghost use Rattle.profile_scan.specs.SetQuery.{question};
 use crate::bound::any_no_worse;
 use crate::final_walks::FinalWalk;
 use crate::hop::{Hop, ScanQuery};
+use crate::riding::started;
 use crate::scan_records::Exit;
 use crate::set_query::SetQuery;
 use crate::stops::Stops;
@@ -42,17 +42,22 @@ impl<C: Criterion> Trips<C> {
     ghost use Rattle.profile_scan.specs.ScanRecords.{IsExit};
     ghost use Rattle.profile_scan.specs.declared.scan_records.Exit.TheVariants.{Changes};
     ghost use Rattle.profile_scan.specs.Adding.{one_way, only_if, changes_from, endings};
-    ghost use Rattle.profile_scan.specs.ScanState.{AreNewTrips, HasStop, points_at};
-    ghost use Rattle.profile_scan.specs.Parts.{CanLeave, TripTakes};
+    ghost use Rattle.profile_scan.specs.ScanState.{AreNewTrips, points_at};
+    ghost use Rattle.profile_scan.specs.Parts.{CanChange, CanLeave, TripTakes};
 
-    /// Makes `count` trips without labels.
-    pub fn new(alloc: Global, criterion: &C, count: u32) -> Result<Self, AllocError>
+    /// Makes `count` trips without labels, with room for what `expected` connections mostly add.
+    pub fn new(
+        alloc: Global,
+        criterion: &C,
+        count: u32,
+        expected: usize,
+    ) -> Result<Self, AllocError>
         ensures { IfOk result (AreNewTrips (C.rules criterion.now) count) }
     {
         let labels = no_labels(alloc, criterion, count)?;
         Ok(Trips {
             labels,
-            exits: Vec::new(alloc),
+            exits: Vec::with_capacity(alloc, expected / 8)?,
         })
     }
 
@@ -83,7 +88,8 @@ impl<C: Criterion> Trips<C> {
         match end_of(&hop.connection, &asked.query, hop.final_walk) {
             None => Ok(()),
             Some(end) => {
-                let value = value_at_end(&asked.criterion, end.walk, end.time);
+                let arrived = asked.criterion.arrive(end.time);
+                let value = started(&asked.criterion, end.walk, &arrived);
                 let exit = Exit::Ends {
                     last: hop.place,
                     walk: end.walk,
@@ -137,8 +143,7 @@ impl<C: Criterion> Trips<C> {
         hop: &Hop<C::V>,
         stops: &Stops<C>,
     ) -> Result<(), AllocError>
-        requires can { CanLeave (C.rules asked.now.criterion) (question asked.now.query) hop.now self.old }
-        requires stop { HasStop C.rules asked.now.criterion hop.now.connection.to stops.now }
+        requires { CanChange C.rules asked.now.criterion (question asked.now.query) hop.now self.old stops.now }
         ensures { OnOk result (TripTakes (C.rules asked.now.criterion) hop.now.connection.trip
             (λ tags. changes_from tags hop.now.place hop.now.connection.arr
             (survivors (C.rules asked.now.criterion) hop.now.bound.now (points_at stops.now hop.now.connection.to)))
@@ -202,17 +207,4 @@ fn end_of(connection: &Connection, query: &SetQuery, way: Option<FinalWalk>) -> 
         walk: Some(walk),
         time,
     })
-}
-
-// The value of arriving at `time`, after the last footpath if there is one.
-fn value_at_end<C: Criterion>(criterion: &C, walk: Option<Footpath>, time: u32) -> C::V
-    requires time { IsTime time }
-    requires secs { IfSome walk (λ f. IsSecs f.secs) }
-    ensures { result ≡ started (C.rules criterion.now) walk ((C.rules criterion.now).arrive time) }
-{
-    let value = criterion.arrive(time);
-    match walk {
-        None => value,
-        Some(walk) => criterion.walk(walk.secs, &value),
-    }
 }

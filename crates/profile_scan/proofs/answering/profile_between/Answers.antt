@@ -76,10 +76,10 @@ found_is g c =
     subst (λ criterion. HasFound (g.C.Criterion.rules criterion) t (question c.args.query.now) c.first_at-start.result told found) keeps.0
     (subst (λ (b : SetQueryValue). HasFound (g.C.Criterion.rules c.in_ok-asked.asked.criterion) t b c.first_at-start.result told found)
     (keeps.1 ∙ c.in_ok-own.ensures)
-    (c.in_ok-scan.ensures.found 0))
+    (c.in_ok-scan.ensures.scanned.found 0))
 
 under : (g : given.Over) (c : goal.In_ok-scan g) → criterion_of c.in_ok-scan.scan.state.origin.found ≡ c.args.criterion.now
-under g c = c.in_ok-scan.ensures.under ∙ c.in_ok-asked.ensures.keeps.0
+under g c = c.in_ok-scan.ensures.scanned.under ∙ c.in_ok-asked.ensures.keeps.0
 
 pub in_order-requires : goal.in_order-requires
 in_order-requires g c = under g (goal.at.in_order-requires g c).In_ok-scan

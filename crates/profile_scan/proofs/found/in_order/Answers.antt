@@ -32,10 +32,12 @@ loop-left-preserved g c =
     c.point-point.ensures
     c.in_ok-put.ensures.ordered c.in_ok-put.ensures.put
 
-pub returns-clause-only : goal.returns-clause-only
-returns-clause-only g c = listed_in (g.C.Criterion.rules c.args.criterion.now) (points_of c.args.bag.now)
-    c.loop-left.left c.loop-left.points.items c.loop-left.invariant
-
-pub returns-clause-each : goal.returns-clause-each
-returns-clause-each g c = all_listed (g.C.Criterion.rules c.args.criterion.now) (points_of c.args.bag.now)
-    c.loop-left.left c.loop-left.points.items (omega arith) c.loop-left.invariant
+pub returns : goal.returns
+returns g c =
+    let rules = g.C.Criterion.rules c.args.criterion.now in
+    let inv = c.loop-left.invariant in
+    record {
+      ordered = inv.ordered;
+      only = listed_in rules (points_of c.args.bag.now) c.loop-left.left c.loop-left.points.items inv;
+      each = all_listed rules (points_of c.args.bag.now) c.loop-left.left c.loop-left.points.items (omega arith) inv;
+    }

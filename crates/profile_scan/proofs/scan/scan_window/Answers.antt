@@ -91,17 +91,14 @@ loop-place-preserved g c =
           (scan_value_of kept old index) (scan_value_of kept new index)) same (c.in_ok-step.ensures.step index));
     }
 
-pub step-requires-clause-asked : goal.step-requires-clause-asked
-step-requires-clause-asked g c =
-    let same = c.connection-connection.ensures.same ∙ c.loop-place.invariant.timetable in
-    subst (λ (x : TimetableValue). IsAsked x c.args.asked.now) (sym same) c.requires.can_ask
-
-pub step-requires-clause-stands : goal.step-requires-clause-stands
-step-requires-clause-stands g c =
+pub step-requires : goal.step-requires
+step-requires g c =
     let inv = c.loop-place.invariant in
+    let same = c.connection-connection.ensures.same ∙ inv.timetable in
     let low = inv.low in
     let high = inv.high in
     let test = c.loop-place-test.true in
+    let up : c.loop-place.place ≡ c.loop-place.place - 1 + 1 = omega arith in
     let i = c.loop-place.place - 1 in
     let in_range = c.requires.past.in_range in
     let in_i : c.loop-place.place - 1 < length (g.S.ConnSource.timetable c.args.source.now).connections = omega arith in
@@ -109,18 +106,15 @@ step-requires-clause-stands g c =
       in_range = subst (λ (x : TimetableValue). i < length x.connections) (sym inv.timetable) in_i;
       is = c.connection-connection.ensures.connection;
     } in
-    subst (λ (x : TimetableValue). StandsAt x i c.connection-connection.result) (sym c.connection-connection.ensures.same) was
-
-pub step-requires-clause-scan : goal.step-requires-clause-scan
-step-requires-clause-scan g c =
-    let inv = c.loop-place.invariant in
-    let test = c.loop-place-test.true in
-    let same = c.connection-connection.ensures.same ∙ inv.timetable in
-    let up : c.loop-place.place ≡ c.loop-place.place - 1 + 1 = omega arith in
-    subst (λ (x : TimetableValue). IsScan g.C.Criterion.rules g.O.AtSource.IsUnder g.O.AtSource.kept c.args.asked.now.criterion x
-    (c.loop-place.place - 1 + 1) c.loop-place.scan) (sym same)
-    (subst (λ (n : ℕ). IsScan g.C.Criterion.rules g.O.AtSource.IsUnder g.O.AtSource.kept c.args.asked.now.criterion
-    (g.S.ConnSource.timetable c.args.source.now) n c.loop-place.scan) up inv.scan)
+    record {
+      asked = subst (λ (x : TimetableValue). IsAsked x c.args.asked.now) (sym same) c.requires.can_ask;
+      stands = subst (λ (x : TimetableValue). StandsAt x i c.connection-connection.result) (sym c.connection-connection.ensures.same) was;
+      scan =
+          subst (λ (x : TimetableValue). IsScan g.C.Criterion.rules g.O.AtSource.IsUnder g.O.AtSource.kept c.args.asked.now.criterion x
+          (c.loop-place.place - 1 + 1) c.loop-place.scan) (sym same)
+          (subst (λ (n : ℕ). IsScan g.C.Criterion.rules g.O.AtSource.IsUnder g.O.AtSource.kept c.args.asked.now.criterion
+          (g.S.ConnSource.timetable c.args.source.now) n c.loop-place.scan) up inv.scan);
+    }
 
 pub returns-in_err-step-clause-err : goal.returns-in_err-step-clause-err
 returns-in_err-step-clause-err g c =
@@ -139,19 +133,20 @@ returns-in_err-step-clause-err g c =
           (omega arith),
     )
 
-pub returns-clause-under : goal.returns-clause-under
-returns-clause-under g c = c.loop-place.invariant.scan.state.origin
-
-pub returns-clause-found : goal.returns-clause-found
-returns-clause-found g c index =
+pub returns-clause-scanned : goal.returns-clause-scanned
+returns-clause-scanned g c =
     let inv = c.loop-place.invariant in
     let low = inv.low in
     let test = c.loop-place-test.false in
     let at : c.loop-place.place ≡ c.args.window.start = omega arith in
     let state = c.loop-place.scan.state in
-    subst (λ (n : ℕ). HasFound (g.C.Criterion.rules c.args.asked.now.criterion) (g.S.ConnSource.timetable c.args.source.now)
-    (asked_from g.O.AtSource.sources (question c.args.asked.now.query) index) n (scan_records_of g.O.AtSource.kept state index)
-    (g.O.AtSource.kept state.origin index).found) at (inv.matched index).at_source
+    record {
+      under = inv.scan.state.origin;
+      found = λ index.
+          subst (λ (n : ℕ). HasFound (g.C.Criterion.rules c.args.asked.now.criterion) (g.S.ConnSource.timetable c.args.source.now)
+          (asked_from g.O.AtSource.sources (question c.args.asked.now.query) index) n (scan_records_of g.O.AtSource.kept state index)
+          (g.O.AtSource.kept state.origin index).found) at (inv.matched index).at_source;
+    }
 
 -- an index of a connection
 pub overflow_cast-place : goal.overflow_cast-place

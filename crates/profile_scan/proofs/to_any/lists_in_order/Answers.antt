@@ -26,11 +26,10 @@ pub loop-stop-preserved : goal.loop-stop-preserved
 loop-stop-preserved g c =
     let rules = g.C.Criterion.rules c.args.criterion.now in
     let origins = c.args.origins.now in
-    let points = c.in_ok-points.ensures in
     one_listed_to rules (found_from origins) c.loop-stop.stop c.loop-stop.lists.items c.push.new.self.items c.in_ok-points.points c.loop-stop.invariant
     (in_order_from rules origins c.loop-stop.stop c.index-origin.result.now c.in_ok-points.points.items
     (at_stop g (goal.at.loop-stop-preserved g c).After-index-origin)
-    (record { ordered = points.ordered; only = points.only; each = points.each }))
+    c.in_ok-points.ensures)
     c.in_ok-push.ensures.items
 
 pub returns : goal.returns

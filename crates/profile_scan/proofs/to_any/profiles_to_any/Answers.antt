@@ -6,7 +6,8 @@ use Rattle.profile_scan.specs.LawStatements.{CanScan}
 use Rattle.profile_scan.specs.Window.{window_of}
 use Rattle.profile_scan.specs.ScanState.{scan_records_of, final_walks_of}
 use Rattle.profile_scan.specs.Origins.{AreUnder, found_from, from_stop, scan_value_from}
-use Rattle.profile_scan.specs.Everywhere.{AreInOrder, points_in}
+use Rattle.profile_scan.specs.Points.{AreInOrder}
+use Rattle.profile_scan.specs.Everywhere.{points_in}
 use Rattle.profile_scan.proofs.Windows.{window_falls}
 use Rattle.profile_scan.proofs.EverywhereLemmas.{answered_from}
 use Rattle.profile_scan.proofs.PartLemmas.{firsts_rise}
@@ -58,7 +59,7 @@ returns-in_err-lists-clause-err g c =
 
 pub lists_in_order-requires : goal.lists_in_order-requires
 lists_in_order-requires g c =
-    subst (λ k. AreUnder k c.in_ok-scan.scan.state.origin) c.in_ok-asked.ensures.keeps.0 c.in_ok-scan.ensures.under.0.under
+    subst (λ k. AreUnder k c.in_ok-scan.scan.state.origin) c.in_ok-asked.ensures.keeps.0 c.in_ok-scan.ensures.scanned.under.0.under
 
 pub returns-clause-keeps : goal.returns-clause-keeps
 returns-clause-keeps g c = (c.in_ok-asked.ensures.keeps.0, c.in_ok-asked.ensures.keeps.1 ∙ c.in_ok-query.ensures)
@@ -74,7 +75,7 @@ returns-clause-answers g c =
     let state = c.in_ok-scan.scan.state in
     let lists = c.in_ok-lists.lists.items in
     let start = c.first_at-start.result in
-    let origins = c.in_ok-scan.ensures.under in
+    let origins = c.in_ok-scan.ensures.scanned.under in
     let asked = c.in_ok-asked.ensures.asked in
     let same_from = ap (λ (x : SetQueryValue). x.from) (c.in_ok-asked.ensures.keeps.1 ∙ c.in_ok-query.ensures) in
     record {
@@ -90,7 +91,7 @@ returns-clause-answers g c =
           let is = answered_from rules laws t q can start
           (subst (λ (n : ℕ). IsFirstAt t n start) (sym same_from) c.first_at-start.ensures)
           (scan_records_of scan_value_from state stop) (found_from state.origin stop)
-          (points_in (slice_get lists stop)) (c.in_ok-scan.ensures.found stop) (origins.1 stop) listed in
+          (points_in (slice_get lists stop)) (c.in_ok-scan.ensures.scanned.found stop) (origins.1 stop) listed in
           record { answer = is.0; attained = is.1 };
       direct = λ stop lt other. nearest_direct t b stop other (get_or (final_walks_of c.in_ok-asked.asked.final_walks) stop None)
           (asked.final_walks.each stop lt);

@@ -1,4 +1,4 @@
-use Rattle.std.proofs.Common.{◌≡◌, length, sym, subst, arith}
+use Rattle.std.proofs.Common.{◌≡◌, ◌∙◌, ap, length, sym, subst, arith}
 use Rattle.std.proofs.lemmas.List.{length-map}
 use Rattle.reasoning.proofs.ListLemmas.{extends_none}
 use Rattle.timetable.proofs.LegalLemmas.{Contains-At}
@@ -28,17 +28,29 @@ offer-requires-clause-admitted g c =
     let rules = g.C.Criterion.rules c.args.asked.now.criterion in
     let laws = g.met.C.Criterion.laws c.args.asked.now.criterion in
     let x = c.label_at-label.result in
-    subst (Admits rules) (sym (c.value_with_start-value.ensures))
+    subst (Admits rules) (sym (c.started-value.ensures ∙ ap (λ (v : g.row.C-V.Denot). started rules c.args.departure.start v) c.ride-ridden.ensures))
     (start_admits rules laws c.args.departure.start (rules.ride x.value) c.requires.secs
     (laws.ride_admits x.value (c.requires.labels x
     (Contains-At (label_points c.args.labels.now) c.loop-k.k x c.label_at-label.ensures))))
+
+pub ride-ridden-requires : goal.ride-ridden-requires
+ride-ridden-requires g c =
+    let x = c.label_at-label.result in
+    c.requires.labels x (Contains-At (label_points c.args.labels.now) c.loop-k.k x c.label_at-label.ensures)
+
+pub started-value-requires-clause-admitted : goal.started-value-requires-clause-admitted
+started-value-requires-clause-admitted g c =
+    let rules = g.C.Criterion.rules c.args.asked.now.criterion in
+    let x = c.label_at-label.result in
+    subst (Admits rules) (sym c.ride-ridden.ensures) ((g.met.C.Criterion.laws c.args.asked.now.criterion).ride_admits x.value
+    (c.requires.labels x (Contains-At (label_points c.args.labels.now) c.loop-k.k x c.label_at-label.ensures)))
 
 pub loop-k-preserved : goal.loop-k-preserved
 loop-k-preserved g c =
     let rules = g.C.Criterion.rules c.args.asked.now.criterion in
     let laws = g.met.C.Criterion.laws c.args.asked.now.criterion in
     let x = c.label_at-label.result in
-    let worth = c.value_with_start-value.ensures in
+    let worth = c.started-value.ensures ∙ ap (λ (v : g.row.C-V.Denot). started rules c.args.departure.start v) c.ride-ridden.ensures in
     record {
       origin = origin_on c.args.asked.now.criterion c.args.self.now c.loop-k.self c.offer.new.self
           c.loop-k.invariant.origin c.in_ok-offer.ensures.origin;
@@ -62,7 +74,7 @@ loop-k-preserved g c =
           (c.loop-k.invariant.takes walks exits steps before all ext_before
           (grows_on mid now all (set_outs_grow exits steps c.loop-k.self.set_outs.items
           c.offer.new.self.set_outs.items c.in_ok-offer.ensures.origin.set_outs) ext))
-          (takes_worth rules c.args.departure.time c.value_with_start-value.result
+          (takes_worth rules c.args.departure.time c.started-value.result
           (started rules c.args.departure.start (rules.ride x.value))
           ((set_out_way tags c.args.departure.time x.value set_out).fits_tag tt) (points_of c.loop-k.self.found)
           (points_of c.offer.new.self.found) worth

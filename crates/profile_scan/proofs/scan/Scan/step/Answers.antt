@@ -39,23 +39,22 @@ access_to-requires g c =
     (begins_in (g.S.ConnSource.timetable c.args.source.now) (g.met.S.ConnSource.legal c.args.source.now)
     c.args.place at.in_range c.args.connection.now at.is)
 
-pub is_idle-requires-clause-trip : goal.is_idle-requires-clause-trip
-is_idle-requires-clause-trip g c =
+pub is_idle-requires : goal.is_idle-requires
+is_idle-requires g c =
     let at = c.requires.stands in
     let state = c.requires.scan.state in
+    let stops = state.at_stops in
     record {
-      there = subst (λ (n : ℕ). c.args.connection.now.trip < n) (sym state.long)
-          (trip_in (g.S.ConnSource.timetable c.args.source.now) (g.met.S.ConnSource.legal c.args.source.now)
-          c.args.place at.in_range c.args.connection.now at.is);
-      sound = state.labels;
-    }
-
-pub is_idle-requires-clause-stop : goal.is_idle-requires-clause-stop
-is_idle-requires-clause-stop g c =
-    let stops = c.requires.scan.state.at_stops in
-    record {
-      there = subst (λ (n : ℕ). c.args.connection.now.to < n) (sym stops.long) (ends g (goal.at.is_idle-requires-clause-stop g c).Start);
-      stops = subst (λ (n : ℕ). AreStops g.C.Criterion.rules c.args.asked.now.criterion n c.args.self.now.state.stops) (sym stops.long) stops;
+      trip = record {
+        there = subst (λ (n : ℕ). c.args.connection.now.trip < n) (sym state.long)
+            (trip_in (g.S.ConnSource.timetable c.args.source.now) (g.met.S.ConnSource.legal c.args.source.now)
+            c.args.place at.in_range c.args.connection.now at.is);
+        sound = state.labels;
+      };
+      stop = record {
+        there = subst (λ (n : ℕ). c.args.connection.now.to < n) (sym stops.long) (ends g (goal.at.is_idle-requires g c).Start);
+        stops = subst (λ (n : ℕ). AreStops g.C.Criterion.rules c.args.asked.now.criterion n c.args.self.now.state.stops) (sym stops.long) stops;
+      };
     }
 
 pub renew-requires-clause-under : goal.renew-requires-clause-under
@@ -64,27 +63,26 @@ renew-requires-clause-under g c = ((g.S.ConnSource.timetable c.args.source.now).
 pub renew-requires-clause-values : goal.renew-requires-clause-values
 renew-requires-clause-values g c = (c.requires.scan.bound 0).admitted
 
-pub returns-then-is_idle-clause-step : goal.returns-then-is_idle-clause-step
-returns-then-is_idle-clause-step g c index =
+pub returns-then-is_idle : goal.returns-then-is_idle
+returns-then-is_idle g c =
+    let rules = g.C.Criterion.rules c.args.asked.now.criterion in
     let t = g.S.ConnSource.timetable c.args.source.now in
-    let state = c.args.self.now.state in
-    step_idle_at (g.C.Criterion.rules c.args.asked.now.criterion) t
-    (asked_from g.O.AtSource.sources (question c.args.asked.now.query) index)
-    (spelling_of t.footpaths (scan_records_of g.O.AtSource.kept state index)) c.args.place (scan_value_of g.O.AtSource.kept state index) _
-    c.args.connection.now c.requires.stands.is (way_is g (goal.at.returns-then-is_idle-clause-step g c).After-final_walk_from-way)
-    (c.is_idle.ensures c.if-is_idle.true)
-
-pub returns-then-is_idle-clause-scan : goal.returns-then-is_idle-clause-scan
-returns-then-is_idle-clause-scan g c =
+    let kept = g.O.AtSource.kept in
     let scan = c.args.self.now in
     record {
-      state = c.requires.scan.state;
-      bound = λ index.
-          let found = (g.O.AtSource.kept scan.state.origin index).found in
-          bounds_on (g.C.Criterion.rules c.args.asked.now.criterion)
-          (g.met.C.Criterion.laws c.args.asked.now.criterion) (g.S.ConnSource.timetable c.args.source.now) found found
-          (c.args.place + 1) c.args.place scan.bound.values.items (omega arith) (λ d v a covers. covers)
-          (c.requires.scan.bound index);
+      scan = record {
+        state = c.requires.scan.state;
+        bound = λ index.
+            let found = (kept scan.state.origin index).found in
+            bounds_on rules (g.met.C.Criterion.laws c.args.asked.now.criterion) t found found
+            (c.args.place + 1) c.args.place scan.bound.values.items (omega arith) (λ d v a covers. covers)
+            (c.requires.scan.bound index);
+      };
+      step = λ index.
+          step_idle_at rules t (asked_from g.O.AtSource.sources (question c.args.asked.now.query) index)
+          (spelling_of t.footpaths (scan_records_of kept scan.state index)) c.args.place (scan_value_of kept scan.state index) _
+          c.args.connection.now c.requires.stands.is (way_is g (goal.at.returns-then-is_idle g c).After-final_walk_from-way)
+          (c.is_idle.ensures c.if-is_idle.true);
     }
 
 -- the values of the bound, renewed
@@ -102,34 +100,45 @@ renewed g c index =
     c.args.connection.now.dep at.in_range (ap (λ (x : Connection). x.dep) at.is) scan.bound.values.items c.renew.new.bound.values.items
     (c.requires.scan.bound index) (c.in_ok-renew.ensures index).only
 
-pub take-requires-clause-hop : goal.take-requires-clause-hop
-take-requires-clause-hop g c =
+pub take-requires : goal.take-requires
+take-requires g c =
+    let point = goal.at.take-requires g c in
+    let t = g.S.ConnSource.timetable c.args.source.now in
+    let legal = g.met.S.ConnSource.legal c.args.source.now in
+    let at = c.requires.stands in
     let rules = g.C.Criterion.rules c.args.asked.now.criterion in
     record {
-      stands = c.requires.stands;
-      by = c.requires.asked.by;
-      starts = c.requires.asked.starts;
-      access = c.requires.asked.starts.each c.args.connection.now.from c.access_to.result c.access_to.ensures;
-      final_walk = way_is g (goal.at.take-requires-clause-hop g c).After-final_walk_from-way;
-      bound =
-          subst (λ (values : List g.row.C-V.Denot). (b : g.row.C-V.Denot) → Contains values b → Admits rules b) (sym c.deref.ensures.value)
-          (renewed g (goal.at.take-requires-clause-hop g c).In_ok-renew 0).admitted;
+      hop = record {
+        stands = at;
+        begins = begins_in t legal c.args.place at.in_range c.args.connection.now at.is;
+        ends = ends_in t legal c.args.place at.in_range c.args.connection.now at.is;
+        on_trip = trip_in t legal c.args.place at.in_range c.args.connection.now at.is;
+        by = c.requires.asked.by;
+        starts = c.requires.asked.starts;
+        access = c.requires.asked.starts.each c.args.connection.now.from c.access_to.result c.access_to.ensures;
+        final_walk = way_is g point.After-final_walk_from-way;
+        bound =
+            subst (λ (values : List g.row.C-V.Denot). (b : g.row.C-V.Denot) → Contains values b → Admits rules b) (sym c.deref.ensures.value)
+            (renewed g point.In_ok-renew 0).admitted;
+      };
+      bound = λ index.
+          subst (AreBounds rules (g.S.ConnSource.timetable c.args.source.now)
+          (g.O.AtSource.kept c.args.self.now.state.origin index).found (c.args.place + 1)) (sym c.deref.ensures.value)
+          (renewed g point.In_ok-renew index);
+      state = c.requires.scan.state;
     }
 
-pub take-requires-clause-bound : goal.take-requires-clause-bound
-take-requires-clause-bound g c index =
-    subst (AreBounds (g.C.Criterion.rules c.args.asked.now.criterion) (g.S.ConnSource.timetable c.args.source.now)
-    (g.O.AtSource.kept c.args.self.now.state.origin index).found (c.args.place + 1)) (sym c.deref.ensures.value)
-    (renewed g (goal.at.take-requires-clause-bound g c).In_ok-renew index)
-
-pub returns-clause-scan : goal.returns-clause-scan
-returns-clause-scan g c =
+pub returns : goal.returns
+returns g c =
     let kept = g.O.AtSource.kept in
     record {
-      state = c.in_ok-take.ensures.state;
-      bound = λ index.
-          bounds_on (g.C.Criterion.rules c.args.asked.now.criterion) (g.met.C.Criterion.laws c.args.asked.now.criterion)
-          (g.S.ConnSource.timetable c.args.source.now) (kept c.args.self.now.state.origin index).found
-          (kept c.take.new.self.origin index).found (c.args.place + 1) c.args.place c.renew.new.bound.values.items (omega arith)
-          (c.in_ok-take.ensures.step index).sets_out.kept (renewed g (goal.at.returns-clause-scan g c).In_ok-renew index);
+      scan = record {
+        state = c.in_ok-take.ensures.state;
+        bound = λ index.
+            bounds_on (g.C.Criterion.rules c.args.asked.now.criterion) (g.met.C.Criterion.laws c.args.asked.now.criterion)
+            (g.S.ConnSource.timetable c.args.source.now) (kept c.args.self.now.state.origin index).found
+            (kept c.take.new.self.origin index).found (c.args.place + 1) c.args.place c.renew.new.bound.values.items (omega arith)
+            (c.in_ok-take.ensures.step index).sets_out.kept (renewed g (goal.at.returns g c).In_ok-renew index);
+      };
+      step = c.in_ok-take.ensures.step;
     }

@@ -6,13 +6,11 @@ use Rattle.fronts.specs.declared.labels.Label.{Label}
 use Rattle.fronts.specs.Lists.{entries_of, items_of, lists_criterion}
 use Rattle.fronts.proofs.Mapped.{list_admitted}
 use Rattle.profile_scan.specs.SetQuery.{asked_from, question}
-use Rattle.profile_scan.specs.Steps.{IsStep, boardings, settings_out}
+use Rattle.profile_scan.specs.Steps.{boardings, settings_out}
 use Rattle.profile_scan.specs.Bound.{survivors}
 use Rattle.profile_scan.specs.Adding.{label_points, trip_points}
-use Rattle.profile_scan.specs.Matching.{from_to}
-use Rattle.profile_scan.specs.ScanRecords.{spelling_of}
 use Rattle.profile_scan.specs.Hops.{IsHop}
-use Rattle.profile_scan.specs.ScanState.{AreStops, IsState, scan_value_of, points_at, scan_records_of}
+use Rattle.profile_scan.specs.ScanState.{AreSteps, AreStops, IsState, points_at}
 use Rattle.profile_scan.specs.LawStatements.{CanScan}
 use Rattle.fronts.specs.Labels.{HasTrip}
 use Rattle.profile_scan.specs.Parts.{SourceTakes, StopTakes}
@@ -21,7 +19,6 @@ use Rattle.profile_scan.specs.declared.trips.Trips.{Trips}
 use Rattle.profile_scan.proofs.Admitted.{AreAdmitted}
 use Rattle.profile_scan.proofs.LabelLemmas.{no_trip_points, trip_admitted}
 use Rattle.profile_scan.proofs.PartLemmas.{changes_on, hop_within, still_there}
-use Rattle.profile_scan.proofs.StepFacts.{ends_in, trip_in}
 use Rattle.profile_scan.proofs.TakeLemmas.{HasBoarded, HasLeft, boarded_none, is_step, left_by, left_none}
 use Rattle.profile_scan.proofs.scan.State.take.Given as given
 use Rattle.profile_scan.proofs.scan.State.take.Goals.{After-labels_of-labels, Start, else-hop, then-hop+in_ok-end+in_ok-change}
@@ -34,38 +31,30 @@ within g c =
 
 has_trip : (g : given.Over) (c : goal.Start g) → HasTrip (g.C.Criterion.rules c.args.asked.now.criterion) c.args.self.now.trips.labels
     c.args.hop.now.connection.trip
-has_trip g c =
-    let at = c.requires.hop.stands in
-    record {
-      there = subst (λ (n : ℕ). c.args.hop.now.connection.trip < n) (sym c.requires.state.long)
-          (trip_in (g.S.ConnSource.timetable c.args.source.now) (g.met.S.ConnSource.legal c.args.source.now)
-          c.args.hop.now.place at.in_range c.args.hop.now.connection at.is);
-      sound = c.requires.state.labels;
-    }
+has_trip g c = record {
+  there = subst (λ (n : ℕ). c.args.hop.now.connection.trip < n) (sym c.requires.state.long) c.requires.hop.on_trip;
+  sound = c.requires.state.labels;
+}
 
 pub end-requires : goal.end-requires
 end-requires g c =
     let start = (goal.at.end-requires g c).Start in
     record { hop = within g start; trip = has_trip g start }
 
-pub change-requires-clause-can : goal.change-requires-clause-can
-change-requires-clause-can g c =
-    let start = (goal.at.change-requires-clause-can g c).Start in
-    record {
-      hop = within g start;
-      trip = still_there (g.C.Criterion.rules c.args.asked.now.criterion) c.args.hop.now.connection.trip c.args.self.now.trips
-          c.end.new.self (has_trip g start) c.in_ok-end.ensures.trip;
-    }
-
-pub change-requires-clause-stop : goal.change-requires-clause-stop
-change-requires-clause-stop g c =
-    let at = c.requires.hop.stands in
+pub change-requires : goal.change-requires
+change-requires g c =
+    let start = (goal.at.change-requires g c).Start in
     let stops = c.requires.state.at_stops in
     record {
-      there = subst (λ (n : ℕ). c.args.hop.now.connection.to < n) (sym stops.long)
-          (ends_in (g.S.ConnSource.timetable c.args.source.now) (g.met.S.ConnSource.legal c.args.source.now)
-          c.args.hop.now.place at.in_range c.args.hop.now.connection at.is);
-      stops = subst (λ (n : ℕ). AreStops g.C.Criterion.rules c.args.asked.now.criterion n c.args.self.now.stops) (sym stops.long) stops;
+      can = record {
+        hop = within g start;
+        trip = still_there (g.C.Criterion.rules c.args.asked.now.criterion) c.args.hop.now.connection.trip c.args.self.now.trips
+            c.end.new.self (has_trip g start) c.in_ok-end.ensures.trip;
+      };
+      stop = record {
+        there = subst (λ (n : ℕ). c.args.hop.now.connection.to < n) (sym stops.long) c.requires.hop.ends;
+        stops = subst (λ (n : ℕ). AreStops g.C.Criterion.rules c.args.asked.now.criterion n c.args.self.now.stops) (sym stops.long) stops;
+      };
     }
 
 pub labels_of-labels-requires : goal.labels_of-labels-requires
@@ -114,44 +103,25 @@ admits g c =
     (sym c.labels_of-labels.ensures)
     (trip_admitted rules c.if-hop.self.trips.labels (left g c).0.trip.labels.labels c.args.hop.now.connection.trip)
 
-pub set_out-requires-clause-labels : goal.set_out-requires-clause-labels
-set_out-requires-clause-labels g c = admits g (goal.at.set_out-requires-clause-labels g c).After-labels_of-labels
-
-pub set_out-requires-clause-under : goal.set_out-requires-clause-under
-set_out-requires-clause-under g c =
-    subst (λ (s : State g.row.C.Denot g.row.O.Denot g.row.C-V.Denot). g.O.AtSource.IsUnder c.args.asked.now.criterion
-    (g.S.ConnSource.timetable c.args.source.now).stops s.origin) (sym (left g (goal.at.set_out-requires-clause-under g c).After-labels_of-labels).1)
-    c.requires.state.origin
-
-pub board-requires-clause-labels : goal.board-requires-clause-labels
-board-requires-clause-labels g c = admits g (goal.at.board-requires-clause-labels g c).After-labels_of-labels
-
-pub board-requires-clause-stops : goal.board-requires-clause-stops
-board-requires-clause-stops g c =
-    subst (λ (s : State g.row.C.Denot g.row.O.Denot g.row.C-V.Denot). AreStops g.C.Criterion.rules c.args.asked.now.criterion
-    (g.S.ConnSource.timetable c.args.source.now).stops s.stops) (sym (left g (goal.at.board-requires-clause-stops g c).After-labels_of-labels).1)
-    c.requires.state.at_stops
-
-pub returns-clause-state : goal.returns-clause-state
-returns-clause-state g c =
-    let is = (left g (goal.at.returns-clause-state g c).After-labels_of-labels).0 in
+pub set_out-requires : goal.set_out-requires
+set_out-requires g c =
+    let point = (goal.at.set_out-requires g c).After-labels_of-labels in
     record {
-      at_stops = c.in_ok-board.ensures.stops.stops;
-      long = is.trip.labels.long ∙ c.requires.state.long;
-      labels = is.trip.labels.labels;
-      origin = c.in_ok-set_out.ensures.under;
+      hop = c.requires.hop;
+      under = subst (λ (s : State g.row.C.Denot g.row.O.Denot g.row.C-V.Denot). g.O.AtSource.IsUnder c.args.asked.now.criterion
+          (g.S.ConnSource.timetable c.args.source.now).stops s.origin) (sym (left g point).1) c.requires.state.origin;
+      labels = admits g point;
     }
 
-pub returns-then-labels-eq0-clause-state : goal.returns-then-labels-eq0-clause-state
-returns-then-labels-eq0-clause-state g c =
-    let is = left g (goal.at.returns-then-labels-eq0-clause-state g c).After-labels_of-labels in
-    subst (λ (s : State g.row.C.Denot g.row.O.Denot g.row.C-V.Denot). IsState g.C.Criterion.rules g.O.AtSource.IsUnder c.args.asked.now.criterion
-    (g.S.ConnSource.timetable c.args.source.now).stops (g.S.ConnSource.timetable c.args.source.now).trips s) (sym is.1) (record {
-      at_stops = c.requires.state.at_stops;
-      long = is.0.trip.labels.long ∙ c.requires.state.long;
-      labels = is.0.trip.labels.labels;
-      origin = c.requires.state.origin;
-    })
+pub board-requires : goal.board-requires
+board-requires g c =
+    let point = (goal.at.board-requires g c).After-labels_of-labels in
+    record {
+      hop = c.requires.hop;
+      stops = subst (λ (s : State g.row.C.Denot g.row.O.Denot g.row.C-V.Denot). AreStops g.C.Criterion.rules c.args.asked.now.criterion
+          (g.S.ConnSource.timetable c.args.source.now).stops s.stops) (sym (left g point).1) c.requires.state.at_stops;
+      labels = admits g point;
+    }
 
 -- by the labels that the trip has now one sets out and boards
 stepped : (g : given.Over) (c : goal.After-labels_of-labels g) (new : State g.row.C.Denot g.row.O.Denot g.row.C-V.Denot)
@@ -160,11 +130,8 @@ stepped : (g : given.Over) (c : goal.After-labels_of-labels g) (new : State g.ro
     → HasBoarded (g.C.Criterion.rules c.args.asked.now.criterion) (g.S.ConnSource.timetable c.args.source.now) g.O.AtSource.sources
     g.O.AtSource.kept (question c.args.asked.now.query) c.args.hop.now (trip_points new.trips.labels c.args.hop.now.connection.trip)
     c.if-hop.self new
-    → (index : ℕ) → IsStep (g.C.Criterion.rules c.args.asked.now.criterion) (g.S.ConnSource.timetable c.args.source.now)
-    (asked_from g.O.AtSource.sources (question c.args.asked.now.query) index)
-    (from_to (spelling_of (g.S.ConnSource.timetable c.args.source.now).footpaths (scan_records_of g.O.AtSource.kept c.args.self.now index))
-    (spelling_of (g.S.ConnSource.timetable c.args.source.now).footpaths (scan_records_of g.O.AtSource.kept new index)))
-    c.args.hop.now.place (scan_value_of g.O.AtSource.kept c.args.self.now index) (scan_value_of g.O.AtSource.kept new index)
+    → AreSteps (g.C.Criterion.rules c.args.asked.now.criterion) (g.S.ConnSource.timetable c.args.source.now) g.O.AtSource.sources
+    g.O.AtSource.kept (question c.args.asked.now.query) c.args.hop.now.place c.args.self.now new
 stepped g c new same under boarded index =
     let criterion = c.args.asked.now.criterion in
     let rules = g.C.Criterion.rules c.args.asked.now.criterion in
@@ -195,8 +162,10 @@ stepped g c new same under boarded index =
     index bag_admitted (g.met.O.AtSource.bags criterion t.stops old.origin c.requires.state.origin index).admitted
     (g.met.O.AtSource.bags criterion t.stops new.origin under index).admitted (c.requires.bound index)
 
-pub returns-clause-step : goal.returns-clause-step
-returns-clause-step g c =
+pub returns : goal.returns
+returns g c =
+    let point = (goal.at.returns g c).After-labels_of-labels in
+    let is = (left g point).0 in
     let rules = g.C.Criterion.rules c.args.asked.now.criterion in
     let t = g.S.ConnSource.timetable c.args.source.now in
     let q = question c.args.asked.now.query in
@@ -204,27 +173,45 @@ returns-clause-step g c =
     let kept = g.O.AtSource.kept in
     let sources = g.O.AtSource.sources in
     let mid = c.if-hop.self in
-    stepped g (goal.at.returns-clause-step g c).After-labels_of-labels
-    (record { trips = mid.trips; stops = c.board.new.self; origin = c.set_out.new.self }) refl c.in_ok-set_out.ensures.under (record {
-      set_outs = c.in_ok-set_out.ensures.set_outs;
-      sets_out = λ index. subst (λ (xs : List (Label g.row.C-V.Denot)). SourceTakes rules t.footpaths
-          (λ tags. settings_out rules t (asked_from sources q index) tags hop.place (label_points xs))
-          (kept mid.origin index) (kept c.set_out.new.self index)) c.labels_of-labels.ensures (c.in_ok-set_out.ensures.takes index);
-      steps = c.in_ok-board.ensures.stops.steps;
-      boards = λ stop. subst (λ (xs : List (Label g.row.C-V.Denot)). StopTakes rules t.footpaths stop
-          (λ tags. boardings rules t tags hop.place stop (survivors rules hop.bound.now (label_points xs))) mid.stops c.board.new.self)
-          c.labels_of-labels.ensures (c.in_ok-board.ensures.takes stop);
-    })
+    record {
+      state = record {
+        at_stops = c.in_ok-board.ensures.stops.stops;
+        long = is.trip.labels.long ∙ c.requires.state.long;
+        labels = is.trip.labels.labels;
+        origin = c.in_ok-set_out.ensures.under;
+      };
+      step = stepped g point (record { trips = mid.trips; stops = c.board.new.self; origin = c.set_out.new.self }) refl
+          c.in_ok-set_out.ensures.under (record {
+            set_outs = c.in_ok-set_out.ensures.set_outs;
+            sets_out = λ index. subst (λ (xs : List (Label g.row.C-V.Denot)). SourceTakes rules t.footpaths
+                (λ tags. settings_out rules t (asked_from sources q index) tags hop.place (label_points xs))
+                (kept mid.origin index) (kept c.set_out.new.self index)) c.labels_of-labels.ensures (c.in_ok-set_out.ensures.takes index);
+            steps = c.in_ok-board.ensures.stops.steps;
+            boards = λ stop. subst (λ (xs : List (Label g.row.C-V.Denot)). StopTakes rules t.footpaths stop
+                (λ tags. boardings rules t tags hop.place stop (survivors rules hop.bound.now (label_points xs))) mid.stops c.board.new.self)
+                c.labels_of-labels.ensures (c.in_ok-board.ensures.takes stop);
+          });
+    }
 
 -- the trip has no labels
-pub returns-then-labels-eq0-clause-step : goal.returns-then-labels-eq0-clause-step
-returns-then-labels-eq0-clause-step g c =
-    let point = (goal.at.returns-then-labels-eq0-clause-step g c).After-labels_of-labels in
+pub returns-then-labels-eq0 : goal.returns-then-labels-eq0
+returns-then-labels-eq0 g c =
+    let point = (goal.at.returns-then-labels-eq0 g c).After-labels_of-labels in
+    let is = left g point in
     let mid = c.if-hop.self in
     let trip = c.args.hop.now.connection.trip in
-    let under = subst (λ (s : State g.row.C.Denot g.row.O.Denot g.row.C-V.Denot). g.O.AtSource.IsUnder c.args.asked.now.criterion
-    (g.S.ConnSource.timetable c.args.source.now).stops s.origin) (sym (left g point).1) c.requires.state.origin in
-    stepped g point mid refl under
-    (boarded_none (g.C.Criterion.rules c.args.asked.now.criterion) (g.S.ConnSource.timetable c.args.source.now) g.O.AtSource.sources
-    g.O.AtSource.kept (question c.args.asked.now.query) c.args.hop.now (trip_points mid.trips.labels trip) mid
-    (no_trip_points mid.trips.labels trip (ap length (sym c.labels_of-labels.ensures) ∙ c.if-labels-eq0.true)))
+    let state = subst (λ (s : State g.row.C.Denot g.row.O.Denot g.row.C-V.Denot). IsState g.C.Criterion.rules g.O.AtSource.IsUnder
+    c.args.asked.now.criterion (g.S.ConnSource.timetable c.args.source.now).stops (g.S.ConnSource.timetable c.args.source.now).trips s)
+    (sym is.1) (record {
+      at_stops = c.requires.state.at_stops;
+      long = is.0.trip.labels.long ∙ c.requires.state.long;
+      labels = is.0.trip.labels.labels;
+      origin = c.requires.state.origin;
+    }) in
+    record {
+      state = state;
+      step = stepped g point mid refl state.origin
+          (boarded_none (g.C.Criterion.rules c.args.asked.now.criterion) (g.S.ConnSource.timetable c.args.source.now) g.O.AtSource.sources
+          g.O.AtSource.kept (question c.args.asked.now.query) c.args.hop.now (trip_points mid.trips.labels trip) mid
+          (no_trip_points mid.trips.labels trip (ap length (sym c.labels_of-labels.ensures) ∙ c.if-labels-eq0.true)));
+    }

@@ -1,6 +1,5 @@
-use Rattle.std.proofs.Common.{◌≡◌, ◌<◌, [], false, OnOk, Contains, sym, ◌∙◌, subst, arith}
+use Rattle.std.proofs.Common.{◌≡◌, ◌<◌, false, OnOk, sym, ◌∙◌, subst, arith}
 use Rattle.std.proofs.lemmas.Bool.{true≢false}
-use Rattle.std.proofs.lemmas.List.Elements.{Contains-push}
 use Rattle.reasoning.proofs.ListLemmas.{extends_none}
 use Rattle.timetable.specs.declared.network.Connection.{Connection}
 use Rattle.timetable.specs.Journeys.{connection_at}
@@ -11,56 +10,43 @@ use Rattle.profile_scan.specs.Steps.{boardings}
 use Rattle.profile_scan.specs.Adding.{label_points}
 use Rattle.profile_scan.specs.Bound.{survivors}
 use Rattle.profile_scan.specs.ScanState.{points_at}
-use Rattle.profile_scan.specs.Parts.{Boards}
+use Rattle.profile_scan.specs.Parts.{AdmitsLabels, Boards}
 use Rattle.profile_scan.proofs.Offers.{takes_none}
 use Rattle.profile_scan.proofs.BoundLemmas.{from_survivors}
-use Rattle.profile_scan.proofs.LabelLemmas.{as_point}
 use Rattle.profile_scan.proofs.RideLemmas.{one_alone, ridden_admitted, no_ridden}
 use Rattle.profile_scan.proofs.BoardLemmas.{walks_into_it, boardings_taken}
-use Rattle.profile_scan.proofs.StepFacts.{begins_in}
-use Rattle.profile_scan.proofs.stops.Stops.board.Given as given
-use Rattle.profile_scan.proofs.stops.Stops.board.Goals.{Start}
 use Rattle.profile_scan.proofs.stops.Stops.board.Goals as goal
 
 -- a connection that isn't boarded
 not_boarded : (c d : Connection) → c ≡ d → c.board ≡ false → d.board ≡ false
 not_boarded c d is closed = subst (λ (x : Connection). x.board ≡ false) is closed
 
--- the connection begins at a stop
-begins : (g : given.Over) (c : goal.Start g) → c.args.hop.now.connection.from < (g.S.ConnSource.timetable c.args.source.now).stops
-begins g c =
-    let at = c.requires.hop.stands in
-    begins_in (g.S.ConnSource.timetable c.args.source.now) (g.met.S.ConnSource.legal c.args.source.now)
-    c.args.hop.now.place at.in_range c.args.hop.now.connection at.is
-
 pub walks_into-begin-requires : goal.walks_into-begin-requires
-walks_into-begin-requires g c = begins g (goal.at.walks_into-begin-requires g c).Start
+walks_into-begin-requires g c = c.requires.hop.begins
 
-pub board_walks-requires-clause-walks : goal.board_walks-requires-clause-walks
-board_walks-requires-clause-walks g c =
-    walks_into_it (g.S.ConnSource.timetable c.args.source.now) c.args.hop.now.connection.from
-    c.walks_into-begin.result.0 c.walks_into-begin.result.1
-    (begins g (goal.at.board_walks-requires-clause-walks g c).Start)
-    c.walks_into-begin.ensures.order c.walks_into-begin.ensures.within c.walks_into-begin.ensures.exact
-
-pub board_walks-requires-clause-ready : goal.board_walks-requires-clause-ready
-board_walks-requires-clause-ready g c =
+pub board_walks-requires : goal.board_walks-requires
+board_walks-requires g c =
     let rules = g.C.Criterion.rules c.args.asked.now.criterion in
     let laws = g.met.C.Criterion.laws c.args.asked.now.criterion in
     let labels = label_points c.args.labels.now in
     let values = c.args.hop.now.bound.now in
     record {
-      stops = record {
-        under = c.requires.stops.under;
-        sound = c.requires.stops.sound;
-        long = c.requires.stops.long;
-        within = c.requires.stops.within;
-        many = c.requires.stops.many;
-        offered = c.requires.stops.offered;
+      walks = walks_into_it (g.S.ConnSource.timetable c.args.source.now) c.args.hop.now.connection.from
+          c.walks_into-begin.result.0 c.walks_into-begin.result.1 c.requires.hop.begins
+          c.walks_into-begin.ensures.order c.walks_into-begin.ensures.within c.walks_into-begin.ensures.exact;
+      ready = record {
+        stops = record {
+          under = c.requires.stops.under;
+          sound = c.requires.stops.sound;
+          long = c.requires.stops.long;
+          within = c.requires.stops.within;
+          many = c.requires.stops.many;
+          offered = c.requires.stops.offered;
+        };
+        ridden = ridden_admitted rules (survivors rules values labels) laws
+            (λ p h. c.requires.labels p (from_survivors rules values labels p h).0) c.ride_labels.new.ridden.items
+            c.in_ok-ride_labels.ensures;
       };
-      ridden = ridden_admitted rules (survivors rules values labels) laws
-          (λ p h. c.requires.labels p (from_survivors rules values labels p h).0) c.ride_labels.new.ridden.items
-          c.in_ok-ride_labels.ensures;
     }
 
 -- all labels are bettered
@@ -121,12 +107,13 @@ returns-then-not-hop g c = record {
 }
 
 -- the trip has one label alone
-pub board_only_label-requires-clause-label : goal.board_only_label-requires-clause-label
-board_only_label-requires-clause-label g c =
-    let label = c.index-labels-0.result in
-    let only = one_alone c.args.labels.now label c.if-labels-eq1.true c.index-labels-0.is in
-    c.requires.labels (as_point label) (subst (λ ls. Contains (label_points ls) (as_point label)) (sym only)
-    (Contains-push [] (as_point label)))
+pub board_only_label-requires-clause-can : goal.board_only_label-requires-clause-can
+board_only_label-requires-clause-can g c = record {
+  hop = c.requires.hop;
+  stops = c.requires.stops;
+  labels = subst (AdmitsLabels (g.C.Criterion.rules c.args.asked.now.criterion))
+      (one_alone c.args.labels.now c.index-labels-0.result c.if-labels-eq1.true c.index-labels-0.is) c.requires.labels;
+}
 
 pub returns-then-labels-eq1 : goal.returns-then-labels-eq1
 returns-then-labels-eq1 g c =

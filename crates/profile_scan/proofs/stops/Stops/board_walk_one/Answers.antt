@@ -18,10 +18,22 @@ use Rattle.profile_scan.proofs.Offers.{takes_unless}
 use Rattle.profile_scan.proofs.PartLemmas.{lists_none}
 use Rattle.profile_scan.proofs.stops.Stops.board_walk_one.Goals as goal
 
+pub walk-value-requires-clause-admitted : goal.walk-value-requires-clause-admitted
+walk-value-requires-clause-admitted g c = c.requires.ready.ridden c.args.ride (Contains-push [] c.args.ride)
+
+pub was_offered-requires-clause-has : goal.was_offered-requires-clause-has
+was_offered-requires-clause-has g c = record { there = c.requires.stop; stops = c.requires.ready.stops }
+
+pub was_offered-requires-clause-value : goal.was_offered-requires-clause-value
+was_offered-requires-clause-value g c =
+    subst (Admits (g.C.Criterion.rules c.args.asked.now.criterion)) (sym c.walk-value.ensures)
+    ((g.met.C.Criterion.laws c.args.asked.now.criterion).walk_admits c.args.walk.secs c.args.ride.value c.requires.secs
+    (c.requires.ready.ridden c.args.ride (Contains-push [] c.args.ride)))
+
 -- the list covers the value already
 pub returns-then-was_offered : goal.returns-then-was_offered
 returns-then-was_offered g c = record {
-  stops = lists_none g.C.Criterion.rules c.args.asked.now.criterion (vec_len c.args.self.now.heads) c.args.self.now c.requires.has.stops;
+  stops = lists_none g.C.Criterion.rules c.args.asked.now.criterion (vec_len c.args.self.now.heads) c.args.self.now c.requires.ready.stops;
   takes = λ labels are walks at stop exits set_outs before all ext_before ext.
       let rules = g.C.Criterion.rules c.args.asked.now.criterion in
       let covers = subst (IsCovered rules (points_at c.args.self.now c.args.walk.from)
@@ -37,7 +49,7 @@ pub returns : goal.returns
 returns g c =
     let rules_of = g.C.Criterion.rules in
     let criterion = c.args.asked.now.criterion in
-    let are = c.requires.has.stops in
+    let are = c.requires.ready.stops in
     let lists = c.args.self.now.lists in
     let new = c.insert_one.new.self in
     let heads = c.args.self.now.heads in
@@ -46,7 +58,7 @@ returns g c =
     let bound = length (entries_of lists) in
     let departure = hop.connection.dep - walk.secs in
     let points = list_points new c.in_ok-new.new in
-    let within : walk.from < length heads.items = subst (λ n. walk.from < n) heads.ok.0 c.requires.has.there in
+    let within : walk.from < length heads.items = subst (λ n. walk.from < n) heads.ok.0 c.requires.stop in
     let same = same_lists rules_of lists new are.sound c.insert_one.ensures.more in
     let taken = c.in_ok-new.ensures.taken in
     let kept = kept_under rules_of (lists_criterion lists) criterion are.under (list_points lists c.head-head.result) points
@@ -57,7 +69,8 @@ returns g c =
     let put : LastOffer g.row.C-V.Denot = record { before = c.saturating_add.result; value = c.walk-value.result } in
     let fits : IsLastOffer (rules_of criterion) points put = record {
       admitted = subst (Admits (rules_of criterion)) (sym c.walk-value.ensures)
-          ((g.met.C.Criterion.laws criterion).walk_admits walk.secs c.args.ride.value c.requires.secs c.requires.ride);
+          ((g.met.C.Criterion.laws criterion).walk_admits walk.secs c.args.ride.value c.requires.secs
+          (c.requires.ready.ridden c.args.ride (Contains-push [] c.args.ride)));
       covers = λ time early.
           covered_earlier (rules_of criterion) points time departure put.value
           (before_next departure time c.saturating_add.result 4294967295 c.saturating_add.ensures early) covers;
@@ -91,7 +104,7 @@ returns g c =
 
 pub returns-then-walk-dep : goal.returns-then-walk-dep
 returns-then-walk-dep g c = record {
-  stops = lists_none g.C.Criterion.rules c.args.asked.now.criterion (vec_len c.args.self.now.heads) c.args.self.now c.requires.has.stops;
+  stops = lists_none g.C.Criterion.rules c.args.asked.now.criterion (vec_len c.args.self.now.heads) c.args.self.now c.requires.ready.stops;
   takes = λ labels are walks at stop exits set_outs before all ext_before ext.
       takes_unless (g.C.Criterion.rules c.args.asked.now.criterion)
       ((c.args.walk.from ≡ stop) × (c.args.walk.secs ≤ c.args.hop.now.connection.dep))

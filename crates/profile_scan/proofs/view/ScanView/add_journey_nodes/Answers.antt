@@ -1,6 +1,6 @@
 use Rattle.std.proofs.Common.{sym, subst, arith}
 use Rattle.std.proofs.lemmas.Result.{IfOk-weaker}
-use Rattle.reasoning.proofs.ListLemmas.{extends_on}
+use Rattle.reasoning.proofs.ListLemmas.{extends_on, extends_one}
 use Rattle.profile_scan.specs.Views.{scan_records_seen}
 use Rattle.profile_scan.specs.JourneyNodes.{SaysLabel, SaysJourney}
 use Rattle.profile_scan.proofs.JourneyNodeLemmas.{route_over, route_popped, route_spelled, first_spelled, says_journey}
@@ -52,8 +52,8 @@ loop-label-preserved g c =
       says = (c.in-Some.label, p.0, c.in_ok-next-2.ensures.says);
     }
 
-pub returns-clause-says : goal.returns-clause-says
-returns-clause-says g c =
+pub returns : goal.returns
+returns g c =
     let walks = (g.S.ConnSource.timetable c.args.source.now).footpaths in
     let s = scan_records_seen c.args.self.now in
     let x = c.index-set_out.result.now in
@@ -65,6 +65,10 @@ returns-clause-says g c =
     let over = route_over s x.label c.loop-label.route.items says.0 (omega arith) says.1 in
     let rides_on = subst (λ n. SaysLabel walks s n c.loop-label.nodes.items c.loop-label.next) (sym over) says.2 in
     IfOk-weaker c.add.result _ _
-    (λ number added. subst (SaysJourney walks s c.args.tag new) (sym added.0)
-    (says_journey walks s c.args.tag c.loop-label.next x c.loop-label.nodes.items new at rides_on added.1))
-    c.add.ensures.added
+    (λ number added. record {
+      nodes = extends_on c.args.nodes.now.items c.loop-label.nodes.items new c.loop-label.invariant.nodes
+          (extends_one c.loop-label.nodes.items new _ added.1);
+      says = subst (SaysJourney walks s c.args.tag new) (sym added.0)
+          (says_journey walks s c.args.tag c.loop-label.next x c.loop-label.nodes.items new at rides_on added.1);
+    })
+    c.add.ensures
