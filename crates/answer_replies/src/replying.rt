@@ -1,9 +1,10 @@
 //! A query's answer as a line of reply.
 
-ghost use Rattle.std.specs.Prelude.{◌≡◌, IfOk, map, string_bytes};
+ghost use Rattle.std.specs.Prelude.{◌≡◌, ◌++◌, ℕ, IfOk, OnOk, map, reverse, string_bytes, take};
 ghost use Rattle.profile_scan.specs.SetQuery.{IsAskableBetween, question};
 ghost use Rattle.session_texts.specs.Replies.{line_of, profile_data};
 ghost use Rattle.session_texts.specs.Telling.{points_of};
+ghost use Rattle.station_answers.specs.Reading.{window_between};
 ghost use Rattle.answer_replies.specs.Replying.{IsAnswered, IsAnsweredBy};
 ghost use Rattle.answer_replies.specs.Replying.{bare_data, data_with_legs, departures_data};
 
@@ -14,31 +15,38 @@ use image_verifier::Verified;
 use journeys::{Answer, Departure, journey_string};
 use profile_scan::SetQuery;
 use session_texts::Points;
-use sources::InPlace;
+use sources::{InPlace, ReadLog};
 use station_answers::answer_between;
 use std::alloc::{AllocError, Global};
 
 /// The line that replies to a query between sets of stops over the image of version `version`, by the criterion of this
-/// name.
+/// name; and the log, in which each connection of the window was noted once, from the last to the first.
 ///
 /// # Errors
 ///
-/// Memory ran out.
-pub fn reply_by_name(
+/// Memory ran out. Then a first part of them, or all, was noted.
+pub fn reply_by_name<L: ReadLog>(
     alloc: Global,
     form: PointForm,
     image: &Verified,
     criterion: CriterionName,
     query: &SetQuery,
     version: u64,
-) -> Result<String, AllocError>
+    log: L,
+) -> (Result<String, AllocError>, L)
     requires { IsAskableBetween image.now.timetable.stops (question query.now) }
-    ensures { IfOk result (λ line. IsAnsweredBy form criterion image.now version (question query.now)
+    ensures line { IfOk result.0 (λ line. IsAnsweredBy form criterion image.now version (question query.now)
         (string_bytes line)) }
+    ensures whole { OnOk result.0 (L.reads result.1
+        ≡ L.reads log ++ reverse (window_between image.now.timetable (question query.now))) }
+    ensures part { (n : ℕ) × (L.reads result.1
+        ≡ L.reads log ++ take n (reverse (window_between image.now.timetable (question query.now)))) }
 {
     match criterion {
-        CriterionName::Arrival => line_by(alloc, form, image, &Arrival, query, version),
-        CriterionName::ArrivalTrips => line_by(alloc, form, image, &ArrivalTrips, query, version),
+        CriterionName::Arrival => line_by(alloc, form, image, &Arrival, query, version, log),
+        CriterionName::ArrivalTrips => {
+            line_by(alloc, form, image, &ArrivalTrips, query, version, log)
+        }
         CriterionName::ArrivalTripsWalk => line_by(
             alloc,
             form,
@@ -46,26 +54,36 @@ pub fn reply_by_name(
             &ArrivalTripsWalk,
             query,
             version,
+            log,
         ),
     }
 }
 
 // The line that replies to a query, by this criterion. The image is read in place.
-fn line_by<C: ShowsFigures>(
+fn line_by<C: ShowsFigures, L: ReadLog>(
     alloc: Global,
     form: PointForm,
     image: &Verified,
     criterion: &C,
     query: &SetQuery,
     version: u64,
-) -> Result<String, AllocError>
+    log: L,
+) -> (Result<String, AllocError>, L)
     requires { IsAskableBetween image.now.timetable.stops (question query.now) }
-    ensures { IfOk result (λ line. IsAnswered form C.figures (C.rules criterion.now) image.now version
+    ensures line { IfOk result.0 (λ line. IsAnswered form C.figures (C.rules criterion.now) image.now version
         (question query.now) (string_bytes line)) }
+    ensures whole { OnOk result.0 (L.reads result.1
+        ≡ L.reads log ++ reverse (window_between image.now.timetable (question query.now))) }
+    ensures part { (n : ℕ) × (L.reads result.1
+        ≡ L.reads log ++ take n (reverse (window_between image.now.timetable (question query.now)))) }
 {
-    let mut source = InPlace::new(image);
-    let answer = answer_between(alloc, &mut source, criterion, query)?;
-    profile_reply(alloc, form, image, version, criterion, &answer)
+    let mut source = InPlace::new(image, log);
+    let answer = match answer_between(alloc, &mut source, criterion, query) {
+        Ok(answer) => answer,
+        Err(error) => return (Err(error), source.into_log()),
+    };
+    let line = profile_reply(alloc, form, image, version, criterion, &answer);
+    (line, source.into_log())
 }
 
 /// The line of reply for an answer over the image of version `version`.

@@ -8,13 +8,9 @@ use Rattle.session.specs.Lines.{LineMeaning, too_long, no_json, no_request, asks
 long_or_short : (line : List ℕ) (x y : LineMeaning) → 65_536 < length line → length line ≤ 65_536 → x ≡ y
 long_or_short line x y long short = absurd (omega (arith, long, short))
 
-abbrev pub OneValue : Type 0
-OneValue = (line : List ℕ) (d e : Data) → IsJson line d → IsJson line e → d ≡ e
-
-abbrev pub OneRequest : Type 0
-OneRequest = (sets : Bool) (d : Data) (request other : RequestValue) → Asks sets d request → Asks sets d other → request ≡ other
-
-pub one_asked : OneValue → OneRequest → (sets : Bool) (line : List ℕ) (x y : LineMeaning) → IsLineMeaning sets line x → IsLineMeaning sets line y → x ≡ y
+pub one_asked : ((line : List ℕ) (d e : Data) → IsJson line d → IsJson line e → d ≡ e)
+    → ((sets : Bool) (d : Data) (request other : RequestValue) → Asks sets d request → Asks sets d other → request ≡ other)
+    → (sets : Bool) (line : List ℕ) (x y : LineMeaning) → IsLineMeaning sets line x → IsLineMeaning sets line y → x ≡ y
 one_asked value request sets line too_long too_long p q = refl
 one_asked value request sets line too_long no_json p q = long_or_short line too_long no_json p q.0
 one_asked value request sets line too_long no_request p q = long_or_short line too_long no_request p q.0

@@ -1,5 +1,5 @@
 -- What a seat comes to know, and what profiles are answered from.
-use Rattle.std.proofs.Common.{◌≡◌, ◌⊎◌, ℕ, List, [], ◌∷◌, ◌++◌, Option, Some, None, Result, Ok, Err, refl, sym, ap, ◌∙◌}
+use Rattle.std.proofs.Common.{◌≡◌, ℕ, List, [], ◌∷◌, ◌++◌, Option, Some, None, Result, Ok, Err, refl, sym, ap, ◌∙◌}
 use Rattle.std.proofs.Common.{All, subst, append_assoc, append-nil, inl, inr}
 use Rattle.std.proofs.lemmas.List.{append_cancel_left}
 use Rattle.std.proofs.lemmas.List.Elements.{All-append, All-cons, All-head, All-nil, All-tail}
@@ -7,18 +7,20 @@ use Rattle.image_layout.specs.Image.{ImageValue}
 use Rattle.shelf_steps.specs.declared.views.KnownHistory.{KnownHistory}
 use Rattle.epochs.specs.declared.seats.SeatAnswer.{SeatAnswer}
 use Rattle.epochs.specs.declared.faults.PinFault.{PinFault}
-use Rattle.epochs.specs.SeatHistory.{Grows, HoldsAsKnown, HoldsIn, IsPublished}
+use Rattle.epochs.specs.SeatHistory.{Grows, HoldsAsKnown, IsPublished}
 use Rattle.epochs.specs.Seats.{SeatValue, PinStep, ReleaseStep, JoinStep}
 use Rattle.epochs.specs.Words.{SeatWords}
 use Rattle.epochs.proofs.GrowthLemmas.{grows_same, growths_join, published_stay}
-use Rattle.session_texts.specs.Requests.{AskValue, pin, release, profile, load}
+use Rattle.session_texts.specs.Requests.{AskValue}
 use Rattle.session.specs.declared.reply_form.ReplyForm.{ReplyForm}
-use Rattle.session.specs.Lines.{LineMeaning, too_long, no_json, no_request, asks, IsLineMeaning, memory_line}
+use Rattle.session.specs.Lines.{LineMeaning}
 use Rattle.session.specs.SeatSteps.{AnswerStep, Follows, SeatMove, answered, joined, answers_in}
 use Rattle.session.specs.Sessions.{AreExchanges, LastRelease, moves_of}
-use Rattle.session.specs.Exchanges.{Deed, SeatState, Meets, ProfileIsMet, Exchange, WantsMemory, deed_of, seat_state}
-use Rattle.session.specs.Learning.{AreFromPublished, GoesOn, IsFromPublished, IsPublishedIfHeld, Learns, LearnsBy, LearningTells, TellsPublished}
-use Rattle.session.proofs.SeatLemmas.{answers_grow, held_after, steps}
+use Rattle.session.specs.Exchanges.{Exchange, IsExchange, Meets, ProfileIsMet, SeatState, deed_of, seat_state}
+use Rattle.session.specs.Learning.{AreFromPublished, GoesOn, IsFromPublished, IsPublishedIfHeld, Learns, LearnsBy, LearningTells}
+use Rattle.session.specs.Learning.{ReportsPublished, TellsPublished}
+use Rattle.session.proofs.SeatLemmas.{answers_grow, is_pinned, steps}
+use Rattle.session.specs.Replies.{ReplyValue}
 use Rattle.session.proofs.ExchangeLemmas.{moves_follow}
 
 module _ {A : Type 0} (tells : KnownHistory → A → Type 0) where
@@ -82,16 +84,11 @@ learns_answer : (k l : KnownHistory) (number : ℕ) (a b : SeatValue) (answer : 
 learns_answer k l number a b answer step grows told =
     learns_one TellsPublished k l a.answers b.answers answer grows (steps number a b answer step).answers told
 
-abbrev held_by : SeatValue → Option (ℕ × ImageValue)
-held_by s = s.held
-
 pub learns_pinned : (k l : KnownHistory) (number : ℕ) (a b : SeatValue) → PinStep a (Ok tt) b → Grows k l → HoldsAsKnown l number b.held → Learns k a l b
 learns_pinned k l number a b step grows known =
-    let version = step.1.0 in
-    let image = step.1.1 in
-    let is : b.held ≡ Some (version, image.value) = ap held_by step.1.3 in
-    let holds : HoldsIn l number version image.value = subst (λ (h : Option (ℕ × ImageValue)). HoldsAsKnown l number h) is known in
-    learns_one TellsPublished k l a.answers b.answers (SeatAnswer.Pinned version image) grows (ap (λ (s : SeatValue). s.answers) step.1.3) holds.published
+    let pinned = is_pinned l number number a b refl known step in
+    let holds = subst (λ (h : Option (ℕ × ImageValue)). HoldsAsKnown l number h) pinned.held known in
+    learns_answer k l number a b (SeatAnswer.Pinned pinned.version pinned.shown) pinned.step grows holds.published
 
 pub learns_unpinned : (k l : KnownHistory) (a b : SeatValue) (fault : PinFault) → PinStep a (Err fault) b → Grows k l → Learns k a l b
 learns_unpinned k l a b fault step grows = learns_answer k l 0 a b (SeatAnswer.PinRefused fault) step grows tt
@@ -108,75 +105,53 @@ learns_by_notice k l a b version step same =
 pub ruleset pins = (learns_pinned, learns_unpinned)
 
 -- a pin and what gives it back
-pub learns_once : (k l n : KnownHistory) (number : ℕ) (a m b : SeatValue) (back : Result (Unit {0}) PinFault) → PinStep a (Ok tt) m → Grows k l
-    → HoldsAsKnown l number m.held → ReleaseStep m back b → Grows l n → Learns k a n b
-learns_once k l n number a m b back pins grows known releases more =
-    learns_on k a l m n b (learns_pinned k l number a m pins grows known) (learns_by_release l n m b back releases more)
+pub goes_once : {T S N : Type 0} (words : SeatWords T S N) (shelves : T) (a m b : S) (back : Result (Unit {0}) PinFault)
+    → words.number m ≡ words.number a → Grows (words.known a) (words.known m) → HoldsAsKnown (words.known m) (words.number m) (words.shown m).held
+    → PinStep (words.shown a) (Ok tt) (words.shown m) → words.fits shelves b → words.number b ≡ words.number m
+    → Grows (words.known m) (words.known b) → ReleaseStep (words.shown m) back (words.shown b) → GoesOn words shelves a b
+goes_once words shelves a m b back number grows known pins fits number_then more releases = record {
+  fits = fits;
+  number = number_then ∙ number;
+  learns = learns_on _ (words.shown a) (words.known m) (words.shown m) _ (words.shown b) (learns_pinned _ _ _ _ _ pins grows known)
+      (learns_by_release _ _ _ _ back releases more);
+}
 
--- what is held after a move was published, if what was held before was
-held_so : (k : KnownHistory) (a b : SeatValue) (held : Option (ℕ × ImageValue)) → IsPublishedIfHeld k held → b.held ≡ held → IsPublishedIfHeld k b.held
-held_so k a b held is same = subst (λ (h : Option (ℕ × ImageValue)). IsPublishedIfHeld k h) (sym same) is
-
-held_later : (k : KnownHistory) (answer : SeatAnswer) (held : Option (ℕ × ImageValue)) → IsPublishedIfHeld k held → TellsPublished k answer
-    → IsPublishedIfHeld k (held_after answer held)
-held_later k (SeatAnswer.Pinned version image) held was told = told
-held_later k (SeatAnswer.PinRefused fault) held was told = was
-held_later k SeatAnswer.Released held was told = tt
-held_later k (SeatAnswer.ReleaseRefused PinFault.SeatLost) held was told = tt
-held_later k (SeatAnswer.ReleaseRefused PinFault.NotPinned) held was told = was
-held_later k (SeatAnswer.ReleaseRefused PinFault.AlreadyPinned) held was told = was
-held_later k (SeatAnswer.ReleaseRefused PinFault.OutOfMemory) held was told = was
-held_later k (SeatAnswer.ReleaseRefused (PinFault.Moved newest)) held was told = was
-
+-- what is held after these moves was published, if what was held before was
 held_published : (number : ℕ) (k : KnownHistory) (a b : SeatValue) (moves : List SeatMove) → Follows number a moves b → IsPublishedIfHeld k a.held
     → All (TellsPublished k) (answers_in moves) → IsPublishedIfHeld k b.held
-held_published number k a b [] same held are = held_so k a b a.held held (ap held_by same)
+held_published number k a b [] same held are = subst (λ (s : SeatValue). IsPublishedIfHeld k s.held) (sym same) held
 held_published number k a b (answered answer ∷ moves) (m, step, rest) held are =
-    let later = held_later k answer a.held held (All-head (TellsPublished k) answer (answers_in moves) are) in
-    held_published number k m b moves rest (held_so k a m (held_after answer a.held) later (steps number a m answer step).held)
+    held_published number k m b moves rest ((steps number a m answer step).held k held (All-head (TellsPublished k) answer (answers_in moves) are))
     (All-tail (TellsPublished k) answer (answers_in moves) are)
 held_published number k a b (joined version ∷ moves) (m, step, rest) held are =
-    held_published number k m b moves rest (held_so k a m a.held held (ap held_by step)) are
+    held_published number k m b moves rest (subst (λ (s : SeatValue). IsPublishedIfHeld k s.held) (sym step) held) are
 
 -- a profile is answered from what was published
-profile_from : (k : KnownHistory) (form : ReplyForm) (held : Option (ℕ × ImageValue)) (ask : AskValue) (moves : List SeatMove) (reply : List ℕ)
-    → ProfileIsMet form held ask moves reply → IsPublishedIfHeld k held → All (TellsPublished k) (answers_in moves)
-    → IsFromPublished k form (asks (profile ask)) reply
+profile_from : (k : KnownHistory) (form : ReplyForm) (held : Option (ℕ × ImageValue)) (ask : AskValue) (moves : List SeatMove) (reply : ReplyValue)
+    → ProfileIsMet form held ask moves reply → IsPublishedIfHeld k held → All (TellsPublished k) (answers_in moves) → IsFromPublished k form ask reply
 profile_from k form (Some h) ask moves reply met held are = inl (h.0, h.1, held, met.1)
 profile_from k form None ask moves reply (inl met) held are =
-    let once : All (TellsPublished k) (SeatAnswer.Pinned met.version met.once.shown ∷ met.once.last ∷ []) =
-    subst (λ (xs : List SeatMove). All (TellsPublished k) (answers_in xs)) met.once.moves_are are in
-    inl (
-      met.version,
-      met.image,
-      subst (λ (i : ImageValue). IsPublished k met.version i) met.once.image_is
-          (All-head (TellsPublished k) (SeatAnswer.Pinned met.version met.once.shown) (met.once.last ∷ []) once),
-      met.replied,
-    )
+    let once = subst (λ (xs : List SeatMove). All (TellsPublished k) (answers_in xs)) met.once.moves_are are in
+    let told = All-head (TellsPublished k) (SeatAnswer.Pinned met.version met.once.shown) (met.once.last ∷ []) once in
+    inl (met.version, met.image, subst (λ (i : ImageValue). IsPublished k met.version i) met.once.image_is told, met.replied)
 profile_from k form None ask moves reply (inr refused) held are = inr (refused.fault, refused.reply_is)
 
-request_from : (k : KnownHistory) (form : ReplyForm) (held : Option (ℕ × ImageValue)) (asked : LineMeaning) (d : Deed) → Meets form held asked d
-    → IsPublishedIfHeld k held → All (TellsPublished k) (answers_in d.moves) → IsFromPublished k form asked d.reply
-request_from k form held too_long d met is are = tt
-request_from k form held no_json d met is are = tt
-request_from k form held no_request d met is are = tt
-request_from k form held (asks pin) d met is are = tt
-request_from k form held (asks release) d met is are = tt
-request_from k form held (asks (load feed waits)) d met is are = tt
-request_from k form held (asks (profile ask)) d met is are = profile_from k form held ask d.moves d.reply met.1 is are
+exchange_from : (k : KnownHistory) (form : ReplyForm) (held : Option (ℕ × ImageValue)) (t : Exchange) → IsExchange form held t → IsPublishedIfHeld k held
+    → All (TellsPublished k) (answers_in t.moves) → ReportsPublished k form t
+exchange_from k form held t (inl memory) published are = inl (ap (λ (r : ReplyValue). r.text) memory.0)
+exchange_from k form held t (inr (asked, is, inl memory)) published are = inl (ap (λ (r : ReplyValue). r.text) memory.0)
+exchange_from k form held t (inr (asked, is, inr met)) published are = inr (
+  asked,
+  is,
+  λ ask same.
+      let profile_met = subst (λ (m : LineMeaning). Meets form held m (deed_of t.moves t.orders t.reply)) same met in
+      profile_from k form held ask t.moves t.reply profile_met.1 published are,
+)
 
 answers_in-append : (xs ys : List SeatMove) → answers_in (xs ++ ys) ≡ answers_in xs ++ answers_in ys
 answers_in-append [] ys = refl
 answers_in-append (answered answer ∷ xs) ys = ap (λ (zs : List SeatAnswer). answer ∷ zs) (answers_in-append xs ys)
 answers_in-append (joined version ∷ xs) ys = answers_in-append xs ys
-
-asked_from : (k : KnownHistory) (form : ReplyForm) (held : Option (ℕ × ImageValue)) (asked : LineMeaning) (t : Exchange) → IsLineMeaning form.sets t.line asked
-    → WantsMemory asked (deed_of t.moves t.orders t.reply) ⊎ Meets form held asked (deed_of t.moves t.orders t.reply)
-    → IsPublishedIfHeld k held → All (TellsPublished k) (answers_in t.moves)
-    → (t.reply ≡ memory_line) ⊎ ((asked : LineMeaning) × IsLineMeaning form.sets t.line asked × IsFromPublished k form asked t.reply)
-asked_from k form held asked t is (inl memory) published are = inl memory.0
-asked_from k form held asked t is (inr met) published are =
-    inr (asked, is, request_from k form held asked (deed_of t.moves t.orders t.reply) met published are)
 
 exchanges_from : (k : KnownHistory) (form : ReplyForm) (number : ℕ) (a b : SeatState) (exchanges : List Exchange)
     → AreExchanges form number a exchanges b → IsPublishedIfHeld k a.seat.held → All (TellsPublished k) (answers_in (moves_of exchanges))
@@ -184,13 +159,10 @@ exchanges_from : (k : KnownHistory) (form : ReplyForm) (number : ℕ) (a b : Sea
 exchanges_from k form number a b [] same held are = tt
 exchanges_from k form number a b (t ∷ exchanges) (m, exchange, rest) held are =
     let parts = parts_of (TellsPublished k) (answers_in t.moves) (answers_in (moves_of exchanges))
-    (subst (λ (xs : List SeatAnswer). All (TellsPublished k) xs) (answers_in-append t.moves (moves_of exchanges)) are) in
-    let first : (t.reply ≡ memory_line) ⊎ ((asked : LineMeaning) × IsLineMeaning form.sets t.line asked × IsFromPublished k form asked t.reply) =
-    elim exchange.is [
-      | inl memory ↦ inl memory.0
-      | inr met ↦ asked_from k form a.seat.held met.0 t met.1 met.2 held parts.0
-    ] in
-    (first, exchanges_from k form number m b exchanges rest (held_published number k a.seat m.seat t.moves exchange.seat held parts.0) parts.1)
+    (subst (λ (xs : List SeatAnswer). All (TellsPublished k) xs) (answers_in-append t.moves (moves_of exchanges)) are) in (
+      exchange_from k form a.seat.held t exchange.is held parts.0,
+      exchanges_from k form number m b exchanges rest (held_published number k a.seat m.seat t.moves exchange.seat held parts.0) parts.1,
+    )
 
 -- what was answered in the exchanges, and by the release behind them
 released_too : (number : ℕ) (last b : SeatValue) → LastRelease number last b → (rest : List SeatAnswer) × (b.answers ≡ last.answers ++ rest)

@@ -4,5 +4,4 @@ mod MetLemmas
 mod AskedLemmas
 pub mod ExchangeLemmas
 mod LineLemmas
-mod LoadLemmas
 mod OneLemmas

@@ -3,7 +3,7 @@ use Rattle.std.proofs.Common.{◌≡◌, ◌≤◌, ◌∙◌, ℕ, List, [], �
 use Rattle.std.specs.List.{AllZip}
 use Rattle.reasoning.proofs.ListLemmas.{contains_first, contains_only}
 use Rattle.timetable.specs.NamesValue.{NamesValue}
-use Rattle.timetable.specs.Queries.{IsFirstFault as IsFirstFaultOne}
+use Rattle.timetable.specs.Queries.{IsAskable, IsFirstFault as IsFirstFaultOne}
 use Rattle.timetable.specs.declared.query.Query.{Query}
 use Rattle.timetable.specs.declared.query.QueryFault.{QueryFault}
 use Rattle.image_layout.specs.Image.{ImageValue}
@@ -16,8 +16,9 @@ use Rattle.station_answers.specs.Naming.{AsksBetween, IsFaultBetween, SomeUnknow
 use Rattle.answer_replies.specs.Replying.{IsAnsweredBy}
 use Rattle.answer_replies.specs.Valuing.{by_arrival}
 use Rattle.answer_replies.specs.OneStop.{IsAnsweredOneBy}
-use Rattle.session.specs.OneStop.{AnswersOne, IsRefusedOne, IsTooLongOne, OneAsk, TellsOfOne}
-use Rattle.session.specs.Profiles.{AnswersQuery, IsNoQuery, IsTooLong, window_of}
+use Rattle.session.specs.OneStop.{AnswersOne, IsTooLongOne, OneAsk, TellsOfOne}
+use Rattle.session.specs.Profiles.{AnswersQuery, IsTooLong, window_of}
+use Rattle.session.specs.Replies.{ReplyValue}
 use Rattle.session.specs.declared.reply_form.ReplyForm.{ReplyForm}
 
 -- the law of replies
@@ -25,23 +26,22 @@ abbrev pub OneIsAnswered : Type 0
 OneIsAnswered = (form : _) (criterion : _) (image : ImageValue) (version : ℕ) (q : Query) (reply : List ℕ)
     → IsAnsweredBy form criterion image version (single_set_query q) reply → IsAnsweredOneBy form criterion image version q reply
 
--- one of a list of one
-single : {A B : Type 0} (R : A → B → Type 0) (x : A) (ys : List B) → AllZip R (x ∷ []) ys → (y : B) × (ys ≡ y ∷ []) × R x y
-single R x [] zip = absurd zip
-single R x (y ∷ []) zip = (y, refl, zip.0)
-single R x (y ∷ z ∷ zs) zip = absurd zip.1
+only : {A B : Type 0} (R : A → B → Type 0) (x : A) (ys : List B) → AllZip R (x ∷ []) ys → (y : B) × (ys ≡ y ∷ []) × R x y
+only R x [] zip = absurd zip
+only R x (y ∷ []) zip = (y, refl, zip.0)
+only R x (y ∷ z ∷ zs) zip = absurd zip.1
 
 -- a question between single names is one between single stops
-pub record IsOne (names : NamesValue) (from to : List ℕ) (window : Window) (b : SetQueryValue) : Type 0 where
-  pub query : Query
-  pub asked : Asks names from to window query
-  pub is : b ≡ single_set_query query
+record IsOne (names : NamesValue) (from to : List ℕ) (window : Window) (b : SetQueryValue) : Type 0 where
+  query : Query
+  asked : Asks names from to window query
+  is : b ≡ single_set_query query
 
-one_question : (names : NamesValue) (from to : List ℕ) (window : Window) (b : SetQueryValue)
-    → AsksBetween names (from ∷ []) (to ∷ []) window b → IsOne names from to window b
-one_question names from to window b asks =
-    let s = single (IsNamed names) from b.sources asks.sources in
-    let t = single (IsNamed names) to b.targets asks.targets in
+one_question : (names : NamesValue) (from to : List ℕ) (froms tos : List (List ℕ)) (window : Window) (b : SetQueryValue) → froms ≡ from ∷ []
+    → tos ≡ to ∷ [] → AsksBetween names froms tos window b → IsOne names from to window b
+one_question names from to froms tos window b from_is to_is asks =
+    let s = only (IsNamed names) from b.sources (subst (λ (xs : List (List ℕ)). AllZip (IsNamed names) xs b.sources) from_is asks.sources) in
+    let t = only (IsNamed names) to b.targets (subst (λ (xs : List (List ℕ)). AllZip (IsNamed names) xs b.targets) to_is asks.targets) in
     let with_sides : List ℕ → List ℕ → SetQueryValue =
     λ xs ys. record { sources = xs; targets = ys; from = b.from; until = b.until; by = b.by } in
     let q : Query = record { source = s.0; target = t.0; from = b.from; until = b.until; by = b.by } in
@@ -54,82 +54,59 @@ one_question names from to window b asks =
 first_of_one : (stops : ℕ) (q : Query) (fault : QueryFault) → IsFirstFault stops (single_set_query q) fault → IsFirstFaultOne stops q fault
 first_of_one stops q QueryFault.UnknownStop (inl (s, has, out)) = inl (subst (λ (x : ℕ). stops ≤ x) (contains_only q.source s has) out)
 first_of_one stops q QueryFault.UnknownStop (inr (s, has, out)) = inr (subst (λ (x : ℕ). stops ≤ x) (contains_only q.target s has) out)
-first_of_one stops q QueryFault.SameStop (sources, targets, (s, is_source, is_target)) = (
-  sources q.source (contains_first q.source []),
-  targets q.target (contains_first q.target []),
-  sym (contains_only q.source s is_source) ∙ contains_only q.target s is_target,
-)
-first_of_one stops q QueryFault.BadWindow (sources, targets, apart, bad) = (
-  sources q.source (contains_first q.source []),
-  targets q.target (contains_first q.target []),
-  (λ same. apart q.source (contains_first q.source []) (subst (Contains (q.target ∷ [])) (sym same) (contains_first q.target []))),
-  bad,
-)
+first_of_one stops q QueryFault.SameStop (sources, targets, (s, is_source, is_target)) =
+    let same = sym (contains_only q.source s is_source) ∙ contains_only q.target s is_target in
+    (sources q.source (contains_first q.source []), targets q.target (contains_first q.target []), same)
+first_of_one stops q QueryFault.BadWindow (sources, targets, apart, bad) =
+    let here = contains_first q.source [] in
+    let there = contains_first q.target [] in
+    (sources q.source here, targets q.target there, (λ same. apart q.source here (subst (Contains (q.target ∷ [])) (sym same) there)), bad)
 
-unknown_one : (names : NamesValue) (name : List ℕ) → SomeUnknown names (name ∷ []) → NamesNone names name
-unknown_one names name (other, has, none) = subst (NamesNone names) (contains_only name other has) none
-
-refused_one : (image : ImageValue) (from to : List ℕ) (window : Window) (fault : QueryFault)
-    → IsFaultBetween image (from ∷ []) (to ∷ []) window fault → IsRefused image from to window fault
-refused_one image from to window QueryFault.UnknownStop (inl unknown) = inl (unknown_one image.names from unknown)
-refused_one image from to window QueryFault.UnknownStop (inr unknown) = inr (unknown_one image.names to unknown)
-refused_one image from to window QueryFault.SameStop (b, asks, first) =
-    let one = one_question image.names from to window b asks in (
-      one.query,
-      one.asked,
-      first_of_one image.timetable.stops one.query QueryFault.SameStop
-          (subst (λ (x : SetQueryValue). IsFirstFault image.timetable.stops x QueryFault.SameStop) one.is first),
-    )
-refused_one image from to window QueryFault.BadWindow (b, asks, first) =
-    let one = one_question image.names from to window b asks in (
-      one.query,
-      one.asked,
-      first_of_one image.timetable.stops one.query QueryFault.BadWindow
-          (subst (λ (x : SetQueryValue). IsFirstFault image.timetable.stops x QueryFault.BadWindow) one.is first),
-    )
-
-module _ (form : ReplyForm) (image : ImageValue) (version : ℕ) (one : OneAsk) (reply : List ℕ) where
+module _ (form : ReplyForm) (image : ImageValue) (version : ℕ) (one : OneAsk) (reply : ReplyValue) where
   asks_of_one : (b : SetQueryValue) → AsksBetween image.names one.ask.from one.ask.to (window_of one.ask) b
       → IsOne image.names one.from one.to (window_of one.ask) b
-  asks_of_one b asks = one_question image.names one.from one.to (window_of one.ask) b
-      (subst (λ (xs : List (List ℕ)). AsksBetween image.names xs (one.to ∷ []) (window_of one.ask) b) one.from_one
-      (subst (λ (ys : List (List ℕ)). AsksBetween image.names one.ask.from ys (window_of one.ask) b) one.to_one asks))
+  asks_of_one b asks = one_question image.names one.from one.to one.ask.from one.ask.to (window_of one.ask) b one.from_one one.to_one asks
 
-  none_of_one : IsNoQuery image one.ask reply → IsRefusedOne image one reply
-  none_of_one refused = record {
-    fault = refused.fault;
-    refused = refused_one image one.from one.to (window_of one.ask) refused.fault
-        (subst (λ (xs : List (List ℕ)). IsFaultBetween image xs (one.to ∷ []) (window_of one.ask) refused.fault) one.from_one
-        (subst (λ (ys : List (List ℕ)). IsFaultBetween image one.ask.from ys (window_of one.ask) refused.fault) one.to_one refused.refused));
-    reply_is = refused.reply_is;
-  }
+  unknown_one : (name : List ℕ) (names : List (List ℕ)) → names ≡ name ∷ [] → SomeUnknown image.names names → NamesNone image.names name
+  unknown_one name names is (other, has, none) =
+      subst (NamesNone image.names) (contains_only name other (subst (λ (xs : List (List ℕ)). Contains xs other) is has)) none
+
+  first_asked : (fault : QueryFault) (b : SetQueryValue) → AsksBetween image.names one.ask.from one.ask.to (window_of one.ask) b
+      → IsFirstFault image.timetable.stops b fault
+      → (q : Query) × Asks image.names one.from one.to (window_of one.ask) q × IsFirstFaultOne image.timetable.stops q fault
+  first_asked fault b asks first =
+      let o = asks_of_one b asks in
+      let first_then = subst (λ (x : SetQueryValue). IsFirstFault image.timetable.stops x fault) o.is first in
+      (o.query, o.asked, first_of_one image.timetable.stops o.query fault first_then)
+
+  refused_one : (fault : QueryFault) → IsFaultBetween image one.ask.from one.ask.to (window_of one.ask) fault
+      → IsRefused image one.from one.to (window_of one.ask) fault
+  refused_one QueryFault.UnknownStop (inl unknown) = inl (unknown_one one.from one.ask.from one.from_one unknown)
+  refused_one QueryFault.UnknownStop (inr unknown) = inr (unknown_one one.to one.ask.to one.to_one unknown)
+  refused_one QueryFault.SameStop (b, asks, first) = first_asked QueryFault.SameStop b asks first
+  refused_one QueryFault.BadWindow (b, asks, first) = first_asked QueryFault.BadWindow b asks first
+
+  askable_one : (b : SetQueryValue) (q : Query) → b ≡ single_set_query q → IsAskableBetween image.timetable.stops b → IsAskable image.timetable.stops q
+  askable_one b q is can_be =
+      ((one_is_plain by_arrival image.timetable q).askable image.timetable.stops).0 (subst (IsAskableBetween image.timetable.stops) is can_be)
 
   too_long_of_one : IsTooLong form image one.ask reply → IsTooLongOne form image one reply
   too_long_of_one long =
-      let asked = asks_of_one long.query long.asked in
-      let q = asked.query in
-      record {
-        query = q;
-        can_be = ((one_is_plain by_arrival image.timetable q).askable image.timetable.stops).0
-            (subst (IsAskableBetween image.timetable.stops) asked.is long.can_be);
-        asked = asked.asked;
-        longer = long.longer;
-        reply_is = long.reply_is;
-      }
+      let o = asks_of_one long.query long.asked in
+      let can_be = askable_one long.query o.query o.is long.can_be in
+      record { query = o.query; can_be = can_be; asked = o.asked; longer = long.longer; reply_is = long.reply_is }
 
   answers_of_one : OneIsAnswered → AnswersQuery form image version one.ask reply → AnswersOne form image version one reply
   answers_of_one law answers =
-      let asked = asks_of_one answers.query answers.asked in
-      let q = asked.query in
-      record {
-        query = q;
-        can_be = ((one_is_plain by_arrival image.timetable q).askable image.timetable.stops).0
-            (subst (IsAskableBetween image.timetable.stops) asked.is answers.can_be);
-        asked = asked.asked;
-        short = answers.short;
-        answered = law form.points one.ask.criterion image version q reply
-            (subst (λ (x : SetQueryValue). IsAnsweredBy form.points one.ask.criterion image version x reply) asked.is answers.answered);
-      }
+      let o = asks_of_one answers.query answers.asked in
+      let can_be = askable_one answers.query o.query o.is answers.can_be in
+      let by = subst (λ (x : SetQueryValue). IsAnsweredBy form.points one.ask.criterion image version x reply.text) o.is answers.answered in
+      let answered = law form.points one.ask.criterion image version o.query reply.text by in
+      record { query = o.query; can_be = can_be; asked = o.asked; short = answers.short; answered = answered }
 
   pub tells_of_one : OneIsAnswered → TellsOfOne form image version one reply
-  tells_of_one law = record { none = none_of_one; too_long = too_long_of_one; answers = answers_of_one law }
+  tells_of_one law = record {
+    none = λ refused. record { fault = refused.fault; refused = refused_one refused.fault refused.refused; reply_is = refused.reply_is };
+    too_long = too_long_of_one;
+    answers = answers_of_one law;
+  }

@@ -8,10 +8,11 @@ use Rattle.epochs.specs.SeatHistory.{Grows, IsPublished}
 use Rattle.epochs.specs.Seats.{SeatValue}
 use Rattle.epochs.specs.Words.{SeatWords}
 use Rattle.orders.specs.Ordering.{OrderValue}
-use Rattle.session_texts.specs.Requests.{profile}
+use Rattle.session_texts.specs.Requests.{AskValue, profile}
 use Rattle.session.specs.declared.reply_form.ReplyForm.{ReplyForm}
 use Rattle.session.specs.Lines.{LineMeaning, asks, IsLineMeaning, memory_line, pin_fault_line}
-use Rattle.session.specs.Profiles.{IsProfileReply}
+use Rattle.session.specs.Profiles.{RepliesToProfile}
+use Rattle.session.specs.Replies.{ReplyValue, plain}
 use Rattle.session.specs.Sessions.{AreExchanges, LastRelease}
 use Rattle.session.specs.Exchanges.{SeatState, Exchange, seat_state}
 
@@ -42,19 +43,20 @@ pub record GoesOn {T S N : Type 0} (words : SeatWords T S N) (shelves : T) (a b 
   pub number : words.number b ≡ words.number a
   pub learns : Learns (words.known a) (words.shown a) (words.known b) (words.shown b)
 
--- a profile is answered over the image that this history published as the version that the reply names; or no version could be pinned
-abbrev pub IsFromPublished : KnownHistory → ReplyForm → LineMeaning → List ℕ → Type 0
-IsFromPublished known form (asks (profile ask)) reply =
-    ((version : ℕ) × (image : ImageValue) × IsPublished known version image × IsProfileReply form image version ask reply)
-    ⊎ ((fault : PinFault) × (reply ≡ pin_fault_line fault))
-IsFromPublished known form _ reply = Unit {0}
+-- this profile is answered over the image that this history published as the version that the reply names; or no version could be pinned
+abbrev pub IsFromPublished : KnownHistory → ReplyForm → AskValue → ReplyValue → Type 0
+IsFromPublished known form ask reply =
+    ((version : ℕ) × (image : ImageValue) × IsPublished known version image × RepliesToProfile form image version ask reply)
+    ⊎ ((fault : PinFault) × (reply ≡ plain (pin_fault_line fault)))
 
--- each profile that is asked for in these exchanges is answered so, or want of memory is replied
+-- if a profile is asked for in this exchange, it is answered so, or want of memory is replied
+abbrev pub ReportsPublished : KnownHistory → ReplyForm → Exchange → Type 0
+ReportsPublished known form t = (t.reply.text ≡ memory_line) ⊎ ((asked : LineMeaning) × IsLineMeaning form.sets t.line asked
+    × ((ask : AskValue) → asked ≡ asks (profile ask) → IsFromPublished known form ask t.reply))
+
 abbrev pub AreFromPublished : KnownHistory → ReplyForm → List Exchange → Type 0
 AreFromPublished known form [] = Unit {0}
-AreFromPublished known form (t ∷ exchanges) =
-    ((t.reply ≡ memory_line) ⊎ ((asked : LineMeaning) × IsLineMeaning form.sets t.line asked × IsFromPublished known form asked t.reply))
-    × AreFromPublished known form exchanges
+AreFromPublished known form (t ∷ exchanges) = ReportsPublished known form t × AreFromPublished known form exchanges
 
 -- these exchanges, and the last release after them, lead the seat from `a` to `b`
 pub record LeadSeat (form : ReplyForm) (number : ℕ) (a : SeatValue) (exchanges : List Exchange) (b : SeatValue) : Type 0 where

@@ -1,6 +1,7 @@
 pub mod FaultNumber
 pub mod SeatSteps
 pub mod Lines
+pub mod Replies
 pub mod Profiles
 pub mod Exchanges
 pub mod Sessions

@@ -1,5 +1,5 @@
 -- What a line asks, and the lines that say why it isn't met.
-use Rattle.std.specs.Prelude.{◌<◌, ◌≤◌, ℕ, Bool, List, length, string_bytes}
+use Rattle.std.specs.Prelude.{◌<◌, ◌≤◌, ℕ, Bool, List, length}
 use Rattle.serde_json.specs.Data.{Data}
 use Rattle.timetable.specs.declared.query.QueryFault.{QueryFault}
 use Rattle.timetable.specs.Queries.{numbered_fault}
@@ -12,8 +12,6 @@ use Rattle.session_texts.specs.Judging.{IsJson, IsNoJson}
 use Rattle.session_texts.specs.Refusals.{error_line, load_refused_text, moved_text, refusal_name, refusal_number}
 use Rattle.session_texts.specs.Requests.{Asks, RequestValue}
 use Rattle.session_texts.specs.declared.refusals.Refusal.{Refusal}
-use Rattle.session.specs.declared.reply.SessionReply.{SessionReply}
-use Rattle.session.specs.declared.reply.ReplyLine.{ReplyLine}
 
 pub data LineMeaning : Type 0 where
   too_long : LineMeaning
@@ -55,12 +53,3 @@ order_fault_line OrderFault.UnknownFeed = error_line (order_fault_number OrderFa
 order_fault_line OrderFault.OrdersFull = error_line (order_fault_number OrderFault.OrdersFull) (order_fault_name OrderFault.OrdersFull)
 order_fault_line OrderFault.OutOfMemory = memory_line
 order_fault_line OrderFault.LoaderGone = error_line (order_fault_number OrderFault.LoaderGone) (order_fault_name OrderFault.LoaderGone)
-
--- the bytes of a reply
-abbrev pub line_bytes : ReplyLine → List ℕ
-line_bytes (ReplyLine.Fixed line) = line.now
-line_bytes (ReplyLine.Short line) = line.bytes
-line_bytes (ReplyLine.Made line) = string_bytes line
-
-abbrev pub text_of_reply : SessionReply → List ℕ
-text_of_reply reply = line_bytes reply.line

@@ -9,6 +9,7 @@ use Rattle.session_texts.specs.Requests.{AskValue}
 use Rattle.answer_replies.specs.OneStop.{IsAnsweredOneBy}
 use Rattle.session.specs.Forms.{IsLonger}
 use Rattle.session.specs.Lines.{query_fault_line}
+use Rattle.session.specs.Replies.{ReplyValue, plain}
 use Rattle.session.specs.Profiles.{AnswersQuery, IsNoQuery, IsTooLong, window_of}
 use Rattle.session.specs.declared.reply_form.ReplyForm.{ReplyForm}
 
@@ -21,29 +22,29 @@ pub record OneAsk : Type 0 where
   pub to_one : ask.to ≡ to ∷ []
 
 -- the plain query between these stops is refused, and the reply says why
-pub record IsRefusedOne (image : ImageValue) (one : OneAsk) (reply : List ℕ) : Type 0 where
+pub record IsRefusedOne (image : ImageValue) (one : OneAsk) (reply : ReplyValue) : Type 0 where
   pub fault : QueryFault
   pub refused : IsRefused image one.from one.to (window_of one.ask) fault
-  pub reply_is : reply ≡ query_fault_line fault
+  pub reply_is : reply ≡ plain (query_fault_line fault)
 
 -- the plain query can be asked, but its window is longer than windows may be
-pub record IsTooLongOne (form : ReplyForm) (image : ImageValue) (one : OneAsk) (reply : List ℕ) : Type 0 where
+pub record IsTooLongOne (form : ReplyForm) (image : ImageValue) (one : OneAsk) (reply : ReplyValue) : Type 0 where
   pub query : Query
   pub can_be : IsAskable image.timetable.stops query
   pub asked : Asks image.names one.from one.to (window_of one.ask) query
   pub longer : IsLonger form.longest (one.ask.by - one.ask.after)
-  pub reply_is : reply ≡ query_fault_line QueryFault.BadWindow
+  pub reply_is : reply ≡ plain (query_fault_line QueryFault.BadWindow)
 
 -- the window isn't too long, and the reply answers the plain query
-pub record AnswersOne (form : ReplyForm) (image : ImageValue) (version : ℕ) (one : OneAsk) (reply : List ℕ) : Type 0 where
+pub record AnswersOne (form : ReplyForm) (image : ImageValue) (version : ℕ) (one : OneAsk) (reply : ReplyValue) : Type 0 where
   pub query : Query
   pub can_be : IsAskable image.timetable.stops query
   pub asked : Asks image.names one.from one.to (window_of one.ask) query
   pub short : ¬ (IsLonger form.longest (one.ask.by - one.ask.after))
-  pub answered : IsAnsweredOneBy form.points one.ask.criterion image version query reply
+  pub answered : IsAnsweredOneBy form.points one.ask.criterion image version query reply.text
 
 -- what the reply tells of the request between sets, it tells of the plain query
-pub record TellsOfOne (form : ReplyForm) (image : ImageValue) (version : ℕ) (one : OneAsk) (reply : List ℕ) : Type 0 where
+pub record TellsOfOne (form : ReplyForm) (image : ImageValue) (version : ℕ) (one : OneAsk) (reply : ReplyValue) : Type 0 where
   pub none : IsNoQuery image one.ask reply → IsRefusedOne image one reply
   pub too_long : IsTooLong form image one.ask reply → IsTooLongOne form image one reply
   pub answers : AnswersQuery form image version one.ask reply → AnswersOne form image version one reply

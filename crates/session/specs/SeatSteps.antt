@@ -6,6 +6,7 @@ use Rattle.shelf_steps.specs.declared.views.KnownHistory.{KnownHistory}
 use Rattle.epochs.specs.declared.seats.SeatAnswer.{SeatAnswer}
 use Rattle.epochs.specs.declared.faults.PinFault.{PinFault}
 use Rattle.epochs.specs.SeatHistory.{HoldsAsKnown}
+use Rattle.session.specs.Replies.{ReplyValue}
 use Rattle.epochs.specs.Seats.{SeatValue, PinStep, ReleaseStep, JoinStep, pinned}
 
 -- a call is answered, or a notice of this version is joined
@@ -44,9 +45,9 @@ answers_in (joined version ∷ moves) = answers_in moves
 -- a reply, and what the seat showed when it was written
 pub record SeatReply : Type 0 where
   pub shown : SeatValue
-  pub reply : List ℕ
+  pub reply : ReplyValue
 
-abbrev pub seat_reply : SeatValue → List ℕ → SeatReply
+abbrev pub seat_reply : SeatValue → ReplyValue → SeatReply
 seat_reply shown reply = record { shown = shown; reply = reply }
 
 -- by this answer what was held is given back: also by a release that is refused because the seat is lost, which empties the seat too

@@ -23,9 +23,9 @@ lines_in exchanges = map (λ t. t.line) exchanges
 
 -- the replies, end to end
 abbrev pub text_of : List Exchange → List ℕ
-text_of exchanges = flat_map (λ t. t.reply) exchanges
+text_of exchanges = flat_map (λ t. t.reply.text) exchanges
 
--- the replies, each with what the seat showed when it was written
+-- the replies, each with what the seat showed when it was written, and what was read for it
 abbrev pub replies_in : List Exchange → List SeatReply
 replies_in exchanges = map (λ t. seat_reply t.shown t.reply) exchanges
 
@@ -46,7 +46,7 @@ pub record IsCutShort (written : List ℕ) (exchanges : List Exchange) : Type 0 
   pub last : Exchange
   pub count : ℕ  -- of the bytes of the last reply
   pub exchanges_are : exchanges ≡ answered ++ last ∷ []
-  pub written_is : written ≡ text_of answered ++ take count last.reply
+  pub written_is : written ≡ text_of answered ++ take count last.reply.text
 
 -- what a session changes: what is to be read and what was written, if that is known; how many reads and writes failed; what was replied, with what
 -- the seat showed then; the seat and the orders

@@ -3,7 +3,7 @@
 ghost use Rattle.std.specs.Prelude.{◌≡◌, ℕ, List};
 ghost use Rattle.lines.specs.Showing.{ShowsLine};
 ghost use Rattle.session.specs.Learning.{GoesOn};
-ghost use Rattle.session.specs.Lines.{text_of_reply};
+ghost use Rattle.session.specs.Replies.{reply_value};
 ghost use Rattle.session.specs.Exchanges.{AgreeOnNotices, Exchange, ExchangeLeadsTo, seat_state};
 
 use crate::reply::SessionReply;
@@ -27,7 +27,7 @@ impl<'a, N: Drop, T: Versions<Notice = N>, G: Gate> SessionServer<'a, T, G> {
         ensures seat { GoesOn T.words self.now.shelves.now seat.old seat.new }
         ensures route { O.route orders.new ≡ O.route orders.old }
         ensures exchange { (l : List ℕ) → ShowsLine line.entry l
-            → (t : Exchange) × (t.line ≡ l) × (t.reply ≡ text_of_reply result) × ExchangeLeadsTo self.now.form
+            → (t : Exchange) × (t.line ≡ l) × (t.reply ≡ reply_value result) × ExchangeLeadsTo self.now.form
             (T.words.number seat.old)
             (seat_state (T.words.shown seat.old) (O.asked orders.old)) t
             (seat_state (T.words.shown seat.new) (O.asked orders.new)) }

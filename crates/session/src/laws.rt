@@ -6,6 +6,7 @@ ghost use Rattle.session.specs.Learning.{LearningTells};
 ghost use Rattle.image_layout.specs.Image.{ImageValue};
 ghost use Rattle.session.specs.Lines.{LineMeaning, IsLineMeaning};
 ghost use Rattle.session.specs.OneStop.{OneAsk, TellsOfOne};
+ghost use Rattle.session.specs.Replies.{ReplyValue};
 ghost use Rattle.session.specs.declared.reply_form.ReplyForm.{ReplyForm};
 ghost use Rattle.session.specs.SeatSteps.{Follows, NeverFalls, SeatMove, answers_in};
 ghost use Rattle.session.specs.Sessions.{AreExchanges, moves_of, orders_of};
@@ -52,7 +53,7 @@ pub fn profiles_are_from_published()
 /// What the reply to a profile from one stop to one other tells, it tells of the plain query from the one to the other:
 /// that this is refused, that its window is too long, or its answer.
 pub fn one_stop_is_asked_plainly()
-    ensures { (form : ReplyForm) (image : ImageValue) (version : ℕ) (one : OneAsk) (reply : List ℕ)
+    ensures { (form : ReplyForm) (image : ImageValue) (version : ℕ) (one : OneAsk) (reply : ReplyValue)
         → TellsOfOne form image version one reply }
 {
     one_stop_is_plain();

@@ -9,6 +9,7 @@ mod pinning;
 mod profiles;
 mod reply;
 mod reply_form;
+mod reply_log;
 mod serving;
 mod session_server;
 mod shown_reply;

@@ -4,7 +4,8 @@ ghost use Rattle.std.specs.Prelude.{◌≡◌, ◌++◌, ◌⊎◌, List, []};
 ghost use Rattle.epochs.specs.Seats.{JoinStep};
 ghost use Rattle.orders.specs.Ordering.{OrderValue};
 ghost use Rattle.session.specs.Learning.{GoesOn};
-ghost use Rattle.session.specs.Lines.{memory_line, text_of_reply};
+ghost use Rattle.session.specs.Lines.{memory_line};
+ghost use Rattle.session.specs.Replies.{plain, reply_value};
 ghost use Rattle.session.specs.Exchanges.{AgreeOnNotices, Deed, IsLoaded, OrderIsMet};
 
 use crate::reply::SessionReply;
@@ -18,8 +19,8 @@ impl<'a, N: Drop, T: Versions<Notice = N>, G> SessionServer<'a, T, G> {
     pub(crate) fn order_feed<O: Orders>(&self, orders: &mut O, feed: &str) -> SessionReply
         ensures route { O.route orders.new ≡ O.route orders.old }
         ensures put { (put : List OrderValue) × (O.asked orders.new ≡ O.asked orders.old ++ put)
-            × (OrderIsMet feed.now put (text_of_reply result)
-            ⊎ ((put ≡ []) × (text_of_reply result ≡ memory_line))) }
+            × (OrderIsMet feed.now put (reply_value result)
+            ⊎ ((put ≡ []) × (reply_value result ≡ plain memory_line))) }
     {
         let Ok(line) = load_line(self.alloc, feed) else {
             return SessionReply::refusal(Refusal::OutOfMemory);
@@ -43,7 +44,7 @@ impl<'a, N: Drop, T: Versions<Notice = N>, G> SessionServer<'a, T, G> {
         requires notices { AgreeOnNotices O.notice_version T.words.version }
         ensures seat { GoesOn T.words self.now.shelves.now seat.old seat.new }
         ensures route { O.route orders.new ≡ O.route orders.old }
-        ensures met { (d : Deed) × (d.reply ≡ text_of_reply result)
+        ensures met { (d : Deed) × (d.reply ≡ reply_value result)
             × (O.asked orders.new ≡ O.asked orders.old ++ d.orders)
             × IsLoaded (T.words.number seat.old) (T.words.shown seat.old) feed.now d (T.words.shown seat.new) }
     {

@@ -2,7 +2,8 @@
 
 ghost use Rattle.session_texts.specs.Requests.{pin, release};
 ghost use Rattle.session.specs.Learning.{GoesOn};
-ghost use Rattle.session.specs.Lines.{asks, text_of_reply};
+ghost use Rattle.session.specs.Lines.{asks};
+ghost use Rattle.session.specs.Replies.{reply_value};
 ghost use Rattle.session.specs.Exchanges.{IsMet, replied_to};
 
 use crate::reply::SessionReply;
@@ -18,7 +19,7 @@ impl<'a, T: Versions, G> SessionServer<'a, T, G> {
         requires { T.words.fits self.now.shelves.now seat.old }
         ensures seat { GoesOn T.words self.now.shelves.now seat.old seat.new }
         ensures met { IsMet self.now.form (T.words.number seat.old) (T.words.shown seat.old)
-            (replied_to (asks pin) (text_of_reply result)) (T.words.shown seat.new) }
+            (replied_to (asks pin) (reply_value result)) (T.words.shown seat.new) }
     {
         if let Err(fault) = self.shelves.pin(seat) {
             return SessionReply::pin_fault(fault);
@@ -42,7 +43,7 @@ impl<'a, T: Versions, G> SessionServer<'a, T, G> {
         requires { T.words.fits self.now.shelves.now seat.old }
         ensures seat { GoesOn T.words self.now.shelves.now seat.old seat.new }
         ensures met { IsMet self.now.form (T.words.number seat.old) (T.words.shown seat.old)
-            (replied_to (asks release) (text_of_reply result)) (T.words.shown seat.new) }
+            (replied_to (asks release) (reply_value result)) (T.words.shown seat.new) }
     {
         match self.shelves.release(seat) {
             Ok(()) => SessionReply::fixed(release_line()),

@@ -1,17 +1,19 @@
 //! Profiles, answered from an edition of an image.
 
-ghost use Rattle.std.specs.Prelude.{◌≡◌, ◌⊎◌, MatchResult, None};
+ghost use Rattle.std.specs.Prelude.{◌≡◌, MatchResult, None};
 ghost use Rattle.std.specs.Arc.{arc_value};
 ghost use Rattle.profile_scan.specs.SetQuery.{IsAskableBetween, question};
 ghost use Rattle.station_answers.specs.Naming.{AsksBetween, IsNoQuestion};
 ghost use Rattle.session_texts.specs.Requests.{ask_value, profile};
 ghost use Rattle.session.specs.Learning.{GoesOn};
-ghost use Rattle.session.specs.Lines.{asks, memory_line, text_of_reply};
-ghost use Rattle.session.specs.Profiles.{IsProfileReply, window_of};
+ghost use Rattle.session.specs.Lines.{asks};
+ghost use Rattle.session.specs.Replies.{reply_value};
+ghost use Rattle.session.specs.Profiles.{RepliesToProfile, window_of};
 ghost use Rattle.session.specs.Exchanges.{IsMet, replied_to};
 
 use crate::reply::SessionReply;
 use crate::reply_form::ReplyForm;
+use crate::reply_log::ReplyLog;
 use crate::session_server::SessionServer;
 use answer_replies::reply_by_name;
 use epochs::{Edition, Versions};
@@ -19,7 +21,7 @@ use image_verifier::Verified;
 use journeys::Window;
 use orders::Gate;
 use profile_scan::SetQuery;
-use session_texts::{Ask, Refusal};
+use session_texts::Ask;
 use station_answers::{NoQuestion, question_between};
 use std::alloc::Global;
 use timetable::QueryFault;
@@ -31,7 +33,7 @@ impl<'a, T: Versions, G: Gate> SessionServer<'a, T, G> {
         requires { T.words.fits self.now.shelves.now seat.old }
         ensures seat { GoesOn T.words self.now.shelves.now seat.old seat.new }
         ensures met { IsMet self.now.form (T.words.number seat.old) (T.words.shown seat.old)
-            (replied_to (asks (profile (ask_value ask.now))) (text_of_reply result)) (T.words.shown seat.new) }
+            (replied_to (asks (profile (ask_value ask.now))) (reply_value result)) (T.words.shown seat.new) }
     {
         if let Some(edition) = T::edition(seat) {
             return answer_from(self.alloc, self.form, edition, self.gate, ask);
@@ -46,7 +48,7 @@ impl<'a, T: Versions, G: Gate> SessionServer<'a, T, G> {
         requires idle { (T.words.shown seat.old).held ≡ None }
         ensures seat { GoesOn T.words self.now.shelves.now seat.old seat.new }
         ensures met { IsMet self.now.form (T.words.number seat.old) (T.words.shown seat.old)
-            (replied_to (asks (profile (ask_value ask.now))) (text_of_reply result)) (T.words.shown seat.new) }
+            (replied_to (asks (profile (ask_value ask.now))) (reply_value result)) (T.words.shown seat.new) }
     {
         if let Err(fault) = self.shelves.pin(seat) {
             return SessionReply::pin_fault(fault);
@@ -69,9 +71,8 @@ fn answer_from<G: Gate>(
     gate: &G,
     ask: &Ask<'_>,
 ) -> SessionReply
-    ensures { IsProfileReply form (arc_value edition.now.image) edition.now.version (ask_value ask.now)
-        (text_of_reply result)
-        ⊎ (text_of_reply result ≡ memory_line) }
+    ensures { RepliesToProfile form (arc_value edition.now.image) edition.now.version (ask_value ask.now)
+        (reply_value result) }
 {
     let image: &Verified = &edition.image;
     // Called only for its contract, which says that the image is one that was accepted.
@@ -84,17 +85,16 @@ fn answer_from<G: Gate>(
         return SessionReply::query_fault(QueryFault::BadWindow);
     }
     gate.enter();
-    match reply_by_name(
+    let (made, log) = reply_by_name(
         alloc,
         form.points,
         image,
         ask.criterion,
         &query,
         edition.version,
-    ) {
-        Ok(line) => SessionReply::made(line).after_scan(),
-        Err(_) => SessionReply::refusal(Refusal::OutOfMemory).after_scan(),
-    }
+        ReplyLog::new(),
+    );
+    SessionReply::after_scan(made, log)
 }
 
 // The query that a profile asks of an image, from any of its stops to any others.

@@ -1,86 +1,96 @@
-//! Replies, as whole lines.
+//! Replies, as whole lines, each with the log of what was read for it.
 
 ghost use Rattle.std.specs.Prelude.{◌≡◌, string_bytes};
 ghost use Rattle.session.specs.Lines.{no_question_line, order_fault_line, pin_fault_line, query_fault_line};
-ghost use Rattle.session.specs.Lines.{refusal_line, text_of_reply};
+ghost use Rattle.session.specs.Lines.{refusal_line};
+ghost use Rattle.session.specs.Replies.{line_bytes, plain, reply_value, scan_text};
 
+use crate::reply_log::ReplyLog;
 use arrayvec::ArrayString;
 use epochs::PinFault;
 use orders::OrderFault;
+use profile_scan::ReadLog;
 use session_texts::{Refusal, load_refused_line, moved_line};
 use station_answers::NoQuestion;
+use std::alloc::AllocError;
 use timetable::QueryFault;
 
-// A line with its LF.
+/// A line with its LF.
 #[derive(Drop)]
-enum ReplyLine {
+pub(crate) enum ReplyLine {
     Fixed(&'static str),
     Short(ArrayString<64>),
     Made(String),
 }
 
-/// A reply, and whether a scan was made for it.
-#[derive(Drop)]
-pub(crate) struct SessionReply {
-    line: ReplyLine,
-    has_scanned: bool,
-}
-
-impl SessionReply {
-    /// The reply with its LF.
+impl ReplyLine {
+    /// Its bytes.
     pub(crate) fn bytes(&self) -> &[u8]
-        ensures { result.now ≡ text_of_reply self.now }
+        ensures { result.now ≡ line_bytes self.now }
     {
-        match &self.line {
+        match self {
             ReplyLine::Fixed(line) => line.as_bytes(),
             ReplyLine::Short(line) => line.as_bytes(),
             ReplyLine::Made(line) => line.as_bytes(),
         }
     }
+}
 
-    pub(crate) fn has_scanned(&self) -> bool {
-        self.has_scanned
-    }
+/// A reply, whether a scan was made for it, and the log of what the scan read. It can't be dropped, as its log.
+pub(crate) struct SessionReply {
+    pub(crate) line: ReplyLine,
+    pub(crate) has_scanned: bool,
+    pub(crate) log: ReplyLog,
+}
 
-    /// The same reply, for which a scan was made.
-    pub(crate) fn after_scan(self) -> SessionReply
-        ensures { text_of_reply result ≡ text_of_reply self }
+impl SessionReply {
+    /// The reply after a scan, with the log of what it read: the line that was made, or that memory ran out.
+    pub(crate) fn after_scan(made: Result<String, AllocError>, log: ReplyLog) -> SessionReply
+        ensures text { (reply_value result).text ≡ scan_text made }
+        ensures read { (reply_value result).read ≡ ⟦<ReplyLog as ReadLog>⟧.reads log }
     {
+        let line = match made {
+            Ok(line) => ReplyLine::Made(line),
+            Err(AllocError) => ReplyLine::Fixed(Refusal::OutOfMemory.line()),
+        };
         SessionReply {
-            line: self.line,
+            line,
             has_scanned: true,
+            log,
         }
     }
 
+    // A reply for which nothing is read.
     fn of(line: ReplyLine) -> SessionReply
-        ensures { result.line ≡ line }
+        ensures { reply_value result ≡ plain (line_bytes line) }
     {
         SessionReply {
             line,
             has_scanned: false,
+            log: ReplyLog::new(),
         }
     }
 
     pub(crate) fn fixed(line: &'static str) -> SessionReply
-        ensures { text_of_reply result ≡ line.now }
+        ensures { reply_value result ≡ plain line.now }
     {
         SessionReply::of(ReplyLine::Fixed(line))
     }
 
     pub(crate) fn made(line: String) -> SessionReply
-        ensures { text_of_reply result ≡ string_bytes line }
+        ensures { reply_value result ≡ plain (string_bytes line) }
     {
         SessionReply::of(ReplyLine::Made(line))
     }
 
     pub(crate) fn refusal(refusal: Refusal) -> SessionReply
-        ensures { text_of_reply result ≡ refusal_line refusal }
+        ensures { reply_value result ≡ plain (refusal_line refusal) }
     {
         SessionReply::fixed(refusal.line())
     }
 
     pub(crate) fn pin_fault(fault: PinFault) -> SessionReply
-        ensures { text_of_reply result ≡ pin_fault_line fault }
+        ensures { reply_value result ≡ plain (pin_fault_line fault) }
     {
         match fault {
             PinFault::Moved { newest } => SessionReply::of(ReplyLine::Short(moved_line(newest))),
@@ -92,7 +102,7 @@ impl SessionReply {
     }
 
     pub(crate) fn no_question(fault: NoQuestion) -> SessionReply
-        ensures { text_of_reply result ≡ no_question_line fault }
+        ensures { reply_value result ≡ plain (no_question_line fault) }
     {
         match fault {
             NoQuestion::Bad(fault) => SessionReply::query_fault(fault),
@@ -101,7 +111,7 @@ impl SessionReply {
     }
 
     pub(crate) fn query_fault(fault: QueryFault) -> SessionReply
-        ensures { text_of_reply result ≡ query_fault_line fault }
+        ensures { reply_value result ≡ plain (query_fault_line fault) }
     {
         match fault {
             QueryFault::UnknownStop => SessionReply::refusal(Refusal::UnknownStop),
@@ -111,7 +121,7 @@ impl SessionReply {
     }
 
     pub(crate) fn order_fault(fault: OrderFault) -> SessionReply
-        ensures { text_of_reply result ≡ order_fault_line fault }
+        ensures { reply_value result ≡ plain (order_fault_line fault) }
     {
         match fault {
             OrderFault::UnknownFeed => SessionReply::refusal(Refusal::UnknownFeed),

@@ -12,6 +12,7 @@ ghost use Rattle.session.specs.Sessions.{LastRelease, Serves, state_of};
 ghost use Rattle.session.specs.Exchanges.{AgreeOnNotices, Exchange, ExchangeLeadsTo, seat_state};
 
 use crate::fault::{Ended, SessionFault};
+use crate::reply::SessionReply;
 use crate::session_server::{SessionServer, Streams};
 use crate::shown_reply::{ReplyMoment, ShownReply};
 use epochs::Versions;
@@ -173,17 +174,21 @@ impl<'a, N: Drop, T: Versions<Notice = N>, G: Gate> SessionServer<'a, T, G> {
             (seat_state (T.words.shown seat.new) (O.asked orders.new))
             × (notes_of writer.new ≡ notes_of writer.old ++ seat_reply t.shown t.reply ∷ [])
             × MatchResult result
-            (λ _. Appends (Out.contents (inner_of writer.old)) (Out.contents (inner_of writer.new)) t.reply)
+            (λ _. Appends (Out.contents (inner_of writer.old)) (Out.contents (inner_of writer.new)) t.reply.text)
             (λ _. (n : ℕ) × Appends (Out.contents (inner_of writer.old)) (Out.contents (inner_of writer.new))
-            (take n t.reply)) }
+            (take n t.reply.text)) }
     {
-        let reply = self.exchange(line, seat, orders);
+        let SessionReply {
+            line: reply,
+            has_scanned,
+            log,
+        } = self.exchange(line, seat, orders);
         let moment = ReplyMoment {
             shelves: self.shelves,
             seat,
         };
-        let written = writer.write_line(reply.bytes(), &moment);
-        if reply.has_scanned() {
+        let written = writer.write_line(reply.bytes(), log.into_reads(), &moment);
+        if has_scanned {
             self.gate.leave();
         }
         written

@@ -7,23 +7,26 @@ use reasoning::GhostValue;
 use std::collections::LinkedList;
 use std::marker::Model;
 
-/// A reply, and what the seat showed as it was written. None is ever made: only contracts speak of it.
+/// A reply, with what was read for it, and what the seat showed as it was written. None is ever made: only contracts
+/// speak of it.
 #[derive(Drop)]
 pub struct ShownReply {
     answers: GhostValue<LinkedList<SeatAnswer>>,
     held: GhostValue<Option<(u64, Verified)>>,
     seen: u64,
-    reply: GhostValue<LinkedList<u8>>,
+    text: GhostValue<LinkedList<u8>>,
+    read: GhostValue<LinkedList<usize>>,
 }
 
 impl Model for ShownReply {
+    ghost use Rattle.lines.specs.LineReads.{written_line};
     ghost use Rattle.session.specs.SeatSteps.{SeatReply};
 
     ghost Value = { SeatReply };
 
     ghost view = { λ r. record {
       shown = record { answers = r.answers.value; held = r.held.value; seen = r.seen };
-      reply = r.reply.value;
+      reply = written_line r.text.value r.read.value;
     } };
 }
 

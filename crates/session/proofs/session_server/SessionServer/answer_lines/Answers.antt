@@ -3,45 +3,36 @@ use Rattle.std.proofs.lemmas.List.Elements.{All-nil}
 use Rattle.reasoning.proofs.BoolLemmas.{where_true, where_false}
 use Rattle.lines.specs.Cutting.{IsOneLine}
 use Rattle.lines.proofs.GivenLemmas.{Gives-ended, Gives-nothing, Gives-rest}
-use Rattle.session.proofs.LineLemmas.{SoFar-more, SoFar-read, SoFar-start, ExchangeLeadsTo-number}
+use Rattle.session.proofs.LineLemmas.{SoFar-more, SoFar-read, SoFar-start, is_answered}
 use Rattle.session.proofs.LineLemmas.{cut_short_at_line, cut_short_at_rest, ends_at_end, ends_with_rest, not_rose}
 use Rattle.session.proofs.LineLemmas.{read_fails, rose, too_many, why_failed}
 use Rattle.session.proofs.LearnLemmas.{goes_on, goes_on_same}
 use Rattle.session.proofs.session_server.SessionServer.answer_lines.Goals as goal
 
 pub loop-init : goal.loop-init
-loop-init g c = record {
-  seat = goes_on_same _ _ _ c.requires.fits;
-  route = refl;
-  reads = refl;
-  writes = refl;
-  so_far = SoFar-start _ _ _ c.new-lines.ensures;
-}
+loop-init g c =
+    record { seat = goes_on_same _ _ _ c.requires.fits; route = refl; reads = refl; writes = refl; so_far = SoFar-start _ _ _ c.new-lines.ensures }
 
 pub returns-in-Err-clause-session : goal.returns-in-Err-clause-session
 returns-in-Err-clause-session g c =
     let e = c.in-Err.ensures in
-    read_fails (SoFar-read c.loop.invariant.so_far (record { came = e.1; written = refl; replied = refl; at_seat = refl; failed = refl }))
-    (omega (arith, c.loop-test.true, c.loop.auto.counter-end)) e.2.0
+    read_fails (SoFar-read _ c.loop.invariant.so_far e.1) (omega (arith, c.loop-test.true, c.loop.auto.counter-end)) e.2.0
     (why_failed _ _ _ _ _ c.requires.counts.0 c.loop.invariant.reads e.2.2) (not_rose _ _ c.loop.invariant.writes)
 
 pub returns-in-Ok-Nothing-clause-session : goal.returns-in-Ok-Nothing-clause-session
 returns-in-Ok-Nothing-clause-session g c =
     let e = c.in-Ok-Nothing.ensures in
     let nothing = Gives-nothing _ _ _ _ c.in-Ok-Nothing.field-0-is e.2.0 in
-    ends_at_end (SoFar-read c.loop.invariant.so_far (record { came = e.1; written = refl; replied = refl; at_seat = refl; failed = refl }))
-    _ (omega (arith, c.loop-test.true, c.loop.auto.counter-end)) nothing.0 nothing.2 (not_rose _ _ (e.2.1 ∙ c.loop.invariant.reads))
-    (not_rose _ _ c.loop.invariant.writes)
+    ends_at_end (SoFar-read _ c.loop.invariant.so_far e.1) _ (omega (arith, c.loop-test.true, c.loop.auto.counter-end)) nothing.0 nothing.2
+    (not_rose _ _ (e.2.1 ∙ c.loop.invariant.reads)) (not_rose _ _ c.loop.invariant.writes)
 
 pub returns-in-Err-answer_line-2-clause-session : goal.returns-in-Err-answer_line-2-clause-session
 returns-in-Err-answer_line-2-clause-session g c =
     let e = c.in-Ok-Ended.ensures in
     let gives = Gives-ended _ _ _ _ c.in-Ok-Ended.field-0-is e.2.0 in
     let done = c.in-Err-answer_line-2.ensures.exchange gives.line (c.line-line-in-Ok-Ended.ensures gives.line gives.shown) in
-    let leads = ExchangeLeadsTo-number _ _ _ _ _ c.loop.invariant.seat.number done.2 in
-    cut_short_at_line (SoFar-read c.loop.invariant.so_far (record { came = e.1; written = refl; replied = refl; at_seat = refl; failed = refl }))
-    (record { unread = refl; failed = refl; leads = leads; replied = done.3; writes = done.4.1 }) done.4.0 refl
-    (omega (arith, c.loop-test.true, c.loop.auto.counter-end)) gives done.1 (not_rose _ _ (e.2.1 ∙ c.loop.invariant.reads))
+    cut_short_at_line (SoFar-read _ c.loop.invariant.so_far e.1) (is_answered c.loop.invariant.seat.number done.2 done.3 done.4.1)
+    done.4.0 refl (omega (arith, c.loop-test.true, c.loop.auto.counter-end)) gives done.1 (not_rose _ _ (e.2.1 ∙ c.loop.invariant.reads))
     (rose _ _ _ c.requires.counts.1 c.loop.invariant.writes c.in-Err-answer_line-2.ensures.failures.0)
 
 pub loop-preserved : goal.loop-preserved
@@ -49,14 +40,13 @@ loop-preserved g c =
     let e = c.in-Ok-Ended.ensures in
     let gives = Gives-ended _ _ _ _ c.in-Ok-Ended.field-0-is e.2.0 in
     let done = c.in-Ok-answer_line.ensures.exchange gives.line (c.line-line-in-Ok-Ended.ensures gives.line gives.shown) in
-    let leads = ExchangeLeadsTo-number _ _ _ _ _ c.loop.invariant.seat.number done.2 in
     record {
       seat = goes_on _ _ _ _ _ c.loop.invariant.seat c.in-Ok-answer_line.ensures.seat;
       route = c.in-Ok-answer_line.ensures.route ∙ c.loop.invariant.route;
       reads = e.2.1 ∙ c.loop.invariant.reads;
       writes = c.in-Ok-answer_line.ensures.failures ∙ c.loop.invariant.writes;
-      so_far = SoFar-more (SoFar-read c.loop.invariant.so_far (record { came = e.1; written = refl; replied = refl; at_seat = refl; failed = refl }))
-          (record { unread = refl; failed = refl; leads = leads; replied = done.3; writes = done.4 }) gives done.1 refl;
+      so_far = SoFar-more (SoFar-read _ c.loop.invariant.so_far e.1) (is_answered c.loop.invariant.seat.number done.2 done.3 done.4)
+          gives done.1 refl;
     }
 
 pub returns-in-Ok-clause-session : goal.returns-in-Ok-clause-session
@@ -64,44 +54,39 @@ returns-in-Ok-clause-session g c =
     let e = c.in-Ok-Rest.ensures in
     let gives = Gives-rest _ _ _ _ c.in-Ok-Rest.field-0-is e.2.0 in
     let done = c.in-Ok.ensures.exchange _ (c.line-line.ensures _ gives.shown) in
-    let leads = ExchangeLeadsTo-number _ _ _ _ _ c.loop.invariant.seat.number done.2 in
-    ends_with_rest (SoFar-read c.loop.invariant.so_far (record { came = e.1; written = refl; replied = refl; at_seat = refl; failed = refl }))
-    (record { unread = refl; failed = refl; leads = leads; replied = done.3; writes = done.4 }) _
-    (omega (arith, c.loop-test.true, c.loop.auto.counter-end)) gives done.1 refl (not_rose _ _ (e.2.1 ∙ c.loop.invariant.reads))
-    (not_rose _ _ (c.in-Ok.ensures.failures ∙ c.loop.invariant.writes))
+    ends_with_rest (SoFar-read _ c.loop.invariant.so_far e.1) (is_answered c.loop.invariant.seat.number done.2 done.3 done.4)
+    _ (omega (arith, c.loop-test.true, c.loop.auto.counter-end)) gives done.1 refl
+    (not_rose _ _ (e.2.1 ∙ c.loop.invariant.reads)) (not_rose _ _ (c.in-Ok.ensures.failures ∙ c.loop.invariant.writes))
 
 pub returns-in-Err-answer_line-clause-session : goal.returns-in-Err-answer_line-clause-session
 returns-in-Err-answer_line-clause-session g c =
     let e = c.in-Ok-Rest.ensures in
     let gives = Gives-rest _ _ _ _ c.in-Ok-Rest.field-0-is e.2.0 in
     let done = c.in-Err-answer_line.ensures.exchange _ (c.line-line.ensures _ gives.shown) in
-    let leads = ExchangeLeadsTo-number _ _ _ _ _ c.loop.invariant.seat.number done.2 in
-    cut_short_at_rest (SoFar-read c.loop.invariant.so_far (record { came = e.1; written = refl; replied = refl; at_seat = refl; failed = refl }))
-    (record { unread = refl; failed = refl; leads = leads; replied = done.3; writes = done.4.1 }) done.4.0 refl
-    (omega (arith, c.loop-test.true, c.loop.auto.counter-end)) gives done.1 (not_rose _ _ (e.2.1 ∙ c.loop.invariant.reads))
+    cut_short_at_rest (SoFar-read _ c.loop.invariant.so_far e.1) (is_answered c.loop.invariant.seat.number done.2 done.3 done.4.1)
+    done.4.0 refl (omega (arith, c.loop-test.true, c.loop.auto.counter-end)) gives done.1 (not_rose _ _ (e.2.1 ∙ c.loop.invariant.reads))
     (rose _ _ _ c.requires.counts.1 c.loop.invariant.writes c.in-Err-answer_line.ensures.failures.0)
 
 pub returns-in-Ok-true-clause-session : goal.returns-in-Ok-true-clause-session
 returns-in-Ok-true-clause-session g c =
     let e = c.in-Ok-true.ensures in
-    too_many (SoFar-read c.loop.invariant.so_far (record { came = e.1; written = refl; replied = refl; at_seat = refl; failed = refl }))
-    (omega (arith, c.loop-test.false, c.loop.auto.counter-end)) (subst (λ xs. 0 < length xs) e.2 (where_true _ _ _ c.in-Ok-true.field-0-test e.3.0))
+    too_many (SoFar-read _ c.loop.invariant.so_far e.1) (omega (arith, c.loop-test.false, c.loop.auto.counter-end))
+    (subst (λ xs. 0 < length xs) e.2 (where_true _ _ _ c.in-Ok-true.field-0-test e.3.0))
     (not_rose _ _ (e.3.1 ∙ c.loop.invariant.reads)) (not_rose _ _ c.loop.invariant.writes)
 
 pub returns-in-Ok-false-clause-session : goal.returns-in-Ok-false-clause-session
 returns-in-Ok-false-clause-session g c =
     let e = c.in-Ok-false.ensures in
     let none = where_false _ _ _ c.in-Ok-false.field-0-test e.3.0 in
-    ends_at_end (SoFar-read c.loop.invariant.so_far (record { came = e.1; written = refl; replied = refl; at_seat = refl; failed = refl }))
-    _ (omega (arith, c.loop-test.false, c.loop.auto.counter-end)) (sym e.2 ∙ none.0) none.1
+    ends_at_end (SoFar-read _ c.loop.invariant.so_far e.1) _ (omega (arith, c.loop-test.false, c.loop.auto.counter-end)) (sym e.2 ∙ none.0) none.1
     (not_rose _ _ (e.3.1 ∙ c.loop.invariant.reads)) (not_rose _ _ c.loop.invariant.writes)
 
 pub returns-clause-session : goal.returns-clause-session
 returns-clause-session g c =
     let e = c.in-Err-has_byte.ensures in
-    read_fails (SoFar-read c.loop.invariant.so_far (record { came = e.1; written = refl; replied = refl; at_seat = refl; failed = refl }))
-    (omega (arith, c.loop-test.false, c.loop.auto.counter-end)) (subst IsOneLine (sym e.3.0 ∙ e.2) (All-nil _))
-    (inl (rose _ _ _ c.requires.counts.0 c.loop.invariant.reads e.3.1.0)) (not_rose _ _ c.loop.invariant.writes)
+    read_fails (SoFar-read _ c.loop.invariant.so_far e.1) (omega (arith, c.loop-test.false, c.loop.auto.counter-end))
+    (subst IsOneLine (sym e.3.0 ∙ e.2) (All-nil _)) (inl (rose _ _ _ c.requires.counts.0 c.loop.invariant.reads e.3.1.0))
+    (not_rose _ _ c.loop.invariant.writes)
 
 pub returns-in-Err-answer_line-2-clause-seat : goal.returns-in-Err-answer_line-2-clause-seat
 returns-in-Err-answer_line-2-clause-seat g c = goes_on _ _ _ _ _ c.loop.invariant.seat c.in-Err-answer_line-2.ensures.seat
