@@ -32,9 +32,17 @@ abbrev pub nothing_asked : {N : Type 0} → OrderRoute N → ℕ → WorkerOrder
 nothing_asked route tries =
     record { names = route.names; end = record { queue = route.queue; items = []; tries = tries }; asked = []; received = [] }
 
--- a worker's orders, with what was asked for left empty: it isn't looked at
-abbrev pub unasked : {N : Type 0} → List (List ℕ) → EndValue N → List (AnswerEndValue N) → WorkerOrdersValue N
-unasked names end received = record { names = names; end = end; asked = []; received = received }
+-- what an order depends on and may change: a worker's orders without what was asked for
+pub record Dealings (N : Type 0) : Type 0 where
+  pub names : List (List ℕ)
+  pub end : EndValue N
+  pub received : List (AnswerEndValue N)
+
+abbrev pub dealings : {N : Type 0} → List (List ℕ) → EndValue N → List (AnswerEndValue N) → Dealings N
+dealings names end received = record { names = names; end = end; received = received }
+
+abbrev pub dealings_of : {N : Type 0} → WorkerOrdersValue N → Dealings N
+dealings_of orders = dealings orders.names orders.end orders.received
 
 -- the first feed of this name
 pub record IsFirst (names : List (List ℕ)) (name : List ℕ) (index : ℕ) : Type 0 where
@@ -59,21 +67,21 @@ abbrev pub awaited_order : {N : Type 0} → ℕ → AnswerChannelId → Order N
 awaited_order index channel = record { feed = index; answer_channel = Some channel }
 
 -- an order of the first feed of this name is put
-abbrev pub IsPut : {N : Type 0} → List ℕ → WorkerOrdersValue N → WorkerOrdersValue N → Type 0
+abbrev pub IsPut : {N : Type 0} → List ℕ → Dealings N → Dealings N → Type 0
 IsPut name before after = (index : ℕ) × IsFirst before.names name index × IsPutAt before.end (order_of index) after.end
 
 -- an order of the first feed of this name is put with an answer channel, and by the one receiving end of that channel this answer is received, or none
-abbrev pub Receives : {N : Type 0} → List ℕ → Option (LoadAnswer N) → WorkerOrdersValue N → WorkerOrdersValue N → Type 0
+abbrev pub Receives : {N : Type 0} → List ℕ → Option (LoadAnswer N) → Dealings N → Dealings N → Type 0
 Receives name answer before after =
     (index : ℕ) × (channel : AnswerChannelId) × IsFirst before.names name index
     × IsPutAt before.end (awaited_order index channel) after.end × (after.received ≡ before.received ++ received_at channel answer ∷ [])
 
 -- a feed of this name is there, and nothing was put, or tried to be
-abbrev pub IsNotPut : {N : Type 0} → List ℕ → WorkerOrdersValue N → WorkerOrdersValue N → Type 0
+abbrev pub IsNotPut : {N : Type 0} → List ℕ → Dealings N → Dealings N → Type 0
 IsNotPut name before after = ((index : ℕ) × IsFirst before.names name index) × (after.end ≡ before.end) × (after.received ≡ before.received)
 
 -- one try to put an order of the feed put nothing
-abbrev pub IsTriedInVain : {N : Type 0} → List ℕ → WorkerOrdersValue N → WorkerOrdersValue N → Type 0
+abbrev pub IsTriedInVain : {N : Type 0} → List ℕ → Dealings N → Dealings N → Type 0
 IsTriedInVain name before after = ((index : ℕ) × IsFirst before.names name index) × (after.end ≡ once_tried before.end) × (after.received ≡ before.received)
 
 -- the order is added to those that were asked for; the names and the queue stay the same
@@ -98,14 +106,14 @@ module _ {N : Type 0} (holds : List (Message (Order N)) → List (EndView (Order
   IsNotAwaited end fault end_then = IsTurnedAway end fault × (end_then ≡ once_tried end)
 
   -- why an order of a feed of this name is refused, and what that did
-  abbrev pub RefusesOrder : List ℕ → OrderFault → WorkerOrdersValue N → WorkerOrdersValue N → Type 0
+  abbrev pub RefusesOrder : List ℕ → OrderFault → Dealings N → Dealings N → Type 0
   RefusesOrder name OrderFault.UnknownFeed before after = IsNoName before.names name × (after.end ≡ before.end) × (after.received ≡ before.received)
   RefusesOrder name OrderFault.OrdersFull before after = IsTriedInVain name before after × IsTurnedAway before.end OrderFault.OrdersFull
   RefusesOrder name OrderFault.LoaderGone before after = IsTriedInVain name before after
   RefusesOrder name _ before after = ⊥
 
   -- why no version came of an order that was waited for
-  abbrev pub RefusesVersion : List ℕ → OrderFault → WorkerOrdersValue N → WorkerOrdersValue N → Type 0
+  abbrev pub RefusesVersion : List ℕ → OrderFault → Dealings N → Dealings N → Type 0
   RefusesVersion name OrderFault.UnknownFeed before after = IsNoName before.names name × (after.end ≡ before.end) × (after.received ≡ before.received)
   RefusesVersion name OrderFault.OrdersFull before after = IsTriedInVain name before after × IsTurnedAway before.end OrderFault.OrdersFull
   RefusesVersion name (OrderFault.LoadRefused refusal) before after = Receives name (Some (LoadAnswer.Refused refusal)) before after
@@ -116,7 +124,7 @@ module _ {N : Type 0} (holds : List (Message (Order N)) → List (EndView (Order
   module _ (noted : N → ℕ) where
     -- what an order of this feed did, by what it was answered: it was put, or refused; or it was waited for, and the version that came is that
     -- of the notice that was received, by the order's own answer channel
-    abbrev pub Does : List ℕ → OrderOutcome → WorkerOrdersValue N → WorkerOrdersValue N → Type 0
+    abbrev pub Does : List ℕ → OrderOutcome → Dealings N → Dealings N → Type 0
     Does feed (OrderOutcome.Put (Ok u)) before after = IsPut feed before after × (after.received ≡ before.received)
     Does feed (OrderOutcome.Put (Err fault)) before after = RefusesOrder feed fault before after
     Does feed (OrderOutcome.Waited (Ok version)) before after =
@@ -126,7 +134,8 @@ module _ {N : Type 0} (holds : List (Message (Order N)) → List (EndView (Order
     -- each of these orders was asked for, one after the other
     abbrev pub AreAsked : List OrderValue → WorkerOrdersValue N → WorkerOrdersValue N → Type 0
     AreAsked [] before after = after ≡ before
-    AreAsked (order ∷ orders) before after = (between : WorkerOrdersValue N) × Does order.feed order.outcome before between
+    AreAsked (order ∷ orders) before after = (between : WorkerOrdersValue N)
+        × Does order.feed order.outcome (dealings_of before) (dealings_of between)
         × IsNoted order before between × AreAsked orders between after
 
     -- each order that was asked for here did this, from the first on: so all that was put at the queue and received of it comes from these orders

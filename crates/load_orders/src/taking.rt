@@ -1,12 +1,12 @@
 //! Orders of feeds by their names, which a worker puts in the queue.
 
-ghost use Rattle.std.specs.Prelude.{◌≡◌, ◌++◌, ◌∷◌, [], map, string_bytes, Some, IfOk, IfErr, OnOk};
+ghost use Rattle.std.specs.Prelude.{◌≡◌, ◌++◌, ◌∷◌, [], map, string_bytes, List, Some, IfOk, IfErr, OnOk};
 ghost use Rattle.orders.specs.Ordering.{IsNotTaken, order_value, version_alone, waited_value};
 ghost use Rattle.load_orders.specs.Asking.{Receives, IsNotAwaited, IsPut, RefusesOrder, RefusesVersion};
 ghost use Rattle.handoff.specs.Ends.{IsPutAt, once_tried};
 ghost use Rattle.load_orders.specs.Asking.{HasAsked, IsTurnedAway, OrderRoute, awaited_order, fault_of_answer};
-ghost use Rattle.load_orders.specs.Asking.{route_of, unasked};
-ghost use Rattle.load_orders.specs.AnswerChannels.{AnswerChannelId, received_at};
+ghost use Rattle.load_orders.specs.Asking.{dealings, dealings_of, route_of};
+ghost use Rattle.load_orders.specs.AnswerChannels.{AnswerChannelId, AnswerEndValue, received_at};
 ghost use Rattle.load_orders.specs.declared.answer_channels.LoadAnswer.{LoadAnswer};
 
 use crate::answer_channels::{LoadAnswer, UsedAnswerEnd, answer_channel};
@@ -146,6 +146,36 @@ fn put<R: Wait, N: Drop, P: OrderRule<N>>(
     }
 }
 
+// Puts an order of the first feed of that name, where there is room.
+fn put_named<R: Wait, N: Drop, P: OrderRule<N>>(
+    rt: &R,
+    names: &[String],
+    feed: &str,
+    end: &mut PutEnd<Order<N>, P>,
+) -> Result<(), OrderFault>
+    ensures queue { end.new.queue ≡ end.old.queue }
+    ensures plain { IfErr result IsNotTaken }
+    ensures put { (received : List (AnswerEndValue N)) → OnOk result (IsPut feed.now
+        (dealings (map string_bytes names.now) end.old received)
+        (dealings (map string_bytes names.now) end.new received)) }
+    ensures refused { (received : List (AnswerEndValue N)) → IfErr result (λ fault.
+        RefusesOrder P.Protocol.holds feed.now fault
+        (dealings (map string_bytes names.now) end.old received)
+        (dealings (map string_bytes names.now) end.new received)) }
+{
+    match index_of(names, feed) {
+        Some(index) => put(
+            rt,
+            end,
+            Order {
+                feed: index,
+                answer_channel: None,
+            },
+        ),
+        None => Err(OrderFault::UnknownFeed),
+    }
+}
+
 // Puts an order of the first feed of that name, and waits for what comes of it.
 fn wait_for<R: Wait, N: Drop, T: Versions<Notice = N>, P: OrderRule<N>>(
     rt: &R,
@@ -158,11 +188,11 @@ fn wait_for<R: Wait, N: Drop, T: Versions<Notice = N>, P: OrderRule<N>>(
     ensures queue { end.new.queue ≡ end.old.queue }
     ensures notice { IfOk result (λ r. T.words.version r.1 ≡ r.0) }
     ensures received { IfOk result (λ r. Receives feed.now (Some (LoadAnswer.Published r.1))
-        (unasked (map string_bytes names.now) end.old received.old)
-        (unasked (map string_bytes names.now) end.new received.new)) }
+        (dealings (map string_bytes names.now) end.old received.old)
+        (dealings (map string_bytes names.now) end.new received.new)) }
     ensures refused { IfErr result (λ fault. RefusesVersion P.Protocol.holds feed.now fault
-        (unasked (map string_bytes names.now) end.old received.old)
-        (unasked (map string_bytes names.now) end.new received.new)) }
+        (dealings (map string_bytes names.now) end.old received.old)
+        (dealings (map string_bytes names.now) end.new received.new)) }
 {
     let Some(index) = index_of(names, feed) else {
         return Err(OrderFault::UnknownFeed);
@@ -239,20 +269,11 @@ impl<'a, R: Wait, N: Drop, T: Versions<Notice = N>, P: OrderRule<N>> Orders
         ensures plain { IfErr result IsNotTaken }
         ensures route { route_of self.new ≡ route_of self.old }
         ensures received { self.new.received ≡ self.old.received }
-        ensures put { OnOk result (IsPut feed.now self.old self.new) }
-        ensures refused { IfErr result (λ fault. RefusesOrder P.Protocol.holds feed.now fault self.old self.new) }
+        ensures put { OnOk result (IsPut feed.now (dealings_of self.old) (dealings_of self.new)) }
+        ensures refused { IfErr result (λ fault. RefusesOrder P.Protocol.holds feed.now fault
+            (dealings_of self.old) (dealings_of self.new)) }
     {
-        let outcome = match index_of(self.names, feed) {
-            Some(index) => put(
-                self.rt,
-                &mut self.end,
-                Order {
-                    feed: index,
-                    answer_channel: None,
-                },
-            ),
-            None => Err(OrderFault::UnknownFeed),
-        };
+        let outcome = put_named(self.rt, self.names, feed, &mut self.end);
         self.asked.note(&OrderRecord::put(feed, outcome));
         outcome
     }
@@ -264,8 +285,10 @@ impl<'a, R: Wait, N: Drop, T: Versions<Notice = N>, P: OrderRule<N>> Orders
         ensures asked { self.new.asked ≡ self.old.asked ++ waited_value feed.now (version_alone result) ∷ [] }
         ensures notice { IfOk result (λ r. T.words.version r.1 ≡ r.0) }
         ensures route { route_of self.new ≡ route_of self.old }
-        ensures received { IfOk result (λ r. Receives feed.now (Some (LoadAnswer.Published r.1)) self.old self.new) }
-        ensures refused { IfErr result (λ fault. RefusesVersion P.Protocol.holds feed.now fault self.old self.new) }
+        ensures received { IfOk result (λ r. Receives feed.now (Some (LoadAnswer.Published r.1))
+            (dealings_of self.old) (dealings_of self.new)) }
+        ensures refused { IfErr result (λ fault. RefusesVersion P.Protocol.holds feed.now fault
+            (dealings_of self.old) (dealings_of self.new)) }
     {
         let outcome = wait_for::<R, N, T, P>(
             self.rt,

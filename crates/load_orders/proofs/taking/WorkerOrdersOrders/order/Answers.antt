@@ -1,35 +1,36 @@
-use Rattle.std.proofs.Common.{◌++◌, ◌∷◌, ◌∙◌, [], Err, ap, map, refl, subst, sym, string_bytes}
+use Rattle.std.proofs.Common.{◌++◌, ◌∷◌, ◌∙◌, [], IfErr, OnOk, ap, map, refl, string_bytes, subst}
 use Rattle.orders.specs.Ordering.{OrderValue, order_value}
-use Rattle.orders.specs.declared.fault.OrderFault.{OrderFault}
-use Rattle.load_orders.specs.Asking.{HasAsked}
+use Rattle.load_orders.specs.Asking.{IsPut, OrderRoute, RefusesOrder, WorkerOrdersValue, dealings, dealings_of}
 use Rattle.load_orders.proofs.AskLemmas.{asked_more, does_put}
-use Rattle.load_orders.proofs.taking.WorkerOrdersOrders.order.Goals.{in-Some, in-None}
 use Rattle.load_orders.proofs.taking.WorkerOrdersOrders.order.Goals as goal
 
--- an order of a feed that there is was put, or there was no room; of any other name nothing was
+-- what was asked for did so
 pub invariant_of-self : goal.invariant_of-self
 invariant_of-self g c =
     let here = c.self.inside in
+    let put = c.put_named-outcome in
     let names = map string_bytes here.names.now in
     let feed = c.args.feed.now in
-    elim c.match-index_of.branch [
-      | in-Some w ↦
-          let put = w.put-outcome in
-          let does = does_put g.P.Protocol.holds g.T.Versions.words.version feed w.in-Some.index put.result names here.end put.new.end here.received
-          w.in-Some.ensures put.ensures.put put.ensures.refused in
-          let grows = c.note.ensures ∙ ap (λ m. m.asked ++ c.put.result ∷ []) w.self-inside-is
-          ∙ ap (λ (order : OrderValue). here.asked ++ order ∷ []) (c.put.ensures ∙ ap (order_value feed) w.outcome-is) in
-          let asked = asked_more g.P.Protocol.holds g.T.Versions.words.version (order_value feed put.result) names here.end put.new.end
-          here.asked c.note.new.self here.received here.received c.self.invariant does put.ensures.queue grows in
-          subst (λ m. HasAsked g.P.Protocol.holds g.T.Versions.words.version
-          (record { names = map string_bytes m.names.now; end = m.end; asked = c.note.new.self; received = m.received }))
-          (sym w.self-inside-is) asked
-      | in-None w ↦
-          let grows = c.note.ensures ∙ ap (λ m. m.asked ++ c.put.result ∷ []) w.self-inside-is
-          ∙ ap (λ (order : OrderValue). here.asked ++ order ∷ []) (c.put.ensures ∙ ap (order_value feed) w.outcome-is) in
-          let asked = asked_more g.P.Protocol.holds g.T.Versions.words.version (order_value feed (Err OrderFault.UnknownFeed)) names here.end here.end
-          here.asked c.note.new.self here.received here.received c.self.invariant (w.in-None.ensures, refl, refl) refl grows in
-          subst (λ m. HasAsked g.P.Protocol.holds g.T.Versions.words.version
-          (record { names = map string_bytes m.names.now; end = m.end; asked = c.note.new.self; received = m.received }))
-          (sym w.self-inside-is) asked
-    ]
+    let before : WorkerOrdersValue _ = record { names = names; end = here.end; asked = here.asked; received = here.received } in
+    let after : WorkerOrdersValue _ = record { names = names; end = put.new.end; asked = c.note.new.self; received = here.received } in
+    let does = does_put g.P.Protocol.holds g.T.Versions.words.version feed put.result (dealings_of before) (dealings_of after) refl
+    (put.ensures.put here.received) (put.ensures.refused here.received) in
+    let grows = c.note.ensures ∙ ap (λ (order : OrderValue). here.asked ++ order ∷ []) c.put.ensures in
+    let route : _ → OrderRoute _ = λ q. record { names = names; queue = q } in
+    asked_more g.P.Protocol.holds g.T.Versions.words.version (order_value feed put.result) before after c.self.invariant does
+    (ap route put.ensures.queue, grows)
+
+-- what was put, or why nothing was, by the orders as they are then
+pub returns-clause-put : goal.returns-clause-put
+returns-clause-put g c =
+    let put = c.put_named-outcome in
+    let after = dealings (map string_bytes c.self.inside.names.now) put.new.end c.self.inside.received in
+    subst (λ (before : WorkerOrdersValue _). OnOk put.result (IsPut c.args.feed.now (dealings_of before) after)) c.self.view_is
+    (put.ensures.put c.self.inside.received)
+
+pub returns-clause-refused : goal.returns-clause-refused
+returns-clause-refused g c =
+    let put = c.put_named-outcome in
+    let after = dealings (map string_bytes c.self.inside.names.now) put.new.end c.self.inside.received in
+    subst (λ (before : WorkerOrdersValue _). IfErr put.result (λ fault. RefusesOrder g.P.Protocol.holds c.args.feed.now fault (dealings_of before) after))
+    c.self.view_is (put.ensures.refused c.self.inside.received)
