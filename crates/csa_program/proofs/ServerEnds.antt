@@ -1,5 +1,6 @@
 -- How a server ends.
-use Rattle.std.proofs.Common.{◌≡◌, ◌≢◌, ◌∙◌, ◌⊎◌, ◌||◌, ℕ, List, Bool, Option, arith, false, if◌then◌else◌, inl, inr, nat_lt, refl, subst, sym, take, true}
+use Rattle.std.proofs.Common.{◌≡◌, ◌≢◌, ◌<◌, ◌∙◌, ◌⊎◌, ◌||◌, ℕ, ℤ, List, Bool, Option}
+use Rattle.std.proofs.Common.{arith, false, if◌then◌else◌, inl, inr, nat_lt, refl, subst, sym, take, true}
 use Rattle.std.specs.Io.KnownBytes.{Appends}
 use Rattle.std.proofs.KnownBytes.{Appends-trans}
 use Rattle.command_endings.proofs.Outcomes.{outcome_of}
@@ -8,12 +9,12 @@ use Rattle.command_requests.specs.Ending.{status_of}
 use Rattle.command_requests.specs.declared.ends.SessionCounts.{SessionCounts}
 use Rattle.command_requests.specs.declared.requests.ServeRequest.{ServeRequest}
 use Rattle.command_requests.specs.declared.statuses.TheConstants.{ACCEPTED, INPUT_OUTPUT, OUT_OF_MEMORY, REFUSED}
-use Rattle.csa_program.specs.Running.{IsServeEnd, IsServeRefusal}
+use Rattle.csa_program.specs.Running.{IsPlanned, IsServeEnd, IsServeRefusal}
 use Rattle.csa_program.specs.Serving.{IsEndAt, IsNoServerEnd, IsServerEnd, port_text, served_text}
 use Rattle.feed_commands.specs.Refusing.{RefusesFeed, feed_line, refusal_status}
 use Rattle.feed_loader.specs.Refused.{IsWantOfMemory}
 use Rattle.feed_loader.specs.declared.fault.LoadFault.{LoadFault}
-use Rattle.feed_plans.specs.Zoning.{AreZoneBytes, IsNoZoneOf}
+use Rattle.feed_plans.specs.Zoning.{IsNoZoneOf}
 use Rattle.image_commands.specs.Opening.{IsRefusedImage, SpellsImage}
 use Rattle.image_files.specs.Held.{HoldsOfBytes}
 use Rattle.image_layout.specs.Image.{ImageValue}
@@ -25,13 +26,6 @@ pub port_printed : (port status : ℕ) (before after : Option (List ℕ))
 port_printed port status before after (inl (is, printed)) e = printed
 port_printed port status before after (inr (inl (failed, begun))) e = absurd (omega (arith, failed, e))
 port_printed port status before after (inr (inr (none, either))) e = absurd (omega (arith, none, e))
-
--- or it wasn't
-pub none_told : (port status : ℕ) (before after : Option (List ℕ))
-    → ((status ≡ ACCEPTED) × Appends before after (port_text port)) ⊎ IsNoServerEnd port before after status
-    → status ≢ ACCEPTED → IsNoServerEnd port before after status
-none_told port status before after (inl (is, printed)) other = absurd (other is)
-none_told port status before after (inr none) other = none
 
 has_failed : (a b : Bool) (status : ℕ) → status ≡ (if a then 3 else (if b then 2 else 0)) → (status ≡ INPUT_OUTPUT) ⊎ (status ≢ INPUT_OUTPUT)
 has_failed true b status is = inl is
@@ -67,13 +61,13 @@ port_told port status line before after same (inl e) whole part =
     inl (e, subst (Appends before after) same (whole (λ failed. omega (arith, e, failed))))
 port_told port status line before after same (inr e) whole part = inr (inl (e, subst (IsBegun before after) same part))
 
-module _ (may_hold : List ℕ → Option (List ℕ) → Type 0) (input : Option (List ℕ)) (request : ServeRequest) (status : ℕ)
-    (before after : Option (List ℕ)) where
+module _ (may_hold : List ℕ → Option (List ℕ) → Type 0) (may_show : Option ℤ → Type 0) (input : Option (List ℕ))
+    (request : ServeRequest) (status : ℕ) (before after : Option (List ℕ)) where
   -- its zone is refused
   pub zone_refused : (fault : LoadFault) → IsNoZoneOf may_hold request.plan fault → EndsUndone status → (IsWantOfMemory fault → status ≡ OUT_OF_MEMORY)
       → (status ≡ REFUSED → RefusesFeed fault) → (status ≡ REFUSED → Appends before after (feed_line fault))
       → (status ≡ OUT_OF_MEMORY → after ≡ before) → (status ≡ INPUT_OUTPUT → IsBegun before after (feed_line fault))
-      → IsServeEnd may_hold input request status before after
+      → IsServeEnd may_hold may_show input request status before after
   zone_refused fault is (inl e) memory refuses whole silent begun =
       let judged = refuses e in
       inl (inl (feed_line fault, inl (fault, judged.0, e ∙ sym judged.1, is, refl), whole e))
@@ -82,28 +76,32 @@ module _ (may_hold : List ℕ → Option (List ℕ) → Type 0) (input : Option 
       inl (inr (inl (e, refusal_status fault, feed_line fault, inl (fault, other, refl, is, refl), begun e)))
   zone_refused fault is (inr (inr e)) memory refuses whole silent begun = inl (inr (inr (inr e, silent e)))
 
-  -- its image is
-  pub image_refused : IsOutcome (PrintsRefusal (IsRefusedImage may_hold request.image.now input)) status before after
-      → IsServeEnd may_hold input request status before after
-  image_refused ended =
-      inl (outcome_of (PrintsRefusal (IsRefusedImage may_hold request.image.now input)) (IsServeRefusal may_hold input request) status before after
-      (λ s line is. inr is) ended)
+  -- its plan was made, and its image is refused
+  pub image_refused : (zone_bytes : List ℕ) → IsPlanned may_hold may_show input request zone_bytes
+      → IsOutcome (PrintsRefusal (IsRefusedImage may_hold request.image.now input)) status before after
+      → IsServeEnd may_hold may_show input request status before after
+  image_refused zone_bytes planned ended =
+      inl (outcome_of (PrintsRefusal (IsRefusedImage may_hold request.image.now input)) (IsServeRefusal may_hold may_show input request)
+      status before after (λ s line is. inr (zone_bytes, planned, is)) ended)
 
   -- it can't be begun
-  pub unbegun : (status ≡ INPUT_OUTPUT) ⊎ (status ≡ OUT_OF_MEMORY) → after ≡ before → IsServeEnd may_hold input request status before after
+  pub unbegun : (status ≡ INPUT_OUTPUT) ⊎ (status ≡ OUT_OF_MEMORY) → after ≡ before
+      → IsServeEnd may_hold may_show input request status before after
   unbegun why same = inl (inr (inr (why, same)))
 
   -- nothing was printed until it listened
   pub listened : (image : ImageValue) (zone_bytes : List ℕ) (port : ℕ) (opened : Option (List ℕ))
-      → HoldsOfBytes may_hold request.image.now input (SpellsImage image) → AreZoneBytes may_hold request.plan.zone zone_bytes
-      → (request.port ≢ 0 → port ≡ request.port) → opened ≡ before → IsEndAt port opened after status
-      → IsServeEnd may_hold input request status before after
-  listened image zone_bytes port opened held zone at kept ended = inr (record {
+      → IsPlanned may_hold may_show input request zone_bytes → HoldsOfBytes may_hold request.image.now input (SpellsImage image)
+      → (request.port ≢ 0 → port ≡ request.port) → port < 65_536 → opened ≡ before
+      → IsEndAt port opened after status
+      → IsServeEnd may_hold may_show input request status before after
+  listened image zone_bytes port opened planned held at small kept ended = inr (record {
     image = image;
     zone_bytes = zone_bytes;
     port = port;
+    planned = planned;
     held = held;
-    zone = zone;
     at = at;
+    small = small;
     ended = subst (λ (was : Option (List ℕ)). IsEndAt port was after status) kept ended;
   })

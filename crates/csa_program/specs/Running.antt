@@ -1,5 +1,5 @@
 -- What `csa` prints and writes, and with which status it ends.
-use Rattle.std.specs.Prelude.{◌≡◌, ◌≢◌, ◌⊎◌, ℕ, List, Option, Result, Ok, Err, codes, string_bytes}
+use Rattle.std.specs.Prelude.{◌≡◌, ◌≢◌, ◌⊎◌, ◌<◌, ℕ, ℤ, List, Option, Result, Ok, Err, codes, string_bytes}
 use Rattle.std.specs.Io.KnownBytes.{Appends}
 use Rattle.feed_files.specs.Files.{Gives}
 use Rattle.image_files.specs.Held.{HoldsOfBytes}
@@ -19,6 +19,8 @@ use Rattle.feed_commands.specs.Folders.{AreDaysOf, IsBuildRefusal, IsTablesRefus
 use Rattle.image_commands.specs.Matrices.{EndsTable, IsTableCutShort, IsTablePrinted, IsTableRefused, IsTableSpent, IsTableUnlisted}
 use Rattle.image_commands.specs.Opening.{IsRefusedImage, PrintsOver, SpellsImage}
 use Rattle.feed_commands.specs.Refusing.{IsFeedRefusal, PrintsOfFeed}
+use Rattle.feed_loader.specs.declared.plan.Plan.{Plan}
+use Rattle.feed_plans.specs.Planning.{IsPlanBy}
 use Rattle.feed_plans.specs.Zoning.{AreZoneBytes, IsNoZoneOf}
 use Rattle.feed_commands.specs.Stations.{IsStopsRefusal, IsTextOf}
 use Rattle.feed_commands.specs.Tabling.{IsCounts}
@@ -54,21 +56,26 @@ pub record IsTableEnd (may_hold : List ℕ → Option (List ℕ) → Type 0) (di
       ⊎ ((image : ImageValue) × HoldsOfBytes may_hold request.image.now input (SpellsImage image)
       × IsTableSpent may_hold image request before after)
 
--- `may_hold` says what a file at a path may hold, and the path `-` is the input
-module _ (may_hold : List ℕ → Option (List ℕ) → Type 0) (input : Option (List ℕ)) (request : ServeRequest) where
-  -- what is refused before a server listens: its zone, or its image
+-- `may_hold` says what a file at a path may hold, and the path `-` is the input; `may_show` what the clock may show
+module _ (may_hold : List ℕ → Option (List ℕ) → Type 0) (may_show : Option ℤ → Type 0) (input : Option (List ℕ)) (request : ServeRequest) where
+  -- the bytes are those of the zone's file, and a plan was made of them as it is asked for
+  abbrev pub IsPlanned : List ℕ → Type 0
+  IsPlanned zone_bytes = AreZoneBytes may_hold request.plan.zone zone_bytes × ((plan : Plan) × IsPlanBy may_show request.plan zone_bytes plan)
+
+  -- what is refused before a server listens: its zone, or, once a plan was made, its image
   abbrev pub IsServeRefusal : ℕ → List ℕ → Type 0
   IsServeRefusal status line = IsFeedRefusal (IsNoZoneOf may_hold request.plan) status line
-      ⊎ PrintsRefusal (IsRefusedImage may_hold request.image.now input) status line
+      ⊎ ((zone_bytes : List ℕ) × IsPlanned zone_bytes × PrintsRefusal (IsRefusedImage may_hold request.image.now input) status line)
 
-  -- a server ended so, at the port that is asked for, if one is; at its path was an image, and its zone's file had these bytes
+  -- a server ended so, at the port that is asked for, if one is; at its path was this image, and its plan was made of these bytes of its zone's file
   pub record IsServed (status : ℕ) (before after : Option (List ℕ)) : Type 0 where
     pub image : ImageValue
     pub zone_bytes : List ℕ
     pub port : ℕ
+    pub planned : IsPlanned zone_bytes
     pub held : HoldsOfBytes may_hold request.image.now input (SpellsImage image)
-    pub zone : AreZoneBytes may_hold request.plan.zone zone_bytes
     pub at : request.port ≢ 0 → port ≡ request.port
+    pub small : port < 65_536
     pub ended : IsEndAt port before after status
 
   -- a server was refused, or can't be begun, or ended so
@@ -76,7 +83,8 @@ module _ (may_hold : List ℕ → Option (List ℕ) → Type 0) (input : Option 
   IsServeEnd status before after = IsOutcome IsServeRefusal status before after ⊎ IsServed status before after
 
 -- `gives` says what a disk of some kind may give for a folder in some state and the name of a file, and `disk` what is known of files that are written
-module _ {D : Type 0} (may_hold : List ℕ → Option (List ℕ) → Type 0) (gives : Gives D) (disk : OutFiles) (input : Option (List ℕ)) where
+module _ {D : Type 0} (may_hold : List ℕ → Option (List ℕ) → Type 0) (gives : Gives D) (disk : OutFiles) (may_show : Option ℤ → Type 0)
+    (input : Option (List ℕ)) where
   -- a command ended so, over the image at its path, or over the files of its folder
   abbrev pub IsEnd : CommandRequest → ℕ → Option (List ℕ) → Option (List ℕ) → Type 0
   IsEnd (requests.Verify image) = IsOutcome (PrintsOver may_hold image.now input (λ i. PrintsAsked may_hold disk i (images.Verify image)))
@@ -94,7 +102,7 @@ module _ {D : Type 0} (may_hold : List ℕ → Option (List ℕ) → Type 0) (gi
       IsOutcome (PrintsOfFeed (IsReport gives may_hold disk request) (IsBuildRefusal gives request.folder.now may_hold request.plan))
   IsEnd (requests.Stops request) = IsOutcome (PrintsOver may_hold request.image.now input (λ i. PrintsAsked may_hold disk i (images.Stops request)))
   IsEnd (requests.Upgrade request) = IsOutcome (PrintsOver may_hold request.image.now input (λ i. PrintsAsked may_hold disk i (images.Upgrade request)))
-  IsEnd (requests.Serve request) = IsServeEnd may_hold input request
+  IsEnd (requests.Serve request) = IsServeEnd may_hold may_show input request
 
   -- a command line ended so: the request that it makes, or the help; or it makes none, or memory ran out, and nothing was printed
   abbrev pub IsEndOf : Result CommandRequest NoCommand → ℕ → Option (List ℕ) → Option (List ℕ) → Type 0

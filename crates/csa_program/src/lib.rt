@@ -65,6 +65,7 @@ pub fn run<
     ensures { (asked : Result CommandRequest NoCommand)
         × H.Asks.may_ask rt.now (map S.text words.now) asked
         × IsEndOf (H.ImageDisk.may_hold rt.now) H.Disk.gives (H.OutDisk.files rt.now)
+        (H.WallClock.may_show rt.now)
         (I.remaining input.old) asked result (O.Write.contents output.old) (O.Write.contents output.new) }
 {
     let notes = TableNotes {
@@ -137,6 +138,7 @@ fn run_read<
     notes: TableNotes,
 ) -> u8
     ensures { IsEndOf (H.ImageDisk.may_hold rt.now) H.Disk.gives (H.OutDisk.files rt.now)
+        (H.WallClock.may_show rt.now)
         (I.remaining input.old) asked.entry result (O.contents output.old) (O.contents output.new) }
 {
     match asked {
@@ -166,6 +168,7 @@ fn run_request<
     notes: TableNotes,
 ) -> u8
     ensures { IsEnd (H.ImageDisk.may_hold rt.now) H.Disk.gives (H.OutDisk.files rt.now)
+        (H.WallClock.may_show rt.now)
         (I.remaining input.old) request.entry result (O.contents output.old) (O.contents output.new) }
 {
     let warnings = notes.warnings;

@@ -3,6 +3,7 @@
 use crate::asking::Asks;
 use crate::explaining::Explains;
 use feed_files::Disk;
+use feed_plans::WallClock;
 use image_files::OutDisk;
 use std::random::RandomSource;
 use std::rt::Files;
@@ -21,6 +22,7 @@ pub trait Machine: Files
     + Explains
     + AllocGlobal
     + Clock
+    + WallClock
     + Threads
     + Wait
     + Sync {}

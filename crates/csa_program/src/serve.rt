@@ -1,7 +1,8 @@
 //! `csa serve --image IMAGE --port P --workers W --sessions N [--legs] [--log] [--idle SECS] [--longest SECS] [--sets]
 //! --first DAY --days N --zone ZONE [NAME=FOLDER]..`.
 
-ghost use Rattle.std.specs.Prelude.{◌≡◌, ◌≢◌, ◌≤◌, ◌⊎◌, [], All, List, Option, length, map};
+ghost use denote.Param.Send.{IsSync};
+ghost use Rattle.std.specs.Prelude.{◌≡◌, ◌≢◌, ◌<◌, ◌≤◌, ◌⊎◌, [], All, List, Option, length, map};
 ghost use Rattle.std.specs.Prelude.{slice_get, Some, string_bytes, IfOk, IfSome, ℕ};
 ghost use Rattle.std.specs.Io.KnownBytes.{Appends};
 ghost use Rattle.command_requests.specs.declared.statuses.TheConstants.{ACCEPTED, INPUT_OUTPUT, OUT_OF_MEMORY};
@@ -16,7 +17,7 @@ ghost use Rattle.csa_program.specs.Running.{IsServeEnd};
 ghost use Rattle.std.specs.Option.{option_map};
 ghost use Rattle.csa_program.specs.Serving.{IsEndAt, IsNoServerEnd, IsServerEnd, MayHost, counts_of};
 ghost use Rattle.csa_program.specs.Serving.{points_with, port_text, served_text};
-ghost use Rattle.feed_plans.specs.Planning.{IsPlanNow};
+ghost use Rattle.feed_plans.specs.Planning.{IsPlanBy};
 
 use crate::bases::warn_of_bases;
 use crate::client_sessions::{ClientSession, SessionRules};
@@ -34,7 +35,7 @@ use feed_commands::{explain_load, refuse_feed, report_unread_zone};
 use feed_files::{Disk, FeedFiles, FolderFiles};
 use feed_loader::Plan;
 use feed_messages::reason_of;
-use feed_plans::{PlanFailure, instant, plan_at, zone_and_plan};
+use feed_plans::{PlanFailure, WallClock, plan_at, zone_and_plan};
 use image_commands::open_image;
 use image_files::ImageDisk;
 use image_verifier::Verified;
@@ -54,10 +55,9 @@ use workers::{
     ServingOutcome, WorkersFault, run_shelves,
 };
 
-/// The feeds that may be loaded: those that the command line names.
+/// What a server that is asked for is begun with, beside its image.
 #[derive(Drop)]
-struct Folders<'a, H> {
-    disk: &'a H,
+struct Setup<'a> {
     alloc: Global,
     request: &'a ServeRequest<'a>,
     names: Vec<String>,
@@ -67,32 +67,43 @@ struct Folders<'a, H> {
     first: Plan,
     ghost named: { length names.items ≡ length request.now.feeds.items },
     ghost texts: { map string_bytes names.items ≡ map (λ feed. feed.name.now) request.now.feeds.items },
-    ghost made: { IsPlanNow request.now.plan zone_bytes.items first },
 }
 
-impl<'a, H: Disk + Explains + Clock + Sync> Feeds for Folders<'a, H> {
+/// The feeds that may be loaded: those that the command line names.
+#[derive(Drop)]
+struct Folders<'a, H: WallClock> {
+    disk: &'a H,
+    setup: &'a Setup<'a>,
+    ghost made: { IsPlanBy (H.may_show disk.now) setup.now.request.now.plan setup.now.zone_bytes.items
+        setup.now.first },
+}
+
+impl<'a, H: Disk + Explains + Clock + WallClock + Sync> Feeds for Folders<'a, H> {
     type Files = FolderFiles<'a, H>;
 
     // The files are those of the folder that goes with the feed's name, of which nothing was read yet.
     ghost words = { record {
-      named = λ folders. folders.names.items;
+      named = λ folders. folders.setup.now.names.items;
       are_files = λ folders index files.
-          (slice_get (map (λ feed. feed.folder.now) folders.request.now.feeds.items) index ≡ Some files.folder.now)
+          (slice_get (map (λ feed. feed.folder.now) folders.setup.now.request.now.feeds.items) index
+          ≡ Some files.folder.now)
           × (files.reads ≡ []);
-      is_plan = λ folders plan. IsPlanNow folders.request.now.plan folders.zone_bytes.items plan;
+      is_plan = λ folders plan.
+          IsPlanBy (H.may_show folders.disk.now) folders.setup.now.request.now.plan
+          folders.setup.now.zone_bytes.items plan;
     } };
 
     fn names(&self) -> &[String] {
-        &self.names
+        &self.setup.names
     }
 
     // The zone was made of the same bytes before, so only memory can be missing.
     fn plan(&self, alloc: Global) -> Result<Plan, AllocError> {
         match plan_at(
             alloc,
-            &self.request.plan,
-            &self.zone_bytes,
-            instant(self.disk),
+            &self.setup.request.plan,
+            &self.setup.zone_bytes,
+            self.disk.instant(),
         ) {
             Ok(plan) => Ok(plan),
             Err(_) => Err(AllocError),
@@ -100,7 +111,7 @@ impl<'a, H: Disk + Explains + Clock + Sync> Feeds for Folders<'a, H> {
     }
 
     fn files(&self, index: usize) -> Option<FolderFiles<'a, H>> {
-        match self.request.feeds.get(index) {
+        match self.setup.request.feeds.get(index) {
             Some(feed) => Some(FolderFiles::new(self.disk, feed.folder)),
             None => None,
         }
@@ -119,13 +130,13 @@ impl<'a, H: Disk + Explains + Clock + Sync> Feeds for Folders<'a, H> {
         begun: Option<Instant>,
         outcome: Result<LoadedVersion, LoadRefusal>,
     ) {
-        let Some(feed) = self.request.feeds.get(index) else {
+        let Some(feed) = self.setup.request.feeds.get(index) else {
             return;
         };
-        if self.request.log {
+        if self.setup.request.log {
             log_load(
                 self.disk,
-                self.alloc,
+                self.setup.alloc,
                 feed.name,
                 StartInstant::at(begun),
                 outcome,
@@ -142,12 +153,13 @@ impl<'a, H: Disk + Explains + Clock + Sync> Feeds for Folders<'a, H> {
 // A machine that servers run on.
 trait Hosts {
     // Whether a server that was asked for may have had sessions that ended so.
-    ghost may_host: { MayHost };
+    ghost may_host: { Self → MayHost };
 }
 
-impl<'a, H: Disk + Explains + Clock + Threads + Wait + Sync + 'a> Hosts for H {
+impl<'a, H: Disk + Explains + Clock + WallClock + Threads + Wait + Sync + 'a> Hosts for H {
     // Its clients come over TCP, and its feeds are those that the request names.
-    ghost may_host = { IsHosted (λ form. sessions_of form ⟦<Visitor<'a, SharedErrors<'a, H>> as Client>⟧.words
+    ghost may_host = { λ machine. IsHosted (λ form. sessions_of form
+        ⟦<Visitor<'a, SharedErrors<'a, H>> as Client>⟧.words
         ⟦<Requests<TcpStream, ClientSession<'a, SharedErrors<'a, H>>> as Read>⟧.remaining
         ⟦<TcpStream as Write>⟧.contents shelf_seats)
         ⟦<Acceptor<'a, SharedErrors<'a, H>> as Clients<Visitor<'a, SharedErrors<'a, H>>>>⟧.words
@@ -155,8 +167,8 @@ impl<'a, H: Disk + Explains + Clock + Threads + Wait + Sync + 'a> Hosts for H {
         (outcomes_of ⟦<FolderFiles<'a, H> as FeedFiles>⟧.words shelf_loader shelf_seats.version))
         (λ request acceptor. (acceptor.rules.idle ≡ request.idle) × (acceptor.rules.log ≡ request.log))
         (λ acceptor. acceptor.failed)
-        (λ request zone_bytes folders.
-        (folders.request.now ≡ request) × (folders.zone_bytes.items ≡ zone_bytes)) };
+        (λ request zone_bytes folders. (folders.disk.now ≡ machine) × (folders.setup.now.request.now ≡ request)
+        × (folders.setup.now.zone_bytes.items ≡ zone_bytes)) };
 }
 
 /// Serves sessions until as many were served as are asked for, or prints the first thing that is wrong.
@@ -166,8 +178,8 @@ pub fn run<
     O: Write,
     E: Write + Send,
 >(rt: &H, request: ServeRequest<'_>, input: &mut I, output: &mut O, errors: &mut E) -> u8
-    ensures { IsServeEnd (H.ImageDisk.may_hold rt.now) (I.remaining input.old) request.entry
-        result (O.contents output.old) (O.contents output.new) }
+    ensures { IsServeEnd (H.ImageDisk.may_hold rt.now) (H.WallClock.may_show rt.now)
+        (I.remaining input.old) request.entry result (O.contents output.old) (O.contents output.new) }
 {
     let alloc = rt.alloc();
     let (zone_bytes, first) = match zone_and_plan(rt, &request.plan) {
@@ -186,8 +198,7 @@ pub fn run<
     let Ok(names) = names_of(alloc, &request.feeds) else {
         return status::OUT_OF_MEMORY;
     };
-    let folders = Folders {
-        disk: rt,
+    let setup = Setup {
         alloc,
         request: &request,
         names,
@@ -195,14 +206,14 @@ pub fn run<
         first,
     };
     if !request.feeds.is_empty() {
-        warn_of_bases(alloc, &image, &folders.first, errors);
+        warn_of_bases(alloc, &image, &setup.first, errors);
     }
     warn_of_folders(rt, &request.feeds, errors);
     let bound = match bound_at(rt, request.port) {
         Ok(bound) => bound,
         Err(error) => return none_received(alloc, errors, request.port, error.kind()),
     };
-    serve_at(rt, &bound, image, &folders, output, errors)
+    serve_at(rt, &bound, image, &setup, output, errors)
 }
 
 // The largest block whose return glibc's malloc takes note of, less the room that it needs itself.
@@ -216,17 +227,23 @@ fn keep_freed_memory(alloc: Global) {
 }
 
 // Prints the port, serves whoever comes to it, and prints how many sessions there were.
-fn serve_at<H: Disk + Explains + Clock + Threads + Wait + Sync, O: Write, E: Write + Send>(
+fn serve_at<
+    H: Disk + Explains + Clock + WallClock + Threads + Wait + Sync,
+    O: Write,
+    E: Write + Send,
+>(
     rt: &H,
     bound: &BoundListener,
     image: Verified,
-    folders: &Folders<'_, H>,
+    setup: &Setup<'_>,
     output: &mut O,
     errors: &mut E,
 ) -> u8
+    requires { IsPlanBy (H.WallClock.may_show rt.now) setup.now.request.now.plan setup.now.zone_bytes.items
+        setup.now.first }
     ensures { IsEndAt bound.now.port (O.contents output.old) (O.contents output.new) result }
 {
-    let alloc = folders.alloc;
+    let alloc = setup.alloc;
     keep_freed_memory(alloc);
     let Ok((queue, writer)) = LineQueue::new(alloc) else {
         return status::OUT_OF_MEMORY;
@@ -235,7 +252,7 @@ fn serve_at<H: Disk + Explains + Clock + Threads + Wait + Sync, O: Write, E: Wri
     if begun != status::ACCEPTED {
         return begun;
     }
-    match host_reported(rt, bound, image, folders, queue, writer, errors) {
+    match host_reported(rt, bound, image, setup, queue, writer, errors) {
         Some((ends, is_deaf)) => tell_served(alloc, ends, is_deaf, output),
         None => status::OUT_OF_MEMORY,
     }
@@ -243,37 +260,47 @@ fn serve_at<H: Disk + Explains + Clock + Threads + Wait + Sync, O: Write, E: Wri
 
 // Serves whoever comes to the port, while a thread of its own writes what the server's threads report. Returns how many
 // sessions ended in each way, and whether accepting failed; `None` if memory ran out.
-fn host_reported<H: Disk + Explains + Clock + Threads + Wait + Sync, E: Write + Send>(
+fn host_reported<H: Disk + Explains + Clock + WallClock + Threads + Wait + Sync, E: Write + Send>(
     rt: &H,
     bound: &BoundListener,
     image: Verified,
-    folders: &Folders<'_, H>,
+    setup: &Setup<'_>,
     queue: LineQueue,
     writer: LineWriter,
     errors: &mut E,
-) -> Option<(SessionCounts, bool)> {
+) -> Option<(SessionCounts, bool)>
+    requires { IsPlanBy (H.WallClock.may_show rt.now) setup.now.request.now.plan setup.now.zone_bytes.items
+        setup.now.first }
+{
     let queue = &queue;
     let ((), end) = thread::join(
         rt,
         move || writer.write_all(rt, queue, errors),
-        move || host_until_closed(rt, bound, image, folders, queue),
+        move || -> Option<(SessionCounts, bool)>
+            requires shared { IsSync H.row }
+            requires planned { IsPlanBy (H.WallClock.may_show rt.now) setup.now.request.now.plan
+                setup.now.zone_bytes.items setup.now.first }
+        { host_until_closed(rt, bound, image, setup, queue) },
     );
     end
 }
 
 // Serves whoever comes to the port, and then closes the queue into which the server's threads report.
-fn host_until_closed<H: Disk + Explains + Clock + Threads + Wait + Sync>(
+fn host_until_closed<H: Disk + Explains + Clock + WallClock + Threads + Wait + Sync>(
     rt: &H,
     bound: &BoundListener,
     image: Verified,
-    folders: &Folders<'_, H>,
+    setup: &Setup<'_>,
     queue: &LineQueue,
 ) -> Option<(SessionCounts, bool)>
-    ensures { IfSome result (λ end. ⟦<H as Hosts>⟧.may_host folders.now.request.now image
-        folders.now.zone_bytes.items end.0 end.1) }
+    requires { IsPlanBy (H.WallClock.may_show rt.now) setup.now.request.now.plan setup.now.zone_bytes.items
+        setup.now.first }
+    ensures { IfSome result (λ end. ⟦<H as Hosts>⟧.may_host rt.now setup.now.request.now image
+        setup.now.zone_bytes.items end.0 end.1) }
 {
-    let shared = SharedErrors::of(rt, folders.alloc, queue);
-    let end = host(bound, image, folders, &shared);
+    let folders = Folders { disk: rt, setup };
+    let shared = SharedErrors::of(rt, setup.alloc, queue);
+    let end = host(bound, image, &folders, &shared);
     queue.close(rt);
     end
 }
@@ -297,17 +324,17 @@ fn name_of(alloc: Global, feed: &NamedFolder<'_>) -> Result<String, AllocError>
 
 // Serves whoever comes to the port. Returns how many sessions ended in each way, and whether accepting failed; `None`
 // if memory ran out. Whatever the server's threads report goes into one queue.
-fn host<'d, 'f, 'e, H: Disk + Explains + Clock + Threads + Wait + Sync>(
+fn host<'d, 'f, 'e, H: Disk + Explains + Clock + WallClock + Threads + Wait + Sync>(
     bound: &'d BoundListener,
     image: Verified,
     folders: &Folders<'f, H>,
     errors: &'d SharedErrors<'e, H>,
 ) -> Option<(SessionCounts, bool)>
-    ensures { IfSome result (λ end. ⟦<H as Hosts>⟧.may_host folders.now.request.now image
-        folders.now.zone_bytes.items end.0 end.1) }
+    ensures { IfSome result (λ end. ⟦<H as Hosts>⟧.may_host folders.now.disk.now folders.now.setup.now.request.now
+        image folders.now.setup.now.zone_bytes.items end.0 end.1) }
 {
-    let request = folders.request;
-    let Ok(made) = shelves_of(folders.alloc, image, request.workers.number) else {
+    let request = folders.setup.request;
+    let Ok(made) = shelves_of(folders.setup.alloc, image, request.workers.number) else {
         return None;
     };
     let rules = SessionRules {
@@ -335,7 +362,7 @@ fn serve_accepted<
     'd,
     'f,
     B: ShelvesName + Send + Sync,
-    H: Disk + Explains + Clock + Threads + Wait + Sync,
+    H: Disk + Explains + Clock + WallClock + Threads + Wait + Sync,
     L: Host + Sync,
     E: Write + Send + Drop,
 >(
@@ -354,14 +381,14 @@ fn serve_accepted<
     ensures many { (wanted : ℕ) → AreCountedOff wanted acceptor.entry.left acceptor.entry.accepted
         acceptor.entry.is_endless acceptor.entry.failed []
         → IfOk result (λ hosted. AreAsMany wanted (length hosted.served) hosted.acceptor.failed) }
-    ensures run { IfOk result (λ hosted. IsRunOf (IsRunAt (sessions_of (form_asked folders.now.request.now)
+    ensures run { IfOk result (λ hosted. IsRunOf (IsRunAt (sessions_of (form_asked folders.now.setup.now.request.now)
         ⟦<Visitor<'d, L> as Client>⟧.words ⟦<Requests<TcpStream, ClientSession<'d, L>> as Read>⟧.remaining
         ⟦<TcpStream as Write>⟧.contents shelf_seats) ⟦<Acceptor<'d, L> as Clients<Visitor<'d, L>>>⟧.words
         (loads_of ⟦<Folders<'f, H> as Feeds>⟧.words
         (outcomes_of ⟦<FolderFiles<'f, H> as FeedFiles>⟧.words shelf_loader shelf_seats.version))
         (server_input_of acceptor.entry made.0 made.2.items made.1 folders.now)) hosted.served hosted.acceptor) }
 {
-    let form = form_of(folders.request);
+    let form = form_of(folders.setup.request);
     let run_result = serve_all::<B, _, _, _, _>(acceptor, made, folders, form, errors)?;
     Ok(HostingOutcome {
         served: run_result.served,
@@ -384,7 +411,7 @@ fn serve_all<
     B: ShelvesName + Send + Sync,
     C: Client + Drop + Send,
     K: Clients<C> + Drop,
-    H: Disk + Explains + Clock + Threads + Wait + Sync,
+    H: Disk + Explains + Clock + WallClock + Threads + Wait + Sync,
     E: Write + Send + Drop,
 >(
     clients: K,
@@ -418,7 +445,7 @@ fn serve_all<
     let (shelves, loader, seats) = made;
     run_shelves::<B, _, _, _, _, _, _>(
         folders.disk,
-        folders.alloc,
+        folders.setup.alloc,
         clients,
         shelves,
         seats,
@@ -442,7 +469,8 @@ fn bound_at<H: Net<Listener = TcpListener, Stream = TcpStream>>(
     rt: &H,
     port: u16,
 ) -> io::Result<BoundListener>
-    ensures { port ≢ 0 → IfOk result (λ bound. bound.port ≡ port) }
+    ensures at { port ≢ 0 → IfOk result (λ bound. bound.port ≡ port) }
+    ensures small { IfOk result (λ bound. bound.port < 65_536) }
 {
     let listener = TcpListener::bind(rt, (Ipv4Addr::LOCALHOST, port))?;
     let port = if port == 0 {
