@@ -2,4 +2,4 @@
 
 /// The sum of all sources but this file, as `release/sources --program` prints it. `release/stamp` writes it, and
 /// `.ci/run` compares it with the sources.
-pub const SOURCES: &str = "a7c5b5fa86845129591e954a371f5041bad50e9fa9db9680ff55b452cbbe9206";
+pub const SOURCES: &str = "5743b29a5f0de6682b493cf31f8fad463e006fce670527230cb1ef55f2cf2efa";
