@@ -1,3 +1,5 @@
 pub mod Ending
+pub mod Carried
 pub mod Shared
 pub mod ExactSessions
+mod Learning

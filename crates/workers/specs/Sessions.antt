@@ -1,5 +1,6 @@
 -- What clients' sessions do.
 use Rattle.std.specs.Prelude.{◌≡◌, ◌++◌, ◌∷◌, ℕ, Some, None, List, [], All, Result, Ok, Err, IsPermutation, MatchOption, flat_map, map}
+use Rattle.client_queue.specs.declared.queue.DealerView.{DealerView}
 use Rattle.epochs.specs.Seats.{SeatValue}
 use Rattle.handoff.specs.Ends.{QueueId, TakerValue}
 use Rattle.lines.specs.Counting.{StopsAtFailure, inner_of}
@@ -188,3 +189,10 @@ module _ {C R W T S N : Type 0} (words : SessionWords C R W T S N) where
     pub clients : List C
     pub came : after ≡ before ++ clients
     pub all : AreAllServed clients starts work
+
+-- so many workers are out, none is back, and the queue was closed for each
+pub record IsReadyToJoin {C : Type 0} (dealer : DealerView C) (workers : ℕ) : Type 0 where
+  pub out : dealer.out ≡ workers
+  pub closings : dealer.closings ≡ workers
+  pub nothing_back : dealer.taken ≡ []
+  pub none_ended : dealer.ended ≡ 0
