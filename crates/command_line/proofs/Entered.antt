@@ -1,13 +1,13 @@
--- The command that a parse entered; the program without stop_ids that begin with a hyphen is simple.
-use Rattle.std.proofs.Common.{◌≡◌, ◌≢◌, ◌<◌, ◌∙◌, ◌∷◌, ◌⊎◌, ℕ, Bool, List, [], None, Option, Some, ap, ap₂, false, get_or, inl, inr, length, map, refl}
+-- The command that a parse entered; the program is simple.
+use Rattle.std.proofs.Common.{◌≡◌, ◌≢◌, ◌<◌, ◌∙◌, ◌∷◌, ◌⊎◌, ℕ, List, [], None, Option, Some, ap, ap₂, get_or, inl, inr, length, map, refl}
 use Rattle.std.proofs.Common.{subst, sym, true, ⊎_elim}
 use Rattle.std.specs.Prelude.{Err, IsSomeAnd, Ok, Result, is_some, option_map, slice_get, unwrap_or}
 use Rattle.std.proofs.lemmas.Bool.{true≢false}
 use Rattle.std.proofs.lemmas.Option.{slice_get-get_or, slice_get-map}
-use Rattle.clap.specs.Words.{App, Row, Text, fault_of, is_simple, is_simple_and_free}
+use Rattle.clap.specs.Words.{Row, Text, fault_of, is_simple, is_simple_and_free}
 use Rattle.clap.proofs.OnLiterals.{clap_on_literals}
 use Rattle.command_line.specs.Grammar.{csa_app}
-use Rattle.command_line.specs.Reading.{AsksForHelp, AsksOnlyForHelp, AsksTopic, IsRead, IsShown, Names}
+use Rattle.command_line.specs.Reading.{AsksForHelp, AsksOnlyForHelp, AsksTopic, IsLineRead, IsShown, Names}
 use Rattle.command_line.specs.Requests.{Finds, IsHelp, IsMistake}
 use Rattle.command_line.specs.declared.reading.NoCommand.{NoCommand}
 use Rattle.command_line.specs.declared.reading.NoCommand.TheVariants.{Help, Mistake, OutOfMemory}
@@ -34,21 +34,13 @@ entered_as {N} {M} {B} p q f g r (Some b) n m is named read =
     let values : g b ≡ q m = inside (g b) (q m) (sym read ∙ ap (λ (o : Option (N × M)). option_map (λ (x : N × M). q x.1) o) is) in
     ap₂ (λ (x : Text) (y : List Row). Some (x, y)) name values
 
-pub csa_is_simple : is_simple (csa_app false) ≡ true
+pub csa_is_simple : is_simple csa_app ≡ true
 unfolding csa_app clap_on_literals
 csa_is_simple = refl
 
-pub csa_is_free : is_simple_and_free (csa_app false) ≡ true
+pub csa_is_free : is_simple_and_free csa_app ≡ true
 unfolding csa_app clap_on_literals
 csa_is_free = refl
-
-fails : {P : Type 0} (test : Bool) → (test ≡ true → P) → ¬ P → test ≡ false
-fails true shows none = absurd (none (shows refl))
-fails false shows none = refl
-
--- the program that is read without what the test would show
-pub plain_app : {P : Type 0} (test : Bool) (app : App) → (test ≡ true → P) → ¬ P → app ≡ csa_app test → app ≡ csa_app false
-plain_app test app shows none is = is ∙ ap csa_app (fails test shows none)
 
 -- a word of the command line
 pub word_at : {X : Type 0} (text : X → Text) (xs : List X) (i : ℕ) (d x : X) (word : Text) (P : Text → Type 0) → i < length xs
@@ -65,8 +57,8 @@ finds_by (Ok request) P Q to from is = to request is
 finds_by (Err fault) P Q to from none = (none.0, λ memory request is. none.1 memory request (from request is))
 
 -- what is read of words that clap takes
-pub read_request : (words : List Text) (result : Result CommandRequest NoCommand) → fault_of (csa_app false) words ≡ []
-    → Finds (Names words) result → IsRead words result
+pub read_request : (words : List Text) (result : Result CommandRequest NoCommand) → fault_of csa_app words ≡ []
+    → Finds (Names words) result → IsLineRead words result
 read_request words (Ok request) taken is = is
 read_request words (Err (Help text)) taken none = absurd (none.0 tt)
 read_request words (Err (Mistake text)) taken none = (
@@ -77,13 +69,13 @@ read_request words (Err OutOfMemory) taken none = tt
 
 -- and of words that it refuses
 pub read_fault : (words : List Text) (fault : NoCommand) → (fault ≢ OutOfMemory → (request : CommandRequest) → ¬ (Names words request))
-    → (IsHelp fault → AsksForHelp words) → (AsksOnlyForHelp words → ¬ (IsMistake fault)) → IsRead words (Err fault)
+    → (IsHelp fault → AsksForHelp words) → (AsksOnlyForHelp words → ¬ (IsMistake fault)) → IsLineRead words (Err fault)
 read_fault words (Help text) none help shown = help tt
 read_fault words (Mistake text) none help shown = (none (λ same. cc), λ only. shown only tt)
 read_fault words OutOfMemory none help shown = tt
 
 -- a fault of words that only ask for help is that they do
-pub only_shown : (words : List Text) (kind : ErrorKind) → IsAmong kind (fault_of (csa_app false) words) → AsksOnlyForHelp words → IsShown kind
+pub only_shown : (words : List Text) (kind : ErrorKind) → IsAmong kind (fault_of csa_app words) → AsksOnlyForHelp words → IsShown kind
 only_shown words kind among (asked, shown, is) =
     ⊎_elim (λ (same : kind ≡ asked). subst IsShown (sym same) shown) (λ (none : ⊥). absurd none)
     (subst (λ (faults : Kinds). IsAmong kind faults) is among)
@@ -97,11 +89,11 @@ topic_is_help (program ∷ word ∷ rest) is =
     subst (λ (w : Text). AsksForHelp (program ∷ w ∷ rest)) (sym is) (inl (inl refl))
 
 -- a fault of such a kind
-pub shown_is_help : (words : List Text) (kind : ErrorKind) → IsShown kind → (kind ≡ SpentMemory) ⊎ IsAmong kind (fault_of (csa_app false) words)
+pub shown_is_help : (words : List Text) (kind : ErrorKind) → IsShown kind → (kind ≡ SpentMemory) ⊎ IsAmong kind (fault_of csa_app words)
     → AsksForHelp words
 shown_is_help words kind shown (inl spent) =
     absurd (⊎_elim (λ (help : kind ≡ DisplayHelp). let bad : SpentMemory ≡ DisplayHelp = sym spent ∙ help in cc)
     (λ (version : kind ≡ DisplayVersion). let bad : SpentMemory ≡ DisplayVersion = sym spent ∙ version in cc) shown)
 shown_is_help words kind shown (inr among) =
-    ⊎_elim (λ (help : kind ≡ DisplayHelp). inl (subst (λ (k : ErrorKind). IsAmong k (fault_of (csa_app false) words)) help among))
-    (λ (version : kind ≡ DisplayVersion). inr (subst (λ (k : ErrorKind). IsAmong k (fault_of (csa_app false) words)) version among)) shown
+    ⊎_elim (λ (help : kind ≡ DisplayHelp). inl (subst (λ (k : ErrorKind). IsAmong k (fault_of csa_app words)) help among))
+    (λ (version : kind ≡ DisplayVersion). inr (subst (λ (k : ErrorKind). IsAmong k (fault_of csa_app words)) version among)) shown

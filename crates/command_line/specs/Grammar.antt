@@ -1,5 +1,5 @@
 -- The grammar of the command line, as `clap` reads it: the arguments of each command.
-use Rattle.std.specs.Prelude.{◌++◌, if◌then◌else◌, Bool, false, true, List, [], ◌∷◌, fold, map, Some, codes}
+use Rattle.std.specs.Prelude.{◌++◌, true, List, [], ◌∷◌, fold, map, Some, codes}
 use Rattle.std.specs.List.{flat_map}
 use Rattle.clap.specs.Lexer.{usize_max}
 use Rattle.clap.specs.Walk.{Rule, Text}
@@ -28,10 +28,6 @@ option id = record (maybe_option id) { required = true }
 abbrev pub options : Text → Rule
 options id = record (option id) { action = Some Append }
 
--- the value may begin with a hyphen, if `hyphens`, also where it is a word of its own
-abbrev pub stop : Bool → Rule → Rule
-stop hyphens rule = if hyphens then record rule { is_simple = false } else rule
-
 -- an option without a value
 abbrev pub flag : Text → Rule
 flag id = record (new_rule id) { long = Some id; action = Some SetTrue }
@@ -41,22 +37,21 @@ abbrev pub words : Text → Rule
 words id =
     record (new_rule id) { value_names = 1; range = Some (record { start_inclusive = 0; end_inclusive = usize_max }) }
 
-abbrev pub rule_of_argument : Bool → Argument → Rule
-rule_of_argument hyphens (argument.Positional id name help) = word id.now
-rule_of_argument hyphens (argument.MaybeWord id name help) = maybe_word id.now
-rule_of_argument hyphens (argument.Words id name help) = words id.now
-rule_of_argument hyphens (argument.Option id name help) = option id.now
-rule_of_argument hyphens (argument.Stop id name help) = stop hyphens (option id.now)
-rule_of_argument hyphens (argument.Stops id name help) = stop hyphens (options id.now)
-rule_of_argument hyphens (argument.MaybeOption id name help) = maybe_option id.now
-rule_of_argument hyphens (argument.Flag id help) = flag id.now
+abbrev pub rule_of_argument : Argument → Rule
+rule_of_argument (argument.Positional id name help) = word id.now
+rule_of_argument (argument.MaybeWord id name help) = maybe_word id.now
+rule_of_argument (argument.Words id name help) = words id.now
+rule_of_argument (argument.Option id name help) = option id.now
+rule_of_argument (argument.Options id name help) = options id.now
+rule_of_argument (argument.MaybeOption id name help) = maybe_option id.now
+rule_of_argument (argument.Flag id help) = flag id.now
 
 abbrev pub command : Text → List Rule → Shape
 command name rules = record (new_shape name) { rules = rules }
 
-abbrev pub shape_of_task : Bool → Task → Shape
-shape_of_task hyphens task =
-    command task.name.now (flat_map (λ group. map (rule_of_argument hyphens) group.now) task.arguments.now)
+abbrev pub shape_of_task : Task → Shape
+shape_of_task task =
+    command task.name.now (flat_map (λ group. map rule_of_argument group.now) task.arguments.now)
 
 -- a command with more arguments
 abbrev pub with_rules : App → List Rule → App
@@ -69,24 +64,24 @@ times = option (codes "after") ∷ option (codes "until") ∷ option (codes "by"
 abbrev pub service_days : List Rule
 service_days = option (codes "first") ∷ option (codes "days") ∷ option (codes "zone") ∷ []
 
-abbrev pub image_shapes : Bool → List Shape
-image_shapes hyphens =
+abbrev pub image_shapes : List Shape
+image_shapes =
     command (codes "verify") (word (codes "image") ∷ [])
     ∷ command (codes "info") (word (codes "image") ∷ flag (codes "json") ∷ [])
     ∷ command (codes "journey")
-    (word (codes "image") ∷ word (codes "text") ∷ stop hyphens (option (codes "from")) ∷ stop hyphens (option (codes "to"))
+    (word (codes "image") ∷ word (codes "text") ∷ option (codes "from") ∷ option (codes "to")
     ∷ times)
     ∷ command (codes "profile")
-    (word (codes "image") ∷ stop hyphens (options (codes "from")) ∷ stop hyphens (options (codes "to"))
+    (word (codes "image") ∷ options (codes "from") ∷ options (codes "to")
     ∷ option (codes "after") ∷ option (codes "until") ∷ option (codes "by") ∷ option (codes "criterion")
     ∷ maybe_option (codes "picture") ∷ maybe_option (codes "rows") ∷ flag (codes "names") ∷ flag (codes "json")
     ∷ flag (codes "legs") ∷ flag (codes "no-warnings") ∷ [])
     ∷ []
 
-abbrev pub stops_shapes : Bool → List Shape
-stops_shapes hyphens =
+abbrev pub stops_shapes : List Shape
+stops_shapes =
     command (codes "departures")
-    (word (codes "image") ∷ stop hyphens (options (codes "to")) ∷ option (codes "after") ∷ option (codes "until") ∷ option (codes "by")
+    (word (codes "image") ∷ options (codes "to") ∷ option (codes "after") ∷ option (codes "until") ∷ option (codes "by")
     ∷ option (codes "criterion") ∷ maybe_option (codes "from") ∷ flag (codes "summary") ∷ flag (codes "json")
     ∷ flag (codes "no-journeys") ∷ flag (codes "no-warnings") ∷ [])
     ∷ command (codes "matrix")
@@ -96,8 +91,8 @@ stops_shapes hyphens =
     ∷ command (codes "stops") (word (codes "image") ∷ maybe_word (codes "text") ∷ flag (codes "json") ∷ [])
     ∷ []
 
-abbrev pub other_shapes : Bool → List Shape
-other_shapes hyphens =
+abbrev pub other_shapes : List Shape
+other_shapes =
     command (codes "tables") (word (codes "folder") ∷ flag (codes "all-faults") ∷ flag (codes "json") ∷ [])
     ∷ command (codes "days") (word (codes "folder") ∷ flag (codes "json") ∷ [])
     ∷ command (codes "stations") (word (codes "folder") ∷ maybe_word (codes "text") ∷ flag (codes "json") ∷ [])
@@ -116,7 +111,6 @@ other_shapes hyphens =
 abbrev pub bare_app : App
 bare_app = on_top (λ s. record s { has_version = true; subcommand_required = true }) (new_app (codes "csa"))
 
--- the program, as `clap` reads it: a stop_id may begin with a hyphen where it is a word of its own, if `hyphens`
-unfoldable pub csa_app : Bool → App
-csa_app hyphens = fold with_subcommand (fold with_subcommand (fold with_subcommand bare_app (image_shapes hyphens)) (stops_shapes hyphens))
-    (other_shapes hyphens)
+-- the program, as `clap` reads it
+unfoldable pub csa_app : App
+csa_app = fold with_subcommand (fold with_subcommand (fold with_subcommand bare_app image_shapes) stops_shapes) other_shapes

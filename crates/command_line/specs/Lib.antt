@@ -1,4 +1,5 @@
 pub mod Grammar
+pub mod Joining
 pub mod Options
 pub mod Reading
 pub mod Requests

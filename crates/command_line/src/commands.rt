@@ -1,9 +1,9 @@
 //! The commands as `clap` knows them: their words, options and help.
 
-ghost use Rattle.std.specs.Prelude.{◌≡◌, Bool, IfOk, false, fold, map};
+ghost use Rattle.std.specs.Prelude.{◌≡◌, IfOk, false, fold, map};
 ghost use Rattle.clap.specs.Words.{app_of, rule_of, shape_of, with_subcommand};
 ghost use Rattle.command_line.specs.Grammar.{csa_app, flag, image_shapes, maybe_word, other_shapes, rule_of_argument};
-ghost use Rattle.command_line.specs.Grammar.{shape_of_task, stop, stops_shapes, with_rules, words};
+ghost use Rattle.command_line.specs.Grammar.{shape_of_task, stops_shapes, with_rules, words};
 
 use crate::texts;
 use clap::{Arg, ArgAction, Command};
@@ -20,10 +20,8 @@ pub(crate) enum Argument {
     Words(&'static str, &'static str, &'static str),
     /// An option with a value.
     Option(&'static str, &'static str, &'static str),
-    /// An option whose value is a stop_id, which may begin with a hyphen if the words have such a one.
-    Stop(&'static str, &'static str, &'static str),
     /// The same; the option may be given several times.
-    Stops(&'static str, &'static str, &'static str),
+    Options(&'static str, &'static str, &'static str),
     /// An option with a value; the option may be left out.
     MaybeOption(&'static str, &'static str, &'static str),
     /// An option without a value.
@@ -47,21 +45,21 @@ const IMAGE: [Argument; 1] = [Argument::Positional(
 )];
 
 /// Where a query begins.
-const SOURCE: [Argument; 1] = [Argument::Stop(
+const SOURCE: [Argument; 1] = [Argument::Option(
     "from",
     "STOP_ID",
     "The stop_id of the stop where the journey begins",
 )];
 
 /// Where a query ends.
-const DESTINATION: [Argument; 1] = [Argument::Stop(
+const DESTINATION: [Argument; 1] = [Argument::Option(
     "to",
     "STOP_ID",
     "The stop_id of the stop where the journey ends",
 )];
 
 /// Where queries from all stops end.
-const DESTINATIONS: [Argument; 1] = [Argument::Stops(
+const DESTINATIONS: [Argument; 1] = [Argument::Options(
     "to",
     "STOP_ID",
     "The stop_id of the stop where journeys end; given several times, at any of these stops (at most 1000)",
@@ -69,12 +67,12 @@ const DESTINATIONS: [Argument; 1] = [Argument::Stops(
 
 /// Where queries begin and end.
 const STATIONS: [Argument; 2] = [
-    Argument::Stops(
+    Argument::Options(
         "from",
         "STOP_ID",
         "The stop_id of the stop where the journey begins; given several times, of any of these stops (at most 1000)",
     ),
-    Argument::Stops(
+    Argument::Options(
         "to",
         "STOP_ID",
         "The stop_id of the stop where the journey ends; given several times, of any of these stops (at most 1000)",
@@ -404,19 +402,19 @@ const OTHER_TASKS: [Task; 6] = [
 
 // A slice, since a loop over the list itself puts the whole list into each goal.
 fn image_tasks() -> &'static [Task]
-    ensures { (hyphens : Bool) → map (shape_of_task hyphens) result.now ≡ image_shapes hyphens }
+    ensures { map shape_of_task result.now ≡ image_shapes }
 {
     &IMAGE_TASKS
 }
 
 fn stops_tasks() -> &'static [Task]
-    ensures { (hyphens : Bool) → map (shape_of_task hyphens) result.now ≡ stops_shapes hyphens }
+    ensures { map shape_of_task result.now ≡ stops_shapes }
 {
     &STOPS_TASKS
 }
 
 fn other_tasks() -> &'static [Task]
-    ensures { (hyphens : Bool) → map (shape_of_task hyphens) result.now ≡ other_shapes hyphens }
+    ensures { map shape_of_task result.now ≡ other_shapes }
 {
     &OTHER_TASKS
 }
@@ -445,32 +443,17 @@ fn words<'a>(alloc: Global, id: &'a str, name: &'a str, help: &'a str) -> Arg<'a
     Arg::new(alloc, id).value_name(name).help(help).num_args(..)
 }
 
-// An option whose value may begin with a hyphen, if `hyphens`.
-fn stop<'a>(option: Arg<'a>, hyphens: bool) -> Arg<'a>
-    ensures { (rule_of result ≡ stop hyphens (rule_of option.entry)) × (result.global ≡ option.entry.global) }
-{
-    if hyphens {
-        option.allow_hyphen_values(true)
-    } else {
-        option
-    }
-}
-
-fn arg_of<'a>(alloc: Global, argument: Argument, hyphens: bool) -> Arg<'a>
-    ensures { (rule_of result ≡ rule_of_argument hyphens argument) × (result.global ≡ false) }
+fn arg_of<'a>(alloc: Global, argument: Argument) -> Arg<'a>
+    ensures { (rule_of result ≡ rule_of_argument argument) × (result.global ≡ false) }
 {
     match argument {
         Argument::Positional(id, name, help) => value(alloc, id, name, help).required(true),
         Argument::MaybeWord(id, name, help) => value(alloc, id, name, help),
         Argument::Words(id, name, help) => words(alloc, id, name, help),
         Argument::Option(id, name, help) => value(alloc, id, name, help).long(id).required(true),
-        Argument::Stop(id, name, help) => {
+        Argument::Options(id, name, help) => {
             let option = value(alloc, id, name, help).long(id).required(true);
-            stop(option, hyphens)
-        }
-        Argument::Stops(id, name, help) => {
-            let option = value(alloc, id, name, help).long(id).required(true);
-            stop(option.action(ArgAction::Append), hyphens)
+            option.action(ArgAction::Append)
         }
         Argument::MaybeOption(id, name, help) => value(alloc, id, name, help).long(id),
         Argument::Flag(id, help) => flag(alloc, id, help),
@@ -481,25 +464,24 @@ fn with_arguments<'a>(
     alloc: Global,
     mut command: Command<'a>,
     arguments: &[Argument],
-    hyphens: bool,
 ) -> Result<Command<'a>, AllocError>
     ensures { IfOk result (λ c. app_of c
-        ≡ with_rules (app_of command.entry) (map (rule_of_argument hyphens) arguments.now)) }
+        ≡ with_rules (app_of command.entry) (map rule_of_argument arguments.now)) }
 {
     for argument in arguments {
-        command = command.arg(arg_of(alloc, *argument, hyphens))?;
+        command = command.arg(arg_of(alloc, *argument))?;
     }
     Ok(command)
 }
 
-fn command_of<'a>(alloc: Global, task: Task, hyphens: bool) -> Result<Command<'a>, AllocError>
-    ensures { IfOk result (λ c. shape_of c ≡ shape_of_task hyphens task) }
+fn command_of<'a>(alloc: Global, task: Task) -> Result<Command<'a>, AllocError>
+    ensures { IfOk result (λ c. shape_of c ≡ shape_of_task task) }
 {
     let mut command = Command::new(alloc, task.name)
         .about(task.about)
         .after_help(task.notes);
     for group in task.arguments {
-        command = with_arguments(alloc, command, group, hyphens)?;
+        command = with_arguments(alloc, command, group)?;
     }
     Ok(command)
 }
@@ -526,12 +508,12 @@ fn task_among(tasks: &[Task], name: &str) -> Option<Task> {
 fn usage_of(alloc: Global, task: Task) -> Result<String, AllocError> {
     let name = task.name;
     let whole = format!(in alloc; "csa {name}")?;
-    let mut command = command_of(alloc, task, false)?.bin_name(whole.as_str())?;
+    let mut command = command_of(alloc, task)?.bin_name(whole.as_str())?;
     command.render_usage()
 }
 
 fn program_usage(alloc: Global) -> Result<String, AllocError> {
-    let mut command = program(alloc, false)?;
+    let mut command = program(alloc)?;
     command.render_usage()
 }
 
@@ -552,27 +534,26 @@ fn with_tasks<'a>(
     alloc: Global,
     mut command: Command<'a>,
     tasks: &[Task],
-    hyphens: bool,
 ) -> Result<Command<'a>, AllocError>
     ensures { IfOk result (λ c. app_of c
-        ≡ fold with_subcommand (app_of command.entry) (map (shape_of_task hyphens) tasks.now)) }
+        ≡ fold with_subcommand (app_of command.entry) (map shape_of_task tasks.now)) }
 {
     for task in tasks {
-        command = command.subcommand(command_of(alloc, *task, hyphens)?)?;
+        command = command.subcommand(command_of(alloc, *task)?)?;
     }
     Ok(command)
 }
 
-/// All commands. If `hyphens`, a stop_id may begin with a hyphen where it is a word of its own.
-pub(crate) fn program<'a>(alloc: Global, hyphens: bool) -> Result<Command<'a>, AllocError>
-    ensures { IfOk result (λ c. app_of c ≡ csa_app hyphens) }
+/// All commands.
+pub(crate) fn program<'a>(alloc: Global) -> Result<Command<'a>, AllocError>
+    ensures { IfOk result (λ c. app_of c ≡ csa_app) }
 {
     let command = Command::new(alloc, "csa")
         .about("Every best departure over verified public transport timetables")
         .after_help(texts::STATUSES)
         .version(texts::VERSION)
         .subcommand_required(true);
-    let command = with_tasks(alloc, command, image_tasks(), hyphens)?;
-    let command = with_tasks(alloc, command, stops_tasks(), hyphens)?;
-    with_tasks(alloc, command, other_tasks(), hyphens)
+    let command = with_tasks(alloc, command, image_tasks())?;
+    let command = with_tasks(alloc, command, stops_tasks())?;
+    with_tasks(alloc, command, other_tasks())
 }

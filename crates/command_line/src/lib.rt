@@ -2,6 +2,7 @@
 #![tactic(auto)]
 
 mod commands;
+mod joining;
 mod messages;
 mod options;
 mod reading;

@@ -1,12 +1,13 @@
 //! From words to a request, or to a message about them.
 
-ghost use Rattle.std.specs.Prelude.{◌≡◌, ◌⊎◌, IfSome, None, map, true};
+ghost use Rattle.std.specs.Prelude.{◌≡◌, ◌⊎◌, IfSome, None, map};
+ghost use Rattle.std.specs.String.{string_bytes};
 ghost use Rattle.clap.specs.Words.{kind_of};
-ghost use Rattle.command_line.specs.Reading.{AsksTopic, HasHyphenStop, HasHyphenValue, IsHyphenated, IsRead};
-ghost use Rattle.command_line.specs.Reading.{IsShown, is_stop_option};
+ghost use Rattle.command_line.specs.Reading.{AsksTopic, IsLineRead, IsRead, IsShown};
 ghost use Rattle.command_line.specs.Requests.{IsHelp, IsMistake};
 
 use crate::commands::{is_command, program};
+use crate::joining::joined;
 use crate::messages::unread_of;
 use crate::requests::request_in;
 use clap::Error;
@@ -26,7 +27,7 @@ pub enum NoCommand {
 }
 
 /// The command that follows the program's name; empty if the word there is none.
-fn command_in<'a, S: AsStr>(words: &'a [S]) -> &'a str {
+fn command_in(words: &[String]) -> &str {
     let Some(word) = words.get(1) else {
         return "";
     };
@@ -34,11 +35,26 @@ fn command_in<'a, S: AsStr>(words: &'a [S]) -> &'a str {
     if is_command(word) { word } else { "" }
 }
 
-/// The request that the words make; the first word is the program's name.
-pub fn read<'a, S: AsStr>(alloc: Global, words: &'a [S]) -> Result<CommandRequest<'a>, NoCommand>
-    ensures { ¬ (HasHyphenValue (map S.text words.entry.now)) → IsRead (map S.text words.entry.now) result }
+/// The request that the words make; the first word is the program's name. It refers to words that are put into `line`.
+pub fn read<'a, S: AsStr>(
+    alloc: Global,
+    words: &[S],
+    line: &'a mut Vec<String>,
+) -> Result<CommandRequest<'a>, NoCommand>
+    ensures { IsRead (map S.text words.now) result }
 {
-    let Ok(command) = program(alloc, has_hyphen_value(words)) else {
+    match joined(alloc, words) {
+        Ok(joined) => *line = joined,
+        Err(_) => return Err(NoCommand::OutOfMemory),
+    }
+    read_line(alloc, line)
+}
+
+// The request that these words make where `clap` reads them.
+fn read_line<'a>(alloc: Global, words: &'a [String]) -> Result<CommandRequest<'a>, NoCommand>
+    ensures { IsLineRead (map string_bytes words.entry.now) result }
+{
+    let Ok(command) = program(alloc) else {
         return Err(NoCommand::OutOfMemory);
     };
     match command.try_get_matches_from(words) {
@@ -47,53 +63,10 @@ pub fn read<'a, S: AsStr>(alloc: Global, words: &'a [S]) -> Result<CommandReques
     }
 }
 
-/// Whether the command that the words name has an option whose value is a stop_id, with a word behind it that begins
-/// with a hyphen.
-fn has_hyphen_value<S: AsStr>(words: &[S]) -> bool
-    ensures { result ≡ true → HasHyphenValue (map S.text words.now) }
-{
-    if words.len() < 2 {
-        return false;
-    }
-    has_hyphen_stop(words[1].as_str(), words)
-}
-
-/// Whether a word that begins with a hyphen follows such an option of the command.
-fn has_hyphen_stop<S: AsStr>(command: &str, words: &[S]) -> bool
-    ensures { result ≡ true → HasHyphenStop command.now (map S.text words.now) }
-{
-    for index in 1..words.len() {
-        if is_stop_option(command, words[index - 1].as_str())
-            && is_hyphenated(words[index].as_str())
-        {
-            return true;
-        }
-    }
-    false
-}
-
-/// Whether the value of this option of the command is a stop_id.
-fn is_stop_option(command: &str, word: &str) -> bool
-    ensures { result ≡ is_stop_option command.now word.now }
-{
-    let is_question = command == "journey" || command == "profile";
-    (is_question && word == "--from")
-        || ((is_question || command == "departures") && word == "--to")
-}
-
-fn is_hyphenated(word: &str) -> bool
-    ensures { result ≡ true → IsHyphenated word.now }
-{
-    match word.as_bytes() {
-        [b'-', ..] => true,
-        _ => false,
-    }
-}
-
 // The message about words that clap refuses.
-fn unread<S: AsStr>(alloc: Global, words: &[S], error: &Error) -> NoCommand
+fn unread(alloc: Global, words: &[String], error: &Error) -> NoCommand
     ensures memory { kind_of error.now ≡ ErrorKind.OutOfMemory → result ≡ NoCommand.OutOfMemory }
-    ensures help { IsHelp result → IsShown (kind_of error.now) ⊎ AsksTopic (map S.text words.now) }
+    ensures help { IsHelp result → IsShown (kind_of error.now) ⊎ AsksTopic (map string_bytes words.now) }
     ensures shown { IsShown (kind_of error.now) → ¬ (IsMistake result) }
 {
     match unknown_topic(words, error.kind()) {
@@ -103,9 +76,9 @@ fn unread<S: AsStr>(alloc: Global, words: &[S], error: &Error) -> NoCommand
 }
 
 /// What `csa help` is asked about, if it is no command; `kind` is that of clap's error.
-fn unknown_topic<S: AsStr>(words: &[S], kind: ErrorKind) -> Option<&str>
+fn unknown_topic(words: &[String], kind: ErrorKind) -> Option<&str>
     ensures memory { kind ≡ ErrorKind.OutOfMemory → result ≡ None }
-    ensures help { IfSome result (λ _. AsksTopic (map S.text words.now)) }
+    ensures help { IfSome result (λ _. AsksTopic (map string_bytes words.now)) }
     ensures shown { IsShown kind → result ≡ None }
 {
     if words.len() != 3 {
@@ -119,7 +92,7 @@ fn unknown_topic<S: AsStr>(words: &[S], kind: ErrorKind) -> Option<&str>
 
 /// The message about a topic of `csa help` that is no command: that of the command itself, which has a suggestion.
 fn unread_topic(alloc: Global, topic: &str, error: &Error) -> NoCommand {
-    let Ok(command) = program(alloc, false) else {
+    let Ok(command) = program(alloc) else {
         return NoCommand::OutOfMemory;
     };
     match command.try_get_matches_from(&["csa", topic]) {

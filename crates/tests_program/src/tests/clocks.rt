@@ -97,7 +97,8 @@ fn asked_of_build(alloc: Global, word: &str) -> &'static str {
     let words = [
         "csa", "build", "feed", "out", "--first", word, "--days", "1", "--zone", "fixed:0",
     ];
-    match read(alloc, &words) {
+    let mut line = Vec::new(alloc);
+    match read(alloc, &words, &mut line) {
         Ok(CommandRequest::Build(request)) => word_of(request.plan.first),
         _ => "no build",
     }
@@ -123,7 +124,8 @@ fn asked_of_serve(alloc: Global, word: &str) -> &'static str {
         "--zone",
         "fixed:0",
     ];
-    match read(alloc, &words) {
+    let mut line = Vec::new(alloc);
+    match read(alloc, &words, &mut line) {
         Ok(CommandRequest::Serve(request)) => word_of(request.plan.first),
         _ => "no serve",
     }

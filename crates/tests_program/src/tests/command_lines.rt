@@ -90,6 +90,23 @@ complains 64
 run journey -
 complains 64
 
+# The word behind an option for a stop_id is that id, whatever it begins with; no word behind -- is an option.
+run profile no/such/file --from --to --to -h --after 07:00:00 --until 09:00:00 --by 10:00:00 --criterion arrival
+tells csa: no/such/file can't be read: no such file or folder
+ends 3
+run departures no/such/file --to -1 --to=-2 --after 07:00:00 --until 09:00:00 --by 10:00:00 --criterion arrival
+tells csa: no/such/file can't be read: no such file or folder
+ends 3
+run journey --from -- --to -C --after 07:00:00 --until 09:00:00 --by 10:00:00 -- --from -1
+tells csa: --from can't be read: no such file or folder
+ends 3
+run departures - --to C --from -1 --after 07:00:00 --until 09:00:00 --by 10:00:00 --criterion arrival
+complains 64
+run matrix - - --to -1 --after 07:00:00 --until 09:00:00 --by 10:00:00 --criterion arrival
+complains 64
+run profile - --from --to C --after 07:00:00 --until 09:00:00 --by 10:00:00 --criterion arrival
+complains 64
+
 # Help.
 run --help
 helps
@@ -114,7 +131,7 @@ helps
 run serve --help
 helps
 run --version
-answers csa 1.11.0
+answers csa 1.12.0
 
 # Days, dates and zones of a wrong form.
 run build no_such_feed none.csa --first 20240115 --days 0 --zone fixed:0

@@ -6,6 +6,6 @@ use Rattle.command_line.proofs.commands.command_of.Goals as goal
 
 pub loop-group-preserved : goal.loop-group-preserved
 loop-group-preserved c =
-    rules_more c.args.task.arguments.now c.loop-group.group-index _ (omega arith) (λ group. map (rule_of_argument c.args.hyphens) group.now)
+    rules_more c.args.task.arguments.now c.loop-group.group-index _ (omega arith) (λ group. map rule_of_argument group.now)
     (new_app c.args.task.name.now) (app_of c.loop-group.command) (app_of c.in_ok-command.command)
     c.loop-group.invariant c.in_ok-command.ensures

@@ -5,4 +5,4 @@ use Rattle.command_line.proofs.commands.with_arguments.Given as goal
 
 abbrev pub invariant-loop-argument : goal.invariant-loop-argument
 invariant-loop-argument l =
-    app_of l.command ≡ with_rules (app_of l.fn.command) (map (rule_of_argument l.hyphens) (take l.argument-index l.arguments))
+    app_of l.command ≡ with_rules (app_of l.fn.command) (map rule_of_argument (take l.argument-index l.arguments))

@@ -6,4 +6,4 @@ use Rattle.command_line.proofs.commands.with_tasks.Given as goal
 
 abbrev pub invariant-loop-task : goal.invariant-loop-task
 invariant-loop-task l =
-    app_of l.command ≡ fold with_subcommand (app_of l.fn.command) (map (shape_of_task l.hyphens) (take l.task-index l.tasks))
+    app_of l.command ≡ fold with_subcommand (app_of l.fn.command) (map shape_of_task (take l.task-index l.tasks))

@@ -1,23 +1,22 @@
-use Rattle.std.proofs.Common.{◌≡◌, ◌∙◌, ◌⊎◌, List, Option, [], ap, false, map, subst, sym, ⊎_elim}
-use Rattle.std.specs.Prelude.{IsSomeAnd}
+use Rattle.std.proofs.Common.{◌≡◌, ◌∙◌, ◌⊎◌, List, Option, [], ap, map, subst, sym, ⊎_elim}
+use Rattle.std.specs.Prelude.{IsSomeAnd, string_bytes}
 use Rattle.clap.specs.Words.{App, Row, Text, app_of, fault_of, is_simple, is_simple_and_free, kind_of, subcommand_of}
 use Rattle.clap.specs.Kinds.{IsAmong, Kinds}
 use Rattle.clap.specs.declared.error.kind.ErrorKind.TheVariants.{OutOfMemory}
 use Rattle.command_line.specs.Grammar.{csa_app}
 use Rattle.command_line.specs.Requests.{IsMistake, IsRequest}
-use Rattle.command_line.proofs.Entered.{csa_is_free, csa_is_simple, finds_by, only_shown, plain_app, read_fault, read_request, shown_is_help}
+use Rattle.command_line.proofs.Entered.{csa_is_free, csa_is_simple, finds_by, only_shown, read_fault, read_request, shown_is_help}
 use Rattle.command_line.proofs.Entered.{topic_is_help}
-use Rattle.command_line.proofs.reading.read.Goals as goal
+use Rattle.command_line.proofs.reading.read_line.Goals as goal
 
 pub returns-in-Ok-try_get_matches_from : goal.returns-in-Ok-try_get_matches_from
-returns-in-Ok-try_get_matches_from g c = λ plain.
-    let words : List Text = map g.S.AsStr.text c.args.words.now in
-    let app_is : app_of c.in-Ok.command ≡ csa_app false =
-    plain_app c.has_hyphen_value.result (app_of c.in-Ok.command) c.has_hyphen_value.ensures plain c.in-Ok.ensures in
+returns-in-Ok-try_get_matches_from c =
+    let words : List Text = map string_bytes c.args.words.now in
+    let app_is : app_of c.in-Ok.command ≡ csa_app = c.in-Ok.ensures in
     let parsed = c.in-Ok-try_get_matches_from.ensures in
     let taken = parsed.kinds (ap is_simple_and_free app_is ∙ csa_is_free) in
     let found = parsed.matches (ap is_simple app_is ∙ csa_is_simple) in
-    let taken_is : fault_of (csa_app false) words ≡ [] = ap (λ (app : App). fault_of app words) (sym app_is) ∙ taken in
+    let taken_is : fault_of csa_app words ≡ [] = ap (λ (app : App). fault_of app words) (sym app_is) ∙ taken in
     let entered = found.1 ∙ ap (λ (app : App). subcommand_of app words) app_is in
     read_request words c.request_in.result taken_is (finds_by c.request_in.result _ _
     (λ request is. (
@@ -28,11 +27,10 @@ returns-in-Ok-try_get_matches_from g c = λ plain.
     c.request_in.ensures)
 
 pub returns-in-Err : goal.returns-in-Err
-returns-in-Err g c = λ plain.
-    let words : List Text = map g.S.AsStr.text c.args.words.now in
-    let app_is : app_of c.in-Ok.command ≡ csa_app false =
-    plain_app c.has_hyphen_value.result (app_of c.in-Ok.command) c.has_hyphen_value.ensures plain c.in-Ok.ensures in
-    let kinds : (kind_of c.in-Err.error ≡ OutOfMemory) ⊎ IsAmong (kind_of c.in-Err.error) (fault_of (csa_app false) words) =
+returns-in-Err c =
+    let words : List Text = map string_bytes c.args.words.now in
+    let app_is : app_of c.in-Ok.command ≡ csa_app = c.in-Ok.ensures in
+    let kinds : (kind_of c.in-Err.error ≡ OutOfMemory) ⊎ IsAmong (kind_of c.in-Err.error) (fault_of csa_app words) =
     subst (λ (app : App). (kind_of c.in-Err.error ≡ OutOfMemory) ⊎ IsAmong (kind_of c.in-Err.error) (fault_of app words)) app_is
     (c.in-Err.ensures.kinds (ap is_simple_and_free app_is ∙ csa_is_free)) in
     read_fault words c.unread.result
