@@ -177,7 +177,8 @@ fn append_bare<C: ShowsFigures>(
     requires same { criterion_to_any shown.now.profiles.now ≡ shown.now.criterion.now }
     requires answered { AnswerToAny C.rules shown.now.image.now.timetable shown.now.profiles.now }
     ensures { IfOk result (ShowsStop C.figures (C.rules shown.now.criterion.now) DeparturesForm.Points
-        shown.now.image.now (asked_to_any shown.now.profiles.now) stop (string_bytes lines.old) (string_bytes lines.new)) }
+        shown.now.image.now (asked_to_any shown.now.profiles.now) stop (string_bytes lines.old)
+        (string_bytes lines.new)) }
 {
     let name = stop_name(shown.alloc, shown.image, stop)?;
     let points = shown.profiles.points(stop);

@@ -1,5 +1,6 @@
 -- What a scan leaves out because of its bound. The bound has values of points found, none of which departs earlier than the connections to come.
-use Rattle.std.specs.Prelude.{◌≡◌, ◌⊎◌, ℕ, ◌<◌, ◌≤◌, Bool, true, false, not, List, filter, length, Contains, slice_get, Some}
+use Rattle.std.specs.Prelude.{◌≡◌, ◌⊎◌, ℕ, ◌+◌, ◌<◌, ◌≤◌, Bool, true, false, not, List, [], ◌∷◌, ◌++◌, take, filter, length, Contains}
+use Rattle.std.specs.Prelude.{slice_get, Some}
 use Rattle.std.specs.List.{list_any}
 use Rattle.criteria.specs.Laws.{Rules, Admits, RidingWorsens}
 use Rattle.bags.specs.declared.point.Point.{Point}
@@ -57,6 +58,11 @@ pub record TakesPoints {V : Type 0} (rules : Rules V) (points : List (Point V)) 
   pub kept : (v : V) → Admits rules v → any_no_worse rules old v ≡ true → any_no_worse rules new v ≡ true
   pub each : (k : ℕ) (p : Point V) → from ≤ k → k < until → slice_get points k ≡ Some p
       → any_no_worse rules new p.value ≡ true
+
+-- of the new list's items exactly `count + 1` are meant: the first `count` of the old ones, and then this item
+pub record IsBehind {T : Type 0} (old : List T) (count : ℕ) (item : T) (new : List T) : Type 0 where
+  pub long : count + 1 ≤ length new
+  pub items : take (count + 1) new ≡ take count old ++ item ∷ []
 
 -- a label's value with the ride is added, unless one of these values is no worse
 pub record RidesLabel {V : Type 0} (rules : Rules V) (values : List V) (label : Point V)

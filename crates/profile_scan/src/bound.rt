@@ -30,7 +30,7 @@ pub struct Bound<C: Criterion> {
 
 impl<C: Criterion> Bound<C> {
     ghost use Rattle.std.specs.Prelude.{◌≡◌, [], Contains, OnOk};
-    ghost use Rattle.criteria.specs.Laws.{Admits};
+    ghost use Rattle.criteria.specs.Laws.{Admits, RidingWorsens};
     ghost use Rattle.bags.specs.Bag.{criterion_of, points_of};
     ghost use Rattle.profile_scan.specs.Bound.{IsRenewed};
 
@@ -47,9 +47,9 @@ impl<C: Criterion> Bound<C> {
     }
 
     /// Adds the values of points found that depart at `time` or later and weren't read yet. `count` is how many points
-    /// were ever found: if it hasn't changed since the last call, there are no new ones. The next reading begins at the
-    /// first point that departs at `time` or earlier, since one found later may be put among those that depart at
-    /// `time`. What the bound excluded stays excluded. Nothing is added unless the criterion says `riding_worsens`.
+    /// were ever found: if it hasn't changed since the last call, there are no new ones. What the bound excluded stays
+    /// excluded. Nothing is added unless the criterion says `riding_worsens`.
+    #[inline(always)]
     pub fn renew(
         &mut self,
         criterion: &C,
@@ -69,6 +69,26 @@ impl<C: Criterion> Bound<C> {
         if count == self.count && self.next < time {
             return Ok(());
         }
+        self.read(criterion, found, count, time)
+    }
+
+    // Reads the points for `renew`. The next reading begins at the first point that departs at `time` or earlier, since
+    // one found later may be put among those that depart at `time`. Most connections read nothing, so it is a call and
+    // never inlined.
+    #[inline(never)]
+    fn read(
+        &mut self,
+        criterion: &C,
+        found: &Bag<C>,
+        count: usize,
+        time: u32,
+    ) -> Result<(), AllocError>
+        requires worsens { RidingWorsens (C.rules criterion.now) }
+        requires found { criterion_of found.now ≡ criterion.now }
+        requires values { (b : _) → Contains self.old.values.items b → Admits (C.rules criterion.now) b }
+        ensures { OnOk result (IsRenewed (C.rules criterion.now) (points_of found.now) time
+            self.old.values.items self.new.values.items) }
+    {
         let from = self.index.min(found.len());
         let until = late_until(found, from, time);
         take_points(criterion, found, from..until, &mut self.values)?;

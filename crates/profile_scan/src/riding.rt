@@ -1,11 +1,11 @@
 //! The labels of a trip as points, and their values with the ride in the trip.
 
-ghost use Rattle.std.specs.Prelude.{◌≡◌, ◌<◌, OnOk, IfOk, IfSome, Contains, slice_get, Some, length};
+ghost use Rattle.std.specs.Prelude.{◌≡◌, ◌<◌, ◌≤◌, OnOk, IfOk, IfSome, Contains, slice_get, Some, length, take};
 ghost use Rattle.criteria.specs.Laws.{Admits, IsSecs};
 ghost use Rattle.profile_scan.specs.Values.{started};
 ghost use Rattle.bags.specs.declared.point.Point.{Point};
 ghost use Rattle.profile_scan.specs.Adding.{label_points, AreRidden};
-ghost use Rattle.profile_scan.specs.Bound.{survivors, RidesLabel};
+ghost use Rattle.profile_scan.specs.Bound.{survivors, IsBehind, RidesLabel};
 
 use crate::bound::any_no_worse;
 use bags::Point;
@@ -56,28 +56,49 @@ pub fn label_at<V: Copy>(labels: &[Label<V>], k: usize) -> Point<V>
     label_point(label.value, label.tag)
 }
 
-// Adds a label's value with the ride to a list, unless a value of the bound is no worse.
+// Puts an item behind the first `count` of a list, in place of what stands there. Mostly something does, and an item
+// that is replaced costs less than one that is pushed.
+#[inline(always)]
+fn put_behind<T: Copy>(items: &mut Vec<T>, count: usize, item: T) -> Result<(), AllocError>
+    requires { count ≤ length items.old.items }
+    ensures { OnOk result (IsBehind items.old.items count item items.new.items) }
+{
+    if count < items.len() {
+        items[count] = item;
+        return Ok(());
+    }
+    items.push(item)?;
+    Ok(())
+}
+
+// Puts a label's value with the ride behind the first `count` values of a list, unless a value of the bound is no
+// worse. Returns how many there are then.
+#[inline(always)]
 fn ride_label<C: Criterion>(
     criterion: &C,
     bound: &[C::V],
     label: &Point<C::V>,
     ridden: &mut Vec<RiddenLabel<C::V>>,
-) -> Result<(), AllocError>
+    count: usize,
+) -> Result<usize, AllocError>
     requires bound { (b : _) → Contains bound.now b → Admits (C.rules criterion.now) b }
     requires label { Admits (C.rules criterion.now) label.now.value }
-    ensures { OnOk result
-        (RidesLabel (C.rules criterion.now) bound.now label.now ridden.old.items ridden.new.items) }
+    requires count { count ≤ length ridden.old.items }
+    ensures { IfOk result (λ new. (new ≤ length ridden.new.items)
+        × RidesLabel (C.rules criterion.now) bound.now label.now (take count ridden.old.items)
+        (take new ridden.new.items)) }
 {
     let value = criterion.ride(&label.value);
     if any_no_worse(criterion, bound, &value) {
-        return Ok(());
+        return Ok(count);
     }
     let number = number_of(label.tag)?;
-    ridden.push(RiddenLabel {
+    let ride = RiddenLabel {
         value,
         label: number,
-    })?;
-    Ok(())
+    };
+    put_behind(ridden, count, ride)?;
+    Ok(count + 1)
 }
 
 /// Fills `ridden` with each label's value with the ride, except where a value of the bound is no worse.
@@ -93,10 +114,11 @@ pub fn ride_labels<C: Criterion>(
     ensures { OnOk result (AreRidden (C.rules criterion.now)
         (survivors (C.rules criterion.now) bound.now (label_points labels.now)) ridden.new.items) }
 {
-    ridden.clear();
+    let mut count = 0;
     for k in 0..labels.len() {
         let label = label_at(labels, k);
-        ride_label(criterion, bound, &label, ridden)?;
+        count = ride_label(criterion, bound, &label, ridden, count)?;
     }
+    ridden.truncate(count);
     Ok(())
 }
