@@ -2,21 +2,17 @@
 
 ghost use Rattle.std.specs.Prelude.{◌≡◌, ◌≢◌, ◌≤◌, ◌+◌, ◌-◌, ◌==◌, ◌∷◌, [], if◌then◌else◌, length, IfErr, IfOk};
 ghost use Rattle.std.specs.Prelude.{MatchBool, MatchOption, None, OnOk, Some};
-ghost use Rattle.std.specs.Result.{result_err};
 ghost use Rattle.std.specs.String.{string_bytes};
 ghost use Rattle.csv.specs.Records.{AllText, fields_of};
-ghost use Rattle.gtfs_rows.specs.Faults.{fault_unless};
 ghost use Rattle.gtfs_rows.specs.Tables.{IsFaultOf, of_last, shown, values_of, IsOpened};
 ghost use Rattle.gtfs_rows.specs.Positions.{line_at};
 ghost use Rattle.gtfs_rows.specs.Source.{IsFound, IsReading, IsSame, last_of, left_of, table_records};
-ghost use Rattle.gtfs_rows.specs.Values.{time_of};
 
 use crate::cells::{ColumnIndex, cell, has_required, indices, is_text};
 use crate::fault::{FaultKind, Table};
 use crate::position::{LineCount, Position};
 use crate::rows::{dated, repeated, weekly};
 use crate::stop_times::stop_time;
-use crate::values::Time;
 use csv::{ByteRecord, Reader, ReaderBuilder};
 use std::alloc::{AllocError, Global};
 
@@ -147,14 +143,6 @@ impl<'a> Records<'a> {
         ensures err { IfErr result (λ kind. kind ≡ FaultKind.OutOfMemory) }
     {
         String::from_str(alloc, self.text(column)).map_err(|_| FaultKind::OutOfMemory)
-    }
-
-    // Returns the time in a column, in seconds after the start of the service day. Blank is `BadTime` too.
-    pub(crate) fn time(&self, column: usize) -> Result<u32, FaultKind>
-        ensures ok { IfOk result (λ t. time_of (shown self.now column) ≡ Some t) }
-        ensures fault { result_err result ≡ fault_unless (time_of (shown self.now column)) FaultKind.BadTime }
-    {
-        Time::parse(self.get(column)).map_err(|_| FaultKind::BadTime)
     }
 
     /// Returns what is wrong with the record that was read last by itself, if anything is: `RowLength` if it hasn't as

@@ -14,7 +14,7 @@ use crate::fault::{FaultKind, Table};
 use crate::keyed::Row;
 use crate::limited::location;
 use crate::records::Records;
-use crate::values::{Day, number};
+use crate::values::{Day, clock_time, number};
 use std::alloc::Global;
 
 /// An agency of `agency.txt`.
@@ -321,8 +321,8 @@ pub(crate) fn repeated(records: &Records<'_>) -> Result<(u32, u32, u32), FaultKi
     ensures headway { IfOk result (λ v. number_of (shown records.now 3) ≡ Some v.2) }
     ensures fault { result_err result ≡ of_last frequency_row_fault records.now }
 {
-    let start = records.time(1)?;
-    let end = records.time(2)?;
+    let start = clock_time(records.get(1))?;
+    let end = clock_time(records.get(2))?;
     match number(records.get(3)) {
         None => Err(FaultKind::BadNumber),
         Some(0) => Err(FaultKind::BadHeadway),

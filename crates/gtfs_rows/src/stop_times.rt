@@ -17,7 +17,7 @@ use crate::read::TableFile;
 use crate::reader::{TableRows, add_row, read_table};
 use crate::records::Records;
 use crate::rows::StopTimeRow;
-use crate::values::number;
+use crate::values::{clock_time, number};
 use indexmap::IndexSet;
 use std::alloc::Global;
 
@@ -30,15 +30,15 @@ pub struct StopTimes {
     pub rows: Vec<StopTimeRow>,
 }
 
-// Returns the time in a column, in seconds after the start of the service day; none if it is blank.
-fn time_in(records: &Records<'_>, column: usize) -> Result<Option<u32>, FaultKind>
-    ensures ok { IfOk result (λ t. t ≡ given_time (shown records.now column)) }
-    ensures fault { result_err result ≡ time_fault (shown records.now column) }
+// Returns the time of a text, in seconds after the start of the service day; none if it is blank.
+fn given(text: &[u8]) -> Result<Option<u32>, FaultKind>
+    ensures ok { IfOk result (λ t. t ≡ given_time text.now) }
+    ensures fault { result_err result ≡ time_fault text.now }
 {
-    if records.get(column).is_empty() {
+    if text.is_empty() {
         return Ok(None);
     }
-    records.time(column).map(Some)
+    clock_time(text).map(Some)
 }
 
 // Returns whether a pickup_type or a drop_off_type lets passengers board or alight: any but 1 does.
@@ -74,8 +74,8 @@ pub(crate) fn stop_time(records: &Records<'_>) -> Result<(Option<u32>, Option<u3
     ensures sequence { IfOk result (λ v. number_of (shown records.now 4) ≡ Some v.2) }
     ensures fault { result_err result ≡ of_last stop_time_fault records.now }
 {
-    let arrival = time_in(records, 1)?;
-    let departure = time_in(records, 2)?;
+    let arrival = given(records.get(1))?;
+    let departure = given(records.get(2))?;
     let sequence = number(records.get(4)).ok_or(FaultKind::BadNumber)?;
     Ok((arrival, departure, sequence))
 }
@@ -89,6 +89,8 @@ struct StopTimesRead {
     last: u32,
     // for the index of each stop_id, the index of the stop_id that followed it last
     followers: Vec<u32>,
+    // whether the last guesses were right, a bit for each, the last one lowest; if two were wrong, none is tried
+    again: u8,
 }
 
 impl StopTimesRead {
@@ -104,6 +106,7 @@ impl StopTimesRead {
         let at = self.last as usize;
         self.last = stop;
         if at < self.followers.len() {
+            self.again = self.again << 1 | (self.followers[at] == stop) as u8;
             self.followers[at] = stop;
             return Ok(());
         }
@@ -123,7 +126,8 @@ impl TableRows for StopTimesRead {
     fn add(&mut self, alloc: Global, records: &Records<'_>) -> Result<(), FaultKind> {
         let (arrival, departure, sequence) = stop_time(records)?;
         let likely_trip = self.times.rows.last().map(|row| row.trip);
-        let likely_stop = self.followers.get(self.last as usize).copied();
+        let follower = self.followers.get(self.last as usize).copied();
+        let likely_stop = follower.filter(|_| self.again & 3 != 0);
         let trip = index_of(alloc, &mut self.times.trips, likely_trip, records.text(0))?;
         let stop = stop_index(alloc, &mut self.times.stops, likely_stop, records.text(3))?;
         self.follow(stop)?;
@@ -160,6 +164,7 @@ impl TableFile for StopTimes {
             },
             last: 0,
             followers: Vec::new(alloc),
+            again: 0,
         };
         read_table(read, alloc, bytes).map(|read| read.times)
     }

@@ -1,12 +1,14 @@
 //! Parses the times, dates and numbers of tables.
 
-ghost use Rattle.std.specs.Prelude.{◌≡◌, ◌==◌, ◌+◌, ◌*◌, ◌<◌, ◌≤◌, true, length, IfSome};
-ghost use Rattle.std.specs.Result.{result_ok};
+ghost use Rattle.std.specs.Prelude.{◌≡◌, ◌==◌, ◌+◌, ◌*◌, ◌<◌, ◌≤◌, true, length, IfOk, IfSome, Some};
+ghost use Rattle.std.specs.Result.{result_err, result_ok};
 ghost use Rattle.std.specs.Char.{is_ascii_digit};
 ghost use Rattle.std.specs.List.{AllPass, list_all, prefix_len};
+ghost use Rattle.gtfs_rows.specs.Faults.{fault_unless};
 ghost use Rattle.gtfs_rows.specs.Values.{clock_of, day_of, decimal_of, digit_of, is_zero_fraction, number_of, time_of};
 ghost use Rattle.gtfs_rows.specs.Values.{two_digits_of, checked_day};
 
+use crate::fault::FaultKind;
 use jiff::civil::Date;
 
 /// Parses times, in seconds after the start of the service day.
@@ -42,8 +44,15 @@ impl Time {
     }
 }
 
-// Returns hours, minutes and seconds as seconds; none if either separator isn't a colon, or minutes or seconds
-// exceed 59.
+// Returns the time of a text, in seconds after the start of the service day; `BadTime` if it isn't one, or blank.
+pub(crate) fn clock_time(text: &[u8]) -> Result<u32, FaultKind>
+    ensures ok { IfOk result (λ t. time_of text.now ≡ Some t) }
+    ensures fault { result_err result ≡ fault_unless (time_of text.now) FaultKind.BadTime }
+{
+    Time::parse(text).map_err(|_| FaultKind::BadTime)
+}
+
+// Returns hours, minutes and seconds as seconds; none if a separator isn't a colon, or minutes or seconds exceed 59.
 fn clock(
     hours: Option<u32>,
     colon: u8,

@@ -127,8 +127,25 @@ pub(crate) fn named_each<T: Copy>(
     ensures { IfOk result (λ named. named.items ≡ map (λ id. held_at names.now (string_bytes id)) ids.now.keys) }
 {
     let mut named = Vec::with_capacity(alloc, ids.len())?;
+    let mut likely = 0;
     for id in ids {
-        named.push(names.get(id.as_str()).copied())?;
+        named.push(named_near(names, &mut likely, id.as_str()))?;
     }
     Ok(named)
+}
+
+// Returns what an id names, if anything. The likely index is tried first, and becomes the one behind the id's: ids often
+// come in the order of the rows that they name.
+fn named_near<T: Copy>(names: &IndexMap<&str, T, IdHash>, likely: &mut usize, id: &str) -> Option<T>
+    ensures { result ≡ held_at names.now id.now }
+{
+    if let Some((there, name)) = names.get_index(*likely) {
+        if *there == id {
+            *likely = likely.saturating_add(1);
+            return Some(*name);
+        }
+    }
+    let (index, _, name) = names.get_full(id)?;
+    *likely = index.saturating_add(1);
+    Some(*name)
 }

@@ -9,8 +9,8 @@ use Rattle.gtfs_tables.proofs.names.named_each.Goals as goal
 pub loop-id-preserved : goal.loop-id-preserved
 loop-id-preserved g c =
     c.in_ok-push.ensures.items ∙ named-push (λ id. held_at c.args.names.now (string_bytes id.now)) c.loop-id.yielded
-    c.loop-id.named.items c.in-Some.id c.copied.result c.loop-id.invariant
-    (c.copied.ensures ∙ c.get.ensures.value ∙ ap (held_at c.args.names.now) c.as_str.ensures.value)
+    c.loop-id.named.items c.in-Some.id c.named_near.result c.loop-id.invariant
+    (c.named_near.ensures ∙ ap (held_at c.args.names.now) c.as_str.ensures.value)
 
 pub returns : goal.returns
 returns g c =
