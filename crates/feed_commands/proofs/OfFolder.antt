@@ -1,5 +1,5 @@
 -- What a command read from a folder is what that folder may hold.
-use Rattle.std.proofs.Common.{◌≡◌, ◌⊎◌, ◌∷◌, ◌++◌, ◌∙◌, [], ℕ, List, Option, Result, Ok, Err, OnOk, ap, inr, map, refl, subst, sym, take}
+use Rattle.std.proofs.Common.{◌≡◌, ◌⊎◌, ◌∷◌, ◌++◌, ◌∙◌, [], ℕ, ℤ, List, Option, Result, Ok, Err, OnOk, ap, inr, map, refl, subst, sym, take}
 use Rattle.std.specs.Prelude.{All, IfErr, IfOk}
 use Rattle.connections.specs.declared.report.Report.{Report}
 use Rattle.command_requests.specs.declared.plans.PlanText.{PlanText}
@@ -16,7 +16,7 @@ use Rattle.feed_loader.specs.Refused.{IsLoadRefusal, IsLoaded}
 use Rattle.feed_loader.specs.declared.fault.LoadFault.{LoadFault}
 use Rattle.feed_loader.specs.declared.fault.LoadFault.TheVariants as faults
 use Rattle.feed_loader.specs.declared.plan.Plan.{Plan}
-use Rattle.feed_plans.specs.Zoning.{IsPlanAsked}
+use Rattle.feed_plans.specs.Zoning.{IsPlanAskedBy}
 use Rattle.gtfs_rows.specs.declared.fault.Table.{Table}
 use Rattle.gtfs_tables.specs.declared.tables.Tables.{Tables}
 use Rattle.timetable.specs.NamesValue.{NamesValue}
@@ -82,12 +82,12 @@ module _ {D : Type 0} (gives : Gives D) (disk : D) (state : Option NodeState) (f
         (subst (λ at. AreRead content all_tables (opened at ∷ old) (opened then ∷ new)) same read) given,
   )
 
-  pub built_of : (zone_file : List ℕ → Option (List ℕ) → Type 0) (asked : PlanText) (plan : Plan) (t : TimetableValue) (names : NamesValue)
-      (report : Report) → began ≡ folder → IsPlanAsked zone_file asked plan → ∥ All (MayBeRead (gives disk then state)) new ∥₁
+  pub built_of : (zone_file : List ℕ → Option (List ℕ) → Type 0) (may_show : Option ℤ → Type 0) (asked : PlanText) (plan : Plan) (t : TimetableValue)
+      (names : NamesValue) (report : Report) → began ≡ folder → IsPlanAskedBy zone_file may_show asked plan → ∥ All (MayBeRead (gives disk then state)) new ∥₁
       → (content : Content) × AreRead content all_tables (opened began ∷ old) (opened then ∷ new)
       × IsLoaded content plan t names report
-      → IsBuiltFrom gives folder zone_file asked t names report
-  built_of zone_file asked plan t names report same planned given (content, read, loaded) =
+      → IsBuiltFrom gives folder zone_file may_show asked t names report
+  built_of zone_file may_show asked plan t names report same planned given (content, read, loaded) =
       (plan, content, planned, may_be_of content same read given, loaded)
 
   -- if nothing was read at first, and then the first files were
@@ -111,15 +111,16 @@ module _ {D : Type 0} (gives : Gives D) (disk : D) (state : Option NodeState) (f
       }
 
   -- why a feed isn't built, if nothing was read at first
-  pub build_refused : {T : Type 0} (known : Holds) (zone_file : List ℕ → Option (List ℕ) → Type 0) (result : Result T BuildFailure) (asked : PlanText)
-      (plan : Plan) (names since : List (List ℕ)) → began ≡ folder → old ≡ [] → names ≡ [] → IsPlanAsked zone_file asked plan
+  pub build_refused : {T : Type 0} (known : Holds) (zone_file : List ℕ → Option (List ℕ) → Type 0) (may_show : Option ℤ → Type 0)
+      (result : Result T BuildFailure) (asked : PlanText) (plan : Plan) (names since : List (List ℕ)) → began ≡ folder → old ≡ [] → names ≡ []
+      → IsPlanAskedBy zone_file may_show asked plan
       → ∥ All (MayBeRead (gives disk then state)) new ∥₁ → ∥ All (MayFail (gives disk then state)) since ∥₁
       → IfErr result (λ failure. IfRefused failure (λ fault. SomeWereRead (opened began ∷ old) (opened then ∷ new)
       × (since ≡ failed_as names fault) × ((content : Content)
       → Tells known content ⊎ ((ts : List Table) × AreRead content ts (opened began ∷ old) (opened then ∷ new)) → IsLoadRefusal content plan fault)))
-      → IfErr result (λ failure. IfRefused failure (IsBuildRefusal gives folder zone_file asked))
-  build_refused known zone_file (Ok built) asked plan names since same none whole planned given unread is = tt
-  build_refused known zone_file (Err failure) asked plan names since same none whole planned given unread is =
+      → IfErr result (λ failure. IfRefused failure (IsBuildRefusal gives folder zone_file may_show asked))
+  build_refused known zone_file may_show (Ok built) asked plan names since same none whole planned given unread is = tt
+  build_refused known zone_file may_show (Err failure) asked plan names since same none whole planned given unread is =
       refused_weaker failure _ _ (λ fault read. inr (
         plan,
         planned,

@@ -1,5 +1,5 @@
 -- The image that `csa build` makes, and what it prints of it.
-use Rattle.std.specs.Prelude.{◌≡◌, Bool, false, true, List, ℕ, ◌++◌, Option, codes, decimal}
+use Rattle.std.specs.Prelude.{◌≡◌, Bool, false, true, List, ℕ, ℤ, ◌++◌, Option, codes, decimal}
 use Rattle.connections.specs.declared.report.Report.{Report}
 use Rattle.feed_loader.specs.Refused.{IsWantOfMemory}
 use Rattle.feed_loader.specs.declared.fault.LoadFault.{LoadFault}
@@ -55,8 +55,8 @@ report_asked true report = report_json report
 report_asked false report = report_line report
 
 -- the image of the folder's files was put at the path that was asked for, and the text has its counts
-abbrev pub IsReport : {D : Type 0} → Gives D → (List ℕ → Option (List ℕ) → Type 0) → OutFiles → BuildRequest → List ℕ → Type 0
-IsReport gives may_hold disk request text =
+abbrev pub IsReport : {D : Type 0} → Gives D → (List ℕ → Option (List ℕ) → Type 0) → (Option ℤ → Type 0) → OutFiles → BuildRequest → List ℕ → Type 0
+IsReport gives may_hold may_show disk request text =
     (t : TimetableValue) × (names : NamesValue) × (report : Report)
-    × IsBuiltFrom gives request.folder.now may_hold request.plan t names report × IsImagePut disk request.out.now t names
+    × IsBuiltFrom gives request.folder.now may_hold may_show request.plan t names report × IsImagePut disk request.out.now t names
     × (text ≡ report_asked request.json report)

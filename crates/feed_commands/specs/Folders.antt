@@ -1,5 +1,5 @@
 -- What a command reads from a folder.
-use Rattle.std.specs.Prelude.{◌⊎◌, ℕ, List, [], All, Bool, Err, Option, false, true}
+use Rattle.std.specs.Prelude.{◌⊎◌, ℕ, ℤ, List, [], All, Bool, Err, Option, false, true}
 use Rattle.connections.specs.declared.report.Report.{Report}
 use Rattle.feed_days.specs.Days.{AreDayLines, IsDaysJson}
 use Rattle.feed_files.specs.Files.{FileRead, Gives, MayBeRead, MayFail}
@@ -10,7 +10,7 @@ use Rattle.feed_loader.specs.Faults.{failed_by}
 use Rattle.feed_loader.specs.Refused.{AreFilesRefused, AreTablesRefused, IsLoadRefusal, IsLoaded}
 use Rattle.feed_loader.specs.declared.fault.LoadFault.{LoadFault}
 use Rattle.feed_loader.specs.declared.plan.Plan.{Plan}
-use Rattle.feed_plans.specs.Zoning.{IsNoZoneOf, IsPlanAsked}
+use Rattle.feed_plans.specs.Zoning.{IsNoZoneOf, IsPlanAskedBy}
 use Rattle.gtfs_rows.specs.declared.fault.Table.{Table}
 use Rattle.command_requests.specs.declared.plans.PlanText.{PlanText}
 use Rattle.gtfs_tables.specs.Feeds.{IsJoined}
@@ -69,12 +69,13 @@ module _ {D : Type 0} (gives : Gives D) (folder : List ℕ) where
   abbrev pub IsRefusalBy : Plan → LoadFault → Type 0
   IsRefusalBy plan fault = HoldsOfRead gives folder (failed_as [] fault) (λ content. IsLoadRefusal content plan fault)
 
-  module _ (may_hold : List ℕ → Option (List ℕ) → Type 0) where
-    -- the timetable, its names and the counts are those of the folder's files, by the plan that was asked for; `may_hold` says what the zone's file may hold
+  -- `may_hold` says what the zone's file may hold, and `may_show` what the clock may show
+  module _ (may_hold : List ℕ → Option (List ℕ) → Type 0) (may_show : Option ℤ → Type 0) where
+    -- the timetable, its names and the counts are those of the folder's files, by the plan that was asked for
     abbrev pub IsBuiltFrom : PlanText → TimetableValue → NamesValue → Report → Type 0
     IsBuiltFrom asked t names report =
-        (plan : Plan) × (content : Content) × IsPlanAsked may_hold asked plan × MayBeOf content × IsLoaded content plan t names report
+        (plan : Plan) × (content : Content) × IsPlanAskedBy may_hold may_show asked plan × MayBeOf content × IsLoaded content plan t names report
 
     -- the fault is that of the zone that was asked for, or the first of the folder's files by the plan that was asked for
     abbrev pub IsBuildRefusal : PlanText → LoadFault → Type 0
-    IsBuildRefusal asked fault = IsNoZoneOf may_hold asked fault ⊎ ((plan : Plan) × IsPlanAsked may_hold asked plan × IsRefusalBy plan fault)
+    IsBuildRefusal asked fault = IsNoZoneOf may_hold asked fault ⊎ ((plan : Plan) × IsPlanAskedBy may_hold may_show asked plan × IsRefusalBy plan fault)

@@ -21,7 +21,7 @@ use command_endings::status;
 use command_requests::BuildRequest;
 use feed_files::{Disk, FeedFiles, FolderFiles};
 use feed_loader::{LoadFault, Plan, Report};
-use feed_plans::{PlanFailure, plan_of};
+use feed_plans::{PlanFailure, WallClock, plan_of};
 use image_files::{ImageDisk, OutDisk, put_image};
 use std::alloc::{AllocError, Global};
 use std::io::{ErrorKind, Write};
@@ -44,7 +44,7 @@ enum BuildFailure<'a> {
 /// `warnings` is set, and progress, if the request asks for it or `is_terminal` is set. Returns `ACCEPTED`, `REFUSED`,
 /// `INPUT_OUTPUT` if a file or a line can't be read or written, or `OUT_OF_MEMORY`, with nothing printed to `output`.
 pub fn run<
-    H: OutDisk + ImageDisk<Image = H::File> + Disk + AllocGlobal + Clock,
+    H: OutDisk + ImageDisk<Image = H::File> + Disk + AllocGlobal + Clock + WallClock,
     O: Write,
     E: Write,
 >(
@@ -55,9 +55,10 @@ pub fn run<
     is_terminal: bool,
     warnings: bool,
 ) -> u8
-    ensures { IsOutcome (PrintsOfFeed (IsReport H.gives (H.may_hold rt.now) (H.files rt.now) request.entry)
-        (IsBuildRefusal H.gives request.entry.folder.now (H.may_hold rt.now) request.entry.plan)) result
-        (O.contents output.old) (O.contents output.new) }
+    ensures { IsOutcome (PrintsOfFeed
+        (IsReport H.gives (H.may_hold rt.now) (H.may_show rt.now) (H.files rt.now) request.entry)
+        (IsBuildRefusal H.gives request.entry.folder.now (H.may_hold rt.now) (H.may_show rt.now) request.entry.plan))
+        result (O.contents output.old) (O.contents output.new) }
 {
     let alloc = rt.alloc();
     let folder = request.folder;
@@ -85,19 +86,23 @@ pub fn run<
 }
 
 // Builds the image and writes it, and reports progress to `log`, if there is one.
-fn build<'a, 'c, H: OutDisk + ImageDisk<Image = H::File> + Disk + AllocGlobal + Clock, E: Write>(
+fn build<
+    'a,
+    'c,
+    H: OutDisk + ImageDisk<Image = H::File> + Disk + AllocGlobal + Clock + WallClock,
+    E: Write,
+>(
     rt: &'c H,
     request: &BuildRequest<'a>,
     log: Option<&'c mut E>,
     is_terminal: bool,
 ) -> Result<BuiltImage, BuildFailure<'a>>
     ensures built { IfOk result (λ built. IsBuiltFrom H.gives request.now.folder.now (H.may_hold rt.now)
-        request.now.plan
-        built.image.timetable built.image.names built.report) }
+        (H.may_show rt.now) request.now.plan built.image.timetable built.image.names built.report) }
     ensures put { IfOk result (λ built. IsImagePut (H.files rt.now) request.now.out.now built.image.timetable
         built.image.names) }
     ensures refused { IfErr result (λ failure. IfRefused failure
-        (IsBuildRefusal H.gives request.now.folder.now (H.may_hold rt.now) request.now.plan)) }
+        (IsBuildRefusal H.gives request.now.folder.now (H.may_hold rt.now) (H.may_show rt.now) request.now.plan)) }
 {
     let plan = match plan_of(rt, &request.plan) {
         Ok(plan) => plan,

@@ -57,7 +57,3 @@ pub record IsPlan (asked : PlanText) (bytes : List ℕ) (instant : Option ℤ) (
 -- the plan that is asked for, made at what the clock may show when it is read
 abbrev pub IsPlanBy : (Option ℤ → Type 0) → PlanText → List ℕ → Plan → Type 0
 IsPlanBy may_show asked bytes plan = ∥ ((instant : Option ℤ) × may_show instant × IsPlan asked bytes instant plan) ∥₁
-
--- .. by a clock of which nothing is known
-abbrev pub IsPlanNow : PlanText → List ℕ → Plan → Type 0
-IsPlanNow asked bytes plan = IsPlanBy (λ instant. Unit {0}) asked bytes plan

@@ -39,10 +39,6 @@ module _ (may_hold : List ℕ → Option (List ℕ) → Type 0) where
   abbrev pub IsPlanAskedBy : (Option ℤ → Type 0) → PlanText → Plan → Type 0
   IsPlanAskedBy may_show asked plan = (bytes : List ℕ) × AreZoneBytes asked.zone bytes × IsPlanBy may_show asked bytes plan
 
-  -- .. by a clock of which nothing is known
-  abbrev pub IsPlanAsked : PlanText → Plan → Type 0
-  IsPlanAsked asked plan = IsPlanAskedBy (λ instant. Unit {0}) asked plan
-
   -- the fault is that of the zone that was asked for, with the bytes of its file
   abbrev pub IsNoZoneOf : PlanText → LoadFault → Type 0
   IsNoZoneOf asked fault =

@@ -12,7 +12,7 @@ returns-clause-built g c =
     let same : began.folder.now ≡ asked.folder.now = search rules in
     IfOk-weaker c.build_reported-built.result _ _ (λ built is.
     built_of g.H.Disk.gives then.disk.now then.state asked.folder.now began.folder.now then.folder.now began.reads then.reads
-    (g.H.ImageDisk.may_hold c.args.rt.now) asked.plan c.in-Ok.plan built.image.timetable built.image.names built.report
+    (g.H.ImageDisk.may_hold c.args.rt.now) (g.H.WallClock.may_show c.args.rt.now) asked.plan c.in-Ok.plan built.image.timetable built.image.names built.report
     same c.in-Ok.ensures.plan then.given is) c.build_reported-built.ensures.built
 
 pub returns-clause-refused : goal.returns-clause-refused
@@ -24,6 +24,7 @@ returns-clause-refused g c =
     let unread : began.reads ≡ [] = search rules in
     let whole : began.failed ≡ [] = search rules in
     build_refused g.H.Disk.gives then.disk.now then.state asked.folder.now began.folder.now then.folder.now began.reads then.reads
-    (λ name. None) (g.H.ImageDisk.may_hold c.args.rt.now) c.build_reported-built.result asked.plan c.in-Ok.plan began.failed then.failed
+    (λ name. None) (g.H.ImageDisk.may_hold c.args.rt.now) (g.H.WallClock.may_show c.args.rt.now) c.build_reported-built.result
+    asked.plan c.in-Ok.plan began.failed then.failed
     same unread whole c.in-Ok.ensures.plan then.given then.unread
     c.build_reported-built.ensures.refused

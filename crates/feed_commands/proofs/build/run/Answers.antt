@@ -15,24 +15,27 @@ pub returns-after-warnings : goal.returns-after-warnings
 returns-after-warnings g c =
     let gives = g.H.Disk.gives in
     let may_hold = g.H.ImageDisk.may_hold c.args.rt.now in
+    let may_show = g.H.WallClock.may_show c.args.rt.now in
     let disk = g.H.OutDisk.files c.args.rt.now in
     let request = c.args.request in
     let built = c.in-Ok.built in
     let done = c.in-Ok.ensures in
     outcome_of (PrintsOnly (λ text. text ≡ report_asked request.json built.report))
-    (PrintsOfFeed (IsReport gives may_hold disk request) (IsBuildRefusal gives request.folder.now may_hold request.plan)) _ _ _
+    (PrintsOfFeed (IsReport gives may_hold may_show disk request) (IsBuildRefusal gives request.folder.now may_hold may_show request.plan)) _ _ _
     (λ s text is. inl (is.0, (built.image.timetable, built.image.names, built.report, done.built, done.put, is.1))) c.print_counts.ensures
 
 pub returns-in-Err-Refused : goal.returns-in-Err-Refused
 returns-in-Err-Refused g c =
     let gives = g.H.Disk.gives in
     let may_hold = g.H.ImageDisk.may_hold c.args.rt.now in
+    let may_show = g.H.WallClock.may_show c.args.rt.now in
     let request = c.args.request in
     let figures = c.in-Err-Refused in
-    let unbuilt = subst (λ (failure : BuildFailure). IfRefused failure (IsBuildRefusal gives request.folder.now may_hold request.plan))
+    let unbuilt = subst (λ (failure : BuildFailure). IfRefused failure (IsBuildRefusal gives request.folder.now may_hold may_show request.plan))
     figures.field-0-is figures.ensures.refused in
-    let passed = subst (λ (fault : LoadFault). ¬ (IsWantOfMemory fault) → IsBuildRefusal gives request.folder.now may_hold request.plan fault)
+    let passed = subst (λ (fault : LoadFault). ¬ (IsWantOfMemory fault) → IsBuildRefusal gives request.folder.now may_hold may_show request.plan fault)
     (sym figures.fault-is) unbuilt in
     let done = c.refuse_feed.ensures in
-    feed_refused (IsReport gives may_hold (g.H.OutDisk.files c.args.rt.now) request) (IsBuildRefusal gives request.folder.now may_hold request.plan)
+    let disk = g.H.OutDisk.files c.args.rt.now in
+    feed_refused (IsReport gives may_hold may_show disk request) (IsBuildRefusal gives request.folder.now may_hold may_show request.plan)
     _ _ _ _ passed done.status done.memory done.refused done.printed done.silent done.begun
