@@ -1,8 +1,8 @@
 mod FeedNames
-mod HelpEnds
 mod Hosted
 mod NewSeats
 mod OverImages
 mod ServerEnds
+mod TextEnds
 mod CountedOff
 mod ServedEnds

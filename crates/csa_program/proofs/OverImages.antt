@@ -1,5 +1,5 @@
 -- What a command prints over the image that was opened.
-use Rattle.std.proofs.Common.{◌≡◌, ◌≢◌, ◌⊎◌, ℕ, List, Option, arith, codes, inl, inr, subst}
+use Rattle.std.proofs.Common.{◌≡◌, ℕ, List, Option, arith, inl, inr, subst}
 use Rattle.image_files.specs.Held.{HoldsOfBytes}
 use Rattle.image_files.specs.Out.{OutFiles}
 use Rattle.image_layout.specs.Image.{ImageValue}

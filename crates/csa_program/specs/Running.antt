@@ -1,5 +1,5 @@
 -- What `csa` prints and writes, and with which status it ends.
-use Rattle.std.specs.Prelude.{◌≡◌, ◌≢◌, ◌⊎◌, ◌<◌, ℕ, ℤ, List, Option, Result, Ok, Err, codes, string_bytes}
+use Rattle.std.specs.Prelude.{◌≡◌, ◌≢◌, ◌⊎◌, ◌<◌, ℕ, ℤ, List, Option, Result, Ok, Err, string_bytes}
 use Rattle.std.specs.Io.KnownBytes.{Appends}
 use Rattle.feed_files.specs.Files.{Gives}
 use Rattle.image_files.specs.Held.{HoldsOfBytes}
@@ -27,9 +27,9 @@ use Rattle.feed_commands.specs.Tabling.{IsCounts}
 use Rattle.image_commands.specs.declared.asked.ImageRequest.TheVariants as images
 use Rattle.csa_program.specs.Serving.{IsEndAt}
 
--- help was printed, or a write failed once a first part of it was
-abbrev pub IsHelpEnd : List ℕ → ℕ → Option (List ℕ) → Option (List ℕ) → Type 0
-IsHelpEnd text status before after =
+-- a text was printed, or a write failed once a first part of it was
+abbrev pub IsTextEnd : List ℕ → ℕ → Option (List ℕ) → Option (List ℕ) → Type 0
+IsTextEnd text status before after =
     ((status ≡ ACCEPTED) × Appends before after text) ⊎ ((status ≡ INPUT_OUTPUT) × IsBegun before after text)
 
 -- a table over the image at its path ended so; `may_hold` says what a file at a path may hold, and the path `-` is the input
@@ -99,7 +99,7 @@ module _ {D : Type 0} (may_hold : List ℕ → Option (List ℕ) → Type 0) (gi
   IsEnd (requests.Stations request) =
       IsOutcome (PrintsOfFeed (IsTextOf gives request.folder.now request) (IsStopsRefusal gives request.folder.now))
   IsEnd (requests.Build request) =
-      IsOutcome (PrintsOfFeed (IsReport gives may_hold disk request) (IsBuildRefusal gives request.folder.now may_hold request.plan))
+      IsOutcome (PrintsOfFeed (IsReport gives may_hold may_show disk request) (IsBuildRefusal gives request.folder.now may_hold may_show request.plan))
   IsEnd (requests.Stops request) = IsOutcome (PrintsOver may_hold request.image.now input (λ i. PrintsAsked may_hold disk i (images.Stops request)))
   IsEnd (requests.Upgrade request) = IsOutcome (PrintsOver may_hold request.image.now input (λ i. PrintsAsked may_hold disk i (images.Upgrade request)))
   IsEnd (requests.Serve request) = IsServeEnd may_hold may_show input request
@@ -107,6 +107,6 @@ module _ {D : Type 0} (may_hold : List ℕ → Option (List ℕ) → Type 0) (gi
   -- a command line ended so: the request that it makes, or the help; or it makes none, or memory ran out, and nothing was printed
   abbrev pub IsEndOf : Result CommandRequest NoCommand → ℕ → Option (List ℕ) → Option (List ℕ) → Type 0
   IsEndOf (Ok request) = IsEnd request
-  IsEndOf (Err (Help text)) = IsHelpEnd (string_bytes text)
+  IsEndOf (Err (Help text)) = IsTextEnd (string_bytes text)
   IsEndOf (Err (Mistake text)) = λ status before after. (status ≡ COMMAND_LINE) × (after ≡ before)
   IsEndOf (Err OutOfMemory) = λ status before after. (status ≡ OUT_OF_MEMORY) × (after ≡ before)

@@ -1,15 +1,13 @@
 //! The body of the program `csa`: words, a reader and two writers in, an exit status out.
 #![tactic(auto)]
 
-ghost use Rattle.std.specs.Prelude.{◌≡◌, ◌⊎◌, ◌++◌, Result, codes, map};
-ghost use Rattle.std.specs.Io.KnownBytes.{Appends};
-ghost use Rattle.command_requests.specs.declared.statuses.TheConstants.{ACCEPTED, INPUT_OUTPUT};
+ghost use Rattle.std.specs.Prelude.{◌++◌, Result, codes, map};
 ghost use Rattle.command_line.specs.declared.reading.NoCommand.{NoCommand};
 ghost use Rattle.command_requests.specs.declared.requests.CommandRequest.{CommandRequest};
 ghost use Rattle.image_commands.specs.Commands.{PrintsAsked, PrintsDepartures, PrintsProfile, path_of};
 ghost use Rattle.command_endings.specs.Ending.{IsOutcome};
 ghost use Rattle.image_commands.specs.Opening.{PrintsOver};
-ghost use Rattle.csa_program.specs.Running.{IsEnd, IsEndOf, IsTableEnd};
+ghost use Rattle.csa_program.specs.Running.{IsEnd, IsEndOf, IsTableEnd, IsTextEnd};
 
 mod accepting;
 mod asking;
@@ -72,7 +70,8 @@ pub fn run<
         is_terminal: errors.is_terminal(),
         warnings: wants_warnings(words),
     };
-    let asked = rt.asked(words);
+    let mut line = Vec::new(rt.alloc());
+    let asked = rt.asked(words, &mut line);
     let status = run_read(rt, words, asked, input, output, errors, notes);
     if status == status::OUT_OF_MEMORY {
         explain(errors, &[NO_MEMORY]);
@@ -87,16 +86,26 @@ const NO_MEMORY: &str = "csa: out of memory";
 /// Prints the checksum of the program's sources, below its version. The status is 0, or 3 if the line can't be written:
 /// `errors` says why, as for a command. It takes no memory.
 pub fn print_sources<O: Watched, E: Write>(sources: &str, output: &mut O, errors: &mut E) -> u8
-    ensures status { (result ≡ ACCEPTED) ⊎ (result ≡ INPUT_OUTPUT) }
-    ensures printed { result ≡ ACCEPTED → Appends (O.Write.contents output.old) (O.Write.contents output.new)
-        (codes "sources " ++ sources.now ++ codes "\n") }
+    ensures { IsTextEnd ((codes "sources " ++ sources.now) ++ codes "\n") result
+        (O.Write.contents output.old) (O.Write.contents output.new) }
 {
-    let status = match write!(output, "sources {sources}\n") {
-        Ok(()) => status::ACCEPTED,
-        Err(_) => status::INPUT_OUTPUT,
-    };
+    let status = put_sources(sources, output);
     explain_unwritten(errors, output.fault());
     status
+}
+
+// Prints the line of the checksum, part by part.
+fn put_sources<O: Write>(sources: &str, output: &mut O) -> u8
+    ensures { IsTextEnd ((codes "sources " ++ sources.now) ++ codes "\n") result
+        (O.contents output.old) (O.contents output.new) }
+{
+    if status::write_text(output, "sources ", status::ACCEPTED) != status::ACCEPTED {
+        return status::INPUT_OUTPUT;
+    }
+    if status::write_text(output, sources, status::ACCEPTED) != status::ACCEPTED {
+        return status::INPUT_OUTPUT;
+    }
+    status::write_text(output, "\n", status::ACCEPTED)
 }
 
 /// Says why the words of a command line can't be had. The status with which the program ends tells it: memory ran out,

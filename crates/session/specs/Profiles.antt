@@ -45,12 +45,20 @@ pub record IsProfileReply (form : ReplyForm) (image : ImageValue) (version : ℕ
   pub accepted : HasImage image.timetable image.names
   pub replied : (IsNoQuery image ask reply ⊎ IsTooLong form image ask reply) ⊎ AnswersQuery form image version ask reply
 
--- memory ran out, and the reply says so: nothing was read, or of the window of the query that is asked a first part, from the last connection on
-pub record BreaksOff (image : ImageValue) (ask : AskValue) (reply : ReplyValue) : Type 0 where
+-- of the window of the query that is asked, which isn't too long, a first part was read, from the last connection on
+pub record ReadsPart (form : ReplyForm) (image : ImageValue) (ask : AskValue) (read : List ℕ) : Type 0 where
+  pub query : SetQueryValue
+  pub can_be : IsAskableBetween image.timetable.stops query
+  pub asked : AsksBetween image.names ask.from ask.to (window_of ask) query
+  pub short : ¬ (IsLonger form.longest (ask.by - ask.after))
+  pub count : ℕ
+  pub read_is : read ≡ take count (reverse (window_between image.timetable query))
+
+-- memory ran out, and the reply says so: nothing was read, or a first part
+pub record BreaksOff (form : ReplyForm) (image : ImageValue) (ask : AskValue) (reply : ReplyValue) : Type 0 where
   pub text_is : reply.text ≡ memory_line
-  pub part : (reply.read ≡ []) ⊎ ((query : SetQueryValue) × AsksBetween image.names ask.from ask.to (window_of ask) query
-      × ((n : ℕ) × (reply.read ≡ take n (reverse (window_between image.timetable query)))))
+  pub part : (reply.read ≡ []) ⊎ ReadsPart form image ask reply.read
 
 -- the request is replied to, or memory ran out
 abbrev pub RepliesToProfile : ReplyForm → ImageValue → ℕ → AskValue → ReplyValue → Type 0
-RepliesToProfile form image version ask reply = IsProfileReply form image version ask reply ⊎ BreaksOff image ask reply
+RepliesToProfile form image version ask reply = IsProfileReply form image version ask reply ⊎ BreaksOff form image ask reply

@@ -24,8 +24,8 @@ use std::thread::Threads;
 
 /// Serves all clients and loads the feeds that they order, as [`run_workers`] does, at shelves without a lock.
 ///
-/// This contract is the headline of the program, except for what a scan reads: that is a clause of
-/// `station_answers::answer_between`. Each clause is one name of `specs/Headline.antt`, `Sessions` or `epochs`:
+/// This contract is the headline of the program. Each clause is one name of `specs/Headline.antt`, `Sessions` or
+/// `epochs`:
 ///
 /// - `ready`: 1 to 16 seats and the loader's are of these shelves.
 /// - `closes`: a client's reader and writer may be closed after whatever sessions are served from the first on at one
@@ -35,8 +35,9 @@ use std::thread::Threads;
 ///   source, or no further one comes.
 /// - `served`: each client who came was dealt to exactly one worker and had one session at its seat, unless it couldn't
 ///   be opened. Each line that was read has its reply, up to where the session ended. Each profile is answered exactly,
-///   over the image that was published as the version that the reply names; or the reply says why it isn't: memory ran
-///   out, no version could be pinned, or the profile or its window can't be asked of that image.
+///   over the image that was published as the version that the reply names, and for it each connection of the window
+///   was read once, which is noted with the reply; or the reply says why it isn't: memory ran out, no version could be
+///   pinned, or the profile or its window can't be asked of that image.
 /// - `loaded`: the loader took exactly the orders that the sessions put, each once, and carried out each. Each image
 ///   that it published is that of the bytes that the files of the ordered feed gave.
 /// - `pinned`: no image is collected while a seat of these shelves has it pinned.

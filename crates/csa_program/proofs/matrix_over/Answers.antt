@@ -1,4 +1,3 @@
-use Rattle.std.proofs.Common.{rules}
 use Rattle.csa_program.proofs.OverImages.{table_over, no_table}
 use Rattle.csa_program.proofs.matrix_over.Goals as goal
 

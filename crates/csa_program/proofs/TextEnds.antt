@@ -1,0 +1,49 @@
+-- How the printing of a text ends.
+use Rattle.std.proofs.Common.{◌≡◌, ◌≢◌, ◌+◌, ◌++◌, ◌∙◌, ◌⊎◌, ℕ, List, Option, arith, inl, inr, length, subst, sym, take}
+use Rattle.std.proofs.KnownBytes.{Appends-trans}
+use Rattle.std.proofs.Math.Seq.{take-append-add}
+use Rattle.std.proofs.lemmas.Bool.{cases_lt}
+use Rattle.std.proofs.lemmas.List.{take-append-le, take_all}
+use Rattle.std.specs.Io.KnownBytes.{Appends}
+use Rattle.command_endings.specs.Ending.{IsBegun}
+use Rattle.command_requests.specs.declared.statuses.TheConstants.{ACCEPTED, INPUT_OUTPUT}
+use Rattle.csa_program.specs.Running.{IsTextEnd}
+
+-- the text that was written is the one that is wanted
+pub text_told : (wanted : List ℕ) (status : ℕ) (text : List ℕ) (before after : Option (List ℕ)) → text ≡ wanted
+    → (status ≡ ACCEPTED) ⊎ (status ≡ INPUT_OUTPUT) → (status ≢ INPUT_OUTPUT → Appends before after text) → IsBegun before after text
+    → IsTextEnd wanted status before after
+text_told wanted status text before after same (inl e) whole begun =
+    inl (e, subst (Appends before after) same (whole (λ failed. omega (arith, e, failed))))
+text_told wanted status text before after same (inr e) whole begun = inr (e, subst (IsBegun before after) same begun)
+
+-- a first part of a text is one of a longer text
+pub begun_first : (before after : Option (List ℕ)) (u v : List ℕ) → IsBegun before after u → IsBegun before after (u ++ v)
+begun_first before after u v part = elim (cases_lt part.count (length u)) [
+  | inl less ↦ record {
+    count = part.count;
+    added = subst (Appends before after) (sym (take-append-le part.count u v (omega arith))) part.added;
+  }
+  | inr more ↦ record {
+    count = length u;
+    added = subst (Appends before after)
+        (take_all part.count u more ∙ sym (take_all (length u) u (omega arith)) ∙ sym (take-append-le (length u) u v (omega arith))) part.added;
+  }
+]
+
+-- a text was printed, and then a first part of another
+pub begun_then : (before then after : Option (List ℕ)) (u v : List ℕ) → Appends before then u → IsBegun then after v
+    → IsBegun before after (u ++ v)
+begun_then before then after u v whole part = record {
+  count = length u + part.count;
+  added = subst (Appends before after) (sym (take-append-add u v part.count))
+      (Appends-trans before then after u (take part.count v) whole part.added);
+}
+
+-- .. or the whole of it
+pub text_told_behind : (before then after : Option (List ℕ)) (u v : List ℕ) (status : ℕ) → Appends before then u
+    → (status ≡ ACCEPTED) ⊎ (status ≡ INPUT_OUTPUT) → (status ≢ INPUT_OUTPUT → Appends then after v) → IsBegun then after v
+    → IsTextEnd (u ++ v) status before after
+text_told_behind before then after u v status first (inl e) whole begun =
+    inl (e, Appends-trans before then after u v first (whole (λ failed. omega (arith, e, failed))))
+text_told_behind before then after u v status first (inr e) whole begun = inr (e, begun_then before then after u v first begun)
