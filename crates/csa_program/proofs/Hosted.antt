@@ -10,7 +10,6 @@ use Rattle.epochs.specs.ShelfLoads.{ShelfLoaderValue}
 use Rattle.epochs.specs.ShelfSeats.{NoticeValue, SeatsHanded, ShelfSeatValue}
 use Rattle.epochs.specs.ShelfWords.{shelf_seats}
 use Rattle.image_layout.specs.Image.{ImageValue}
-use Rattle.lines.specs.Streams.{StreamWords}
 use Rattle.session.specs.declared.reply_form.ReplyForm.{ReplyForm}
 use Rattle.workers.specs.Ends.{Session}
 use Rattle.workers.specs.Headline.{IsRunAt, ServerInput, server_input_of}
@@ -18,22 +17,21 @@ use Rattle.workers.specs.Words.{ClientWords, LoadWords, SessionWords, SourceWord
 use Rattle.workers.specs.declared.outcome.ServingOutcome.{ServingOutcome}
 
 -- a run whose replies have the form that is wanted
-pub in_form : {C R W K F D : Type 0} (clients : ClientWords C R W) (reads : StreamWords R) (writes : StreamWords W)
+pub in_form : {C R W K F D : Type 0} (clients : ClientWords C R W) (unread : R → Option (List ℕ)) (written : W → Option (List ℕ))
     (source : SourceWords K C) (loads : LoadWords F D TableId ShelfLoaderValue NoticeValue) (form wanted : ReplyForm)
     (input : ServerInput K TableId ShelfSeatValue ShelfLoaderValue F) (ran : ServingOutcome R W K ShelfSeatValue ShelfLoaderValue NoticeValue D)
-    → form ≡ wanted → IsRunAt (sessions_of form clients reads writes shelf_seats) source loads input ran
-    → IsRunAt (sessions_of wanted clients reads writes shelf_seats) source loads input ran
-in_form clients reads writes source loads form wanted input ran same run =
-    subst (λ (f : ReplyForm). IsRunAt (sessions_of f clients reads writes shelf_seats) source loads input ran) same run
+    → form ≡ wanted → IsRunAt (sessions_of form clients unread written shelf_seats) source loads input ran
+    → IsRunAt (sessions_of wanted clients unread written shelf_seats) source loads input ran
+in_form clients unread written source loads form wanted input ran same run =
+    subst (λ (f : ReplyForm). IsRunAt (sessions_of f clients unread written shelf_seats) source loads input ran) same run
 
 module _ {C R W K F D : Type 0} (words : ReplyForm → SessionWords C R W TableId ShelfSeatValue NoticeValue) (source : SourceWords K C)
     (loads : LoadWords F D TableId ShelfLoaderValue NoticeValue) (keeps : ServeRequest → K → Type 0) (has_failed : K → Bool)
     (are_feeds : ServeRequest → List ℕ → F → Type 0) (request : ServeRequest) (image : ImageValue) (zone_bytes : List ℕ) where
   -- the run of a server that began with these clients, shelves and feeds, and had these sessions
-  pub hosted_run : (table : TableId) (seats : List ShelfSeatValue) (loader : ShelfLoaderValue) (clients left : K) (feeds : F)
-      (sessions : List (Session R W ShelfSeatValue)) (ends : SessionCounts) (is_deaf : Bool)
-      → loader ≡ first_loader table image → SeatsHanded table request.workers.number seats → source.came clients ≡ [] → keeps request clients
-      → are_feeds request zone_bytes feeds
+  pub hosted_run : (table : TableId) (seats : List ShelfSeatValue) (loader : ShelfLoaderValue) (clients left : K) (feeds : F) (sessions : List (Session R W))
+      (ends : SessionCounts) (is_deaf : Bool) → loader ≡ first_loader table image → SeatsHanded table request.workers.number seats
+      → source.came clients ≡ [] → keeps request clients → are_feeds request zone_bytes feeds
       → IsRunOf {D = D} (IsRunAt (words (form_asked request)) source loads (server_input_of clients table seats loader feeds)) sessions left
       → AreAsMany request.sessions (length sessions) (has_failed left) → ends ≡ counts_of sessions → is_deaf ≡ has_failed left
       → IsHosted words source loads keeps has_failed are_feeds request image zone_bytes ends is_deaf
@@ -48,8 +46,8 @@ module _ {C R W K F D : Type 0} (words : ReplyForm → SessionWords C R W TableI
     kept = kept;
     asked = asked;
     run = subst (λ (l : ShelfLoaderValue). IsRunAt (words (form_asked request)) source loads (server_input_of clients table seats l feeds) ran) first run;
-    many = subst (λ (list : List (Session R W ShelfSeatValue)). AreAsMany request.sessions (length list) is_deaf) (sym served)
+    many = subst (λ (list : List (Session R W)). AreAsMany request.sessions (length list) is_deaf) (sym served)
         (subst (λ (d : Bool). AreAsMany request.sessions (length sessions) d) (sym deaf) many);
     deaf = deaf ∙ ap has_failed (sym source_is);
-    counted = counted ∙ ap (λ (list : List (Session R W ShelfSeatValue)). counts_of list) (sym served);
+    counted = counted ∙ ap (λ (list : List (Session R W)). counts_of list) (sym served);
   }

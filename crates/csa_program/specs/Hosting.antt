@@ -31,8 +31,7 @@ abbrev pub form_asked : ServeRequest → ReplyForm
 form_asked request = form_with request.legs request.longest request.sets
 
 -- what this holds of is a run that had these sessions and left this source of clients
-abbrev pub IsRunOf : {R W K D : Type 0} → (ServingOutcome R W K ShelfSeatValue ShelfLoaderValue NoticeValue D → Type 0)
-    → List (Session R W ShelfSeatValue) → K → Type 0
+abbrev pub IsRunOf : {R W K D : Type 0} → (ServingOutcome R W K ShelfSeatValue ShelfLoaderValue NoticeValue D → Type 0) → List (Session R W) → K → Type 0
 IsRunOf {R} {W} {K} {D} Is sessions clients =
     (ran : ServingOutcome R W K ShelfSeatValue ShelfLoaderValue NoticeValue D) × Is ran × (ran.served ≡ sessions) × (ran.clients ≡ clients)
 

@@ -39,7 +39,6 @@ use feed_plans::{PlanFailure, WallClock, plan_at, zone_and_plan};
 use image_commands::open_image;
 use image_files::ImageDisk;
 use image_verifier::Verified;
-use lines::{ReadStream, WriteStream};
 use orders::OpenGate;
 use std::alloc::{AllocError, Global};
 use std::io::{ErrorKind, Read, Write};
@@ -161,8 +160,8 @@ impl<'a, H: Disk + Explains + Clock + WallClock + Threads + Wait + Sync + 'a> Ho
     // Its clients come over TCP, and its feeds are those that the request names.
     ghost may_host = { λ machine. IsHosted (λ form. sessions_of form
         ⟦<Visitor<'a, SharedErrors<'a, H>> as Client>⟧.words
-        ⟦<Requests<TcpStream, ClientSession<'a, SharedErrors<'a, H>>> as ReadStream>⟧.words
-        ⟦<TcpStream as WriteStream>⟧.words shelf_seats)
+        ⟦<Requests<TcpStream, ClientSession<'a, SharedErrors<'a, H>>> as Read>⟧.remaining
+        ⟦<TcpStream as Write>⟧.contents shelf_seats)
         ⟦<Acceptor<'a, SharedErrors<'a, H>> as Clients<Visitor<'a, SharedErrors<'a, H>>>>⟧.words
         (loads_of ⟦<Folders<'a, H> as Feeds>⟧.words
         (outcomes_of ⟦<FolderFiles<'a, H> as FeedFiles>⟧.words shelf_loader shelf_seats.version))
@@ -352,8 +351,8 @@ fn host<'d, 'f, 'e, H: Disk + Explains + Clock + WallClock + Threads + Wait + Sy
 
 /// What a server served, and the acceptor to which the clients came.
 #[derive(Drop)]
-struct HostingOutcome<'d, B: ShelvesName, L> {
-    served: Served<Requests<TcpStream, ClientSession<'d, L>>, TcpStream, NamedSeat<B>>,
+struct HostingOutcome<'d, L> {
+    served: Served<Requests<TcpStream, ClientSession<'d, L>>, TcpStream>,
     acceptor: Acceptor<'d, L>,
 }
 
@@ -371,7 +370,7 @@ fn serve_accepted<
     made: (Shelves, ShelfLoader, Vec<ShelfSeat>),
     folders: &Folders<'f, H>,
     errors: E,
-) -> Result<HostingOutcome<'d, B, L>, WorkersFault<Acceptor<'d, L>>>
+) -> Result<HostingOutcome<'d, L>, WorkersFault<Acceptor<'d, L>>>
     requires named { made.0 ≡ B.table }
     requires loader { made.1.table ≡ made.0 }
     requires seats { All (λ seat. seat.table ≡ made.0) made.2.items }
@@ -383,8 +382,8 @@ fn serve_accepted<
         acceptor.entry.is_endless acceptor.entry.failed []
         → IfOk result (λ hosted. AreAsMany wanted (length hosted.served) hosted.acceptor.failed) }
     ensures run { IfOk result (λ hosted. IsRunOf (IsRunAt (sessions_of (form_asked folders.now.setup.now.request.now)
-        ⟦<Visitor<'d, L> as Client>⟧.words ⟦<Requests<TcpStream, ClientSession<'d, L>> as ReadStream>⟧.words
-        ⟦<TcpStream as WriteStream>⟧.words shelf_seats) ⟦<Acceptor<'d, L> as Clients<Visitor<'d, L>>>⟧.words
+        ⟦<Visitor<'d, L> as Client>⟧.words ⟦<Requests<TcpStream, ClientSession<'d, L>> as Read>⟧.remaining
+        ⟦<TcpStream as Write>⟧.contents shelf_seats) ⟦<Acceptor<'d, L> as Clients<Visitor<'d, L>>>⟧.words
         (loads_of ⟦<Folders<'f, H> as Feeds>⟧.words
         (outcomes_of ⟦<FolderFiles<'f, H> as FeedFiles>⟧.words shelf_loader shelf_seats.version))
         (server_input_of acceptor.entry made.0 made.2.items made.1 folders.now)) hosted.served hosted.acceptor) }
@@ -398,9 +397,7 @@ fn serve_accepted<
 }
 
 // How many sessions ended in each way, and whether accepting failed.
-fn end_of<'d, B: ShelvesName, L: Host + Sync>(
-    hosted: &HostingOutcome<'d, B, L>,
-) -> (SessionCounts, bool)
+fn end_of<'d, L: Host + Sync>(hosted: &HostingOutcome<'d, L>) -> (SessionCounts, bool)
     ensures ends { result.0 ≡ counts_of hosted.now.served }
     ensures deaf { result.1 ≡ hosted.now.acceptor.failed }
 {
@@ -436,11 +433,11 @@ fn serve_all<
 >
     requires ready { AreReadyAt B.table (server_input_of clients made.0 made.2.items made.1 folders.now) }
     requires new { SeatsHanded made.0 (length made.2.items) made.2.items }
-    requires closes { MayClose (sessions_of form C.words C.Reader.words C.Writer.words shelf_seats)
+    requires closes { MayClose (sessions_of form C.words C.Reader.remaining C.Writer.contents shelf_seats)
         made.2.items }
     ensures many { IfOk result (λ run_result. K.words.came clients ≡ [] → length run_result.served ≡ length
         (K.words.came run_result.clients)) }
-    ensures run { IfOk result (IsRunAt (sessions_of form C.words C.Reader.words C.Writer.words shelf_seats)
+    ensures run { IfOk result (IsRunAt (sessions_of form C.words C.Reader.remaining C.Writer.contents shelf_seats)
         K.words (loads_of ⟦<Folders<'f, H> as Feeds>⟧.words
         (outcomes_of ⟦<FolderFiles<'f, H> as FeedFiles>⟧.words shelf_loader shelf_seats.version))
         (server_input_of clients made.0 made.2.items made.1 folders.now)) }
@@ -591,7 +588,7 @@ fn served_line(alloc: Global, ends: SessionCounts) -> Result<String, AllocError>
 }
 
 // How many sessions ended in each way.
-fn ends_of<R, W, S>(served: &Served<R, W, S>) -> SessionCounts
+fn ends_of<R, W>(served: &Served<R, W>) -> SessionCounts
     ensures { result ≡ counts_of served.now }
 {
     SessionCounts {

@@ -4,6 +4,7 @@ ghost use Rattle.std.specs.Prelude.{◌≡◌};
 ghost use Rattle.session.specs.Forms.{bare};
 
 use crate::reply_form::ReplyForm;
+use crate::shown_reply::ShownReply;
 use answer_replies::PointForm;
 use lines::Counted;
 use std::alloc::Global;
@@ -33,19 +34,19 @@ impl<'a, T, G> SessionServer<'a, T, G> {
     }
 }
 
-/// Where a session's requests are read and its replies are written, each with the number of its calls that failed; each
-/// reply is noted with the seat as it was then.
+/// Where a session's requests are read and its replies are written, each with the number of its calls that failed; with
+/// each reply it is noted what the seat showed then.
 #[derive(Drop)]
-pub struct Streams<I, O, S> {
+pub struct Streams<I, O> {
     pub reader: Counted<I>,
-    pub writer: Counted<O, S>,
+    pub writer: Counted<O, ShownReply>,
 }
 
-impl<I, O, S> Streams<I, O, S> {
+impl<I, O> Streams<I, O> {
     ghost use Rattle.session.specs.Streams.{AreNew};
 
     /// No call has failed yet, and nothing was replied.
-    pub fn new(reader: I, writer: O) -> Streams<I, O, S>
+    pub fn new(reader: I, writer: O) -> Streams<I, O>
         ensures { AreNew reader writer result }
     {
         Streams {

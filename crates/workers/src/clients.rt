@@ -4,7 +4,7 @@ ghost use Rattle.std.specs.Prelude.{◌≡◌, ◌++◌, ◌∷◌, [], MatchOpt
 ghost use Rattle.workers.specs.Words.{ClientWords, SourceWords};
 
 use crate::served::SessionEnd;
-use lines::{ReadStream, WriteStream};
+use std::io::{Read, Write};
 
 /// A client couldn't be opened.
 #[derive(Clone, Copy, Debug, PartialEq, Eq)]
@@ -13,9 +13,9 @@ pub struct ConnFault;
 /// A client, who asks for one session. The reader and the writer that `open` gives may be of types that can't be
 /// dropped: `close` takes them back.
 pub trait Client {
-    type Reader: ReadStream + Send;
+    type Reader: Read + Send;
 
-    type Writer: WriteStream + Send;
+    type Writer: Write + Send;
 
     // What may come of opening the client, and whether a reader and a writer may be closed.
     ghost words: { ClientWords Self Self.Reader Self.Writer };
