@@ -2,4 +2,4 @@
 
 /// The sum of all sources but this file, as `release/sources --program` prints it. `release/stamp` writes it, and
 /// `.ci/run` compares it with the sources.
-pub const SOURCES: &str = "5743b29a5f0de6682b493cf31f8fad463e006fce670527230cb1ef55f2cf2efa";
+pub const SOURCES: &str = "7a3cfb47801fc21db0fe03bd198620f428a58527af301aca0798b75d4f3273a8";
