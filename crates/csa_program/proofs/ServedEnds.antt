@@ -11,7 +11,7 @@ use Rattle.csa_program.specs.Acceptor.{AreAsMany, AreCountedOff}
 
 module _ {C R W T S N : Type 0} (words : SessionWords C R W T S N) where
   -- one session for each client of a hand
-  hand_many : (clients : List C) (sessions : List (Session R W)) (a b : WorkerState S) → AreServed words clients sessions a b
+  hand_many : (clients : List C) (sessions : List (Session R W S)) (a b : WorkerState S) → AreServed words clients sessions a b
       → length sessions ≡ length clients
   hand_many [] [] a b served = refl
   hand_many [] (session ∷ sessions) a b served = absurd served

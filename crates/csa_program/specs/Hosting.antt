@@ -9,7 +9,6 @@ use Rattle.image_layout.specs.Image.{ImageValue}
 use Rattle.session.specs.declared.reply_form.ReplyForm.{ReplyForm}
 use Rattle.shelf_steps.specs.Handed.{handed}
 use Rattle.shelf_steps.specs.declared.views.View.{View}
-use Rattle.workers.specs.Ends.{Session}
 use Rattle.workers.specs.Headline.{IsRunAt, server_input_of}
 use Rattle.workers.specs.Words.{LoadWords, SessionWords, SourceWords}
 use Rattle.workers.specs.declared.outcome.ServingOutcome.{ServingOutcome}
@@ -30,10 +29,15 @@ first_loader table image = record {
 abbrev pub form_asked : ServeRequest → ReplyForm
 form_asked request = form_with request.legs request.longest request.sets
 
--- what this holds of is a run that had these sessions and left this source of clients
-abbrev pub IsRunOf : {R W K D : Type 0} → (ServingOutcome R W K ShelfSeatValue ShelfLoaderValue NoticeValue D → Type 0) → List (Session R W) → K → Type 0
-IsRunOf {R} {W} {K} {D} Is sessions clients =
-    (ran : ServingOutcome R W K ShelfSeatValue ShelfLoaderValue NoticeValue D) × Is ran × (ran.served ≡ sessions) × (ran.clients ≡ clients)
+-- what this holds of is a run whose sessions ended in these ways, and it is said whether its source of clients failed. They were as many as clients were
+-- wanted, if any number was, unless that source failed
+pub record IsRunTo {R W K D : Type 0} (Is : ServingOutcome R W K ShelfSeatValue ShelfLoaderValue NoticeValue D → Type 0) (IsWanted : ℕ → Type 0)
+    (has_failed : K → Bool) (ends : SessionCounts) (is_deaf : Bool) : Type 0 where
+  pub ran : ServingOutcome R W K ShelfSeatValue ShelfLoaderValue NoticeValue D
+  pub is : Is ran
+  pub many : (wanted : ℕ) → IsWanted wanted → AreAsMany wanted (length ran.served) (has_failed ran.clients)
+  pub deaf : is_deaf ≡ has_failed ran.clients
+  pub counted : ends ≡ counts_of ran.served
 
 -- `keeps` says whether a source of clients keeps the rules that are asked for, and `has_failed` whether it failed; `are_feeds` whether these are the feeds
 -- of a request, with the bytes of its zone's file

@@ -14,7 +14,7 @@ use Rattle.command_requests.specs.declared.plans.Seconds.{Seconds}
 use Rattle.workers.specs.Ends.{Session, ended_in, failed_in, spent_in}
 
 -- how many sessions ended in each way
-abbrev pub counts_of : {R W : Type 0} → List (Session R W) → SessionCounts
+abbrev pub counts_of : {R W S : Type 0} → List (Session R W S) → SessionCounts
 counts_of sessions = record { ended = ended_in sessions; failed = failed_in sessions; spent = spent_in sessions }
 
 -- with `--legs` each point of a profile has the legs of its journey

@@ -11,8 +11,8 @@ ghost use Rattle.workers.specs.Headline.{AreReadyAt, IsRunAt, server_input_of};
 ghost use Rattle.workers.specs.Sessions.{MayClose};
 ghost use Rattle.epochs.specs.ShelfWords.{shelf_loader, shelf_seats};
 ghost use Rattle.workers.specs.Words.{loads_of, outcomes_of, sessions_of};
-ghost use Rattle.csa_program.specs.Acceptor.{AreAsMany, AreCountedOff};
-ghost use Rattle.csa_program.specs.Hosting.{IsHosted, IsRunOf, first_loader, form_asked};
+ghost use Rattle.csa_program.specs.Acceptor.{AreCountedOff};
+ghost use Rattle.csa_program.specs.Hosting.{IsHosted, IsRunTo, first_loader, form_asked};
 ghost use Rattle.csa_program.specs.Running.{IsServeEnd};
 ghost use Rattle.std.specs.Option.{option_map};
 ghost use Rattle.csa_program.specs.Serving.{IsEndAt, IsNoServerEnd, IsServerEnd, MayHost, counts_of};
@@ -39,6 +39,7 @@ use feed_plans::{PlanFailure, WallClock, plan_at, zone_and_plan};
 use image_commands::open_image;
 use image_files::ImageDisk;
 use image_verifier::Verified;
+use lines::{ReadStream, WriteStream};
 use orders::OpenGate;
 use std::alloc::{AllocError, Global};
 use std::io::{ErrorKind, Read, Write};
@@ -160,8 +161,8 @@ impl<'a, H: Disk + Explains + Clock + WallClock + Threads + Wait + Sync + 'a> Ho
     // Its clients come over TCP, and its feeds are those that the request names.
     ghost may_host = { λ machine. IsHosted (λ form. sessions_of form
         ⟦<Visitor<'a, SharedErrors<'a, H>> as Client>⟧.words
-        ⟦<Requests<TcpStream, ClientSession<'a, SharedErrors<'a, H>>> as Read>⟧.remaining
-        ⟦<TcpStream as Write>⟧.contents shelf_seats)
+        ⟦<Requests<TcpStream, ClientSession<'a, SharedErrors<'a, H>>> as ReadStream>⟧.words
+        ⟦<TcpStream as WriteStream>⟧.words shelf_seats)
         ⟦<Acceptor<'a, SharedErrors<'a, H>> as Clients<Visitor<'a, SharedErrors<'a, H>>>>⟧.words
         (loads_of ⟦<Folders<'a, H> as Feeds>⟧.words
         (outcomes_of ⟦<FolderFiles<'a, H> as FeedFiles>⟧.words shelf_loader shelf_seats.version))
@@ -344,20 +345,13 @@ fn host<'d, 'f, 'e, H: Disk + Explains + Clock + WallClock + Threads + Wait + Sy
     let acceptor = Acceptor::new(&bound.listener, request.sessions, rules, errors);
     let loader_errors = LoaderErrors::of(errors.another());
     match serve_accepted::<Brand, _, _, _>(acceptor, made, folders, loader_errors) {
-        Ok(hosted) => Some(end_of(&hosted)),
+        Ok(end) => Some(end),
         Err(_) => None,
     }
 }
 
-/// What a server served, and the acceptor to which the clients came.
-#[derive(Drop)]
-struct HostingOutcome<'d, L> {
-    served: Served<Requests<TcpStream, ClientSession<'d, L>>, TcpStream>,
-    acceptor: Acceptor<'d, L>,
-}
-
 // Serves the clients that come to the acceptor, at these shelves, whose name is `B`, with replies in the form that is
-// asked for.
+// asked for. Returns how many sessions ended in each way, and whether accepting failed.
 fn serve_accepted<
     'd,
     'f,
@@ -370,7 +364,7 @@ fn serve_accepted<
     made: (Shelves, ShelfLoader, Vec<ShelfSeat>),
     folders: &Folders<'f, H>,
     errors: E,
-) -> Result<HostingOutcome<'d, L>, WorkersFault<Acceptor<'d, L>>>
+) -> Result<(SessionCounts, bool), WorkersFault<Acceptor<'d, L>>>
     requires named { made.0 ≡ B.table }
     requires loader { made.1.table ≡ made.0 }
     requires seats { All (λ seat. seat.table ≡ made.0) made.2.items }
@@ -378,30 +372,18 @@ fn serve_accepted<
     requires some { 1 ≤ length made.2.items }
     requires few { length made.2.items ≤ 16 }
     requires none_came { acceptor.came ≡ [] }
-    ensures many { (wanted : ℕ) → AreCountedOff wanted acceptor.entry.left acceptor.entry.accepted
-        acceptor.entry.is_endless acceptor.entry.failed []
-        → IfOk result (λ hosted. AreAsMany wanted (length hosted.served) hosted.acceptor.failed) }
-    ensures run { IfOk result (λ hosted. IsRunOf (IsRunAt (sessions_of (form_asked folders.now.setup.now.request.now)
-        ⟦<Visitor<'d, L> as Client>⟧.words ⟦<Requests<TcpStream, ClientSession<'d, L>> as Read>⟧.remaining
-        ⟦<TcpStream as Write>⟧.contents shelf_seats) ⟦<Acceptor<'d, L> as Clients<Visitor<'d, L>>>⟧.words
+    ensures { IfOk result (λ end. IsRunTo (IsRunAt (sessions_of (form_asked folders.now.setup.now.request.now)
+        ⟦<Visitor<'d, L> as Client>⟧.words ⟦<Requests<TcpStream, ClientSession<'d, L>> as ReadStream>⟧.words
+        ⟦<TcpStream as WriteStream>⟧.words shelf_seats) ⟦<Acceptor<'d, L> as Clients<Visitor<'d, L>>>⟧.words
         (loads_of ⟦<Folders<'f, H> as Feeds>⟧.words
         (outcomes_of ⟦<FolderFiles<'f, H> as FeedFiles>⟧.words shelf_loader shelf_seats.version))
-        (server_input_of acceptor.entry made.0 made.2.items made.1 folders.now)) hosted.served hosted.acceptor) }
+        (server_input_of acceptor.entry made.0 made.2.items made.1 folders.now))
+        (λ wanted. AreCountedOff wanted acceptor.entry.left acceptor.entry.accepted
+        acceptor.entry.is_endless acceptor.entry.failed []) (λ left. left.failed) end.0 end.1) }
 {
     let form = form_of(folders.setup.request);
     let run_result = serve_all::<B, _, _, _, _>(acceptor, made, folders, form, errors)?;
-    Ok(HostingOutcome {
-        served: run_result.served,
-        acceptor: run_result.clients,
-    })
-}
-
-// How many sessions ended in each way, and whether accepting failed.
-fn end_of<'d, L: Host + Sync>(hosted: &HostingOutcome<'d, L>) -> (SessionCounts, bool)
-    ensures ends { result.0 ≡ counts_of hosted.now.served }
-    ensures deaf { result.1 ≡ hosted.now.acceptor.failed }
-{
-    (ends_of(&hosted.served), hosted.acceptor.has_failed())
+    Ok((ends_of(&run_result.served), run_result.clients.has_failed()))
 }
 
 // Serves all clients at these shelves, until none is left. It takes clients of any type: so what is proved of clients
@@ -433,11 +415,11 @@ fn serve_all<
 >
     requires ready { AreReadyAt B.table (server_input_of clients made.0 made.2.items made.1 folders.now) }
     requires new { SeatsHanded made.0 (length made.2.items) made.2.items }
-    requires closes { MayClose (sessions_of form C.words C.Reader.remaining C.Writer.contents shelf_seats)
+    requires closes { MayClose (sessions_of form C.words C.Reader.words C.Writer.words shelf_seats)
         made.2.items }
     ensures many { IfOk result (λ run_result. K.words.came clients ≡ [] → length run_result.served ≡ length
         (K.words.came run_result.clients)) }
-    ensures run { IfOk result (IsRunAt (sessions_of form C.words C.Reader.remaining C.Writer.contents shelf_seats)
+    ensures run { IfOk result (IsRunAt (sessions_of form C.words C.Reader.words C.Writer.words shelf_seats)
         K.words (loads_of ⟦<Folders<'f, H> as Feeds>⟧.words
         (outcomes_of ⟦<FolderFiles<'f, H> as FeedFiles>⟧.words shelf_loader shelf_seats.version))
         (server_input_of clients made.0 made.2.items made.1 folders.now)) }
@@ -588,7 +570,7 @@ fn served_line(alloc: Global, ends: SessionCounts) -> Result<String, AllocError>
 }
 
 // How many sessions ended in each way.
-fn ends_of<R, W>(served: &Served<R, W>) -> SessionCounts
+fn ends_of<R, W, S>(served: &Served<R, W, S>) -> SessionCounts
     ensures { result ≡ counts_of served.now }
 {
     SessionCounts {

@@ -7,9 +7,11 @@ mod counted;
 pub mod laws;
 mod line_reads;
 mod reader;
+mod streams;
 mod text;
 
-pub use counted::{Counted, Moment, ReadFailed, WriteFailed};
+pub use counted::Counted;
 pub use line_reads::LineReads;
 pub use reader::{LONGEST_LINE, LineReader, NextLine};
+pub use streams::{ReadFailed, ReadStream, WriteFailed, WriteStream};
 pub use text::{LINE_BYTES, Line};

@@ -1,10 +1,11 @@
 -- A session: exchanges one after the other, one for each line that was read.
-use Rattle.std.specs.Prelude.{◌≡◌, ◌≢◌, ◌<◌, ◌≤◌, ◌⊎◌, ◌++◌, ◌∷◌, ℕ, List, [], None, flat_map, length, map, take, Option, Result, Ok, Err}
+use Rattle.std.specs.Prelude.{◌≡◌, ◌≢◌, ◌<◌, ◌≤◌, ◌⊎◌, ◌++◌, ◌∷◌, ℕ, List, [], None, flat_map, length, map, take, Result, Ok, Err}
 use Rattle.std.specs.Io.KnownBytes.{Appends, Consumes, IsAtEnd}
 use Rattle.epochs.specs.declared.seats.SeatAnswer.{SeatAnswer}
 use Rattle.epochs.specs.Seats.{SeatValue}
 use Rattle.orders.specs.Ordering.{OrderValue}
-use Rattle.lines.specs.Counting.{failures_of, inner_of, notes_of}
+use Rattle.lines.specs.LineReads.{written_line}
+use Rattle.lines.specs.Streams.{HasFailed, StreamWords, Works, inner_of, notes_of}
 use Rattle.lines.specs.declared.counted.Counted.{Counted}
 use Rattle.lines.specs.Cutting.{lines_of, rest_of, whole_lines}
 use Rattle.session.specs.declared.reply_form.ReplyForm.{ReplyForm}
@@ -48,44 +49,41 @@ pub record IsCutShort (written : List ℕ) (exchanges : List Exchange) : Type 0 
   pub exchanges_are : exchanges ≡ answered ++ last ∷ []
   pub written_is : written ≡ text_of answered ++ take count last.reply.text
 
--- what a session changes: what is to be read and what was written, if that is known; how many reads and writes failed; what was replied, with what
--- the seat showed then; the seat and the orders
-pub record SessionState : Type 0 where
-  pub unread : Option (List ℕ)
-  pub written : Option (List ℕ)
-  pub failed_reads : ℕ
-  pub failed_writes : ℕ
+-- what contracts say of a session: the form of its replies, its reader and its writer
+pub record ServeWords (R W : Type 0) : Type 1 where
+  pub form : ReplyForm
+  pub reads : StreamWords R
+  pub writes : StreamWords W
+
+abbrev pub serve_words : {R W : Type 0} → ReplyForm → StreamWords R → StreamWords W → ServeWords R W
+serve_words form reads writes = record { form = form; reads = reads; writes = writes }
+
+-- what a session changes: its reader and its writer, what was replied, with what the seat showed then, the seat and the orders
+pub record SessionState (R W S : Type 0) : Type 0 where
+  pub reader : Counted R (Unit {0})
+  pub writer : Counted W S
   pub replied : List SeatReply
   pub at_seat : SeatState
 
--- over this reader and this writer, by what is to be read from the one and what was written to the other
-abbrev pub state_of : {R W : Type 0} → (R → Option (List ℕ)) → (W → Option (List ℕ)) → Counted R (Unit {0}) → Counted W SeatReply → SeatState
-    → SessionState
-state_of unread written reader writer at_seat = record {
-  unread = unread (inner_of reader);
-  written = written (inner_of writer);
-  failed_reads = failures_of reader;
-  failed_writes = failures_of writer;
-  replied = notes_of writer;
-  at_seat = at_seat;
-}
+-- the replies that this writer was given, each with what was read for it, and what its seat showed when it was written
+abbrev pub replies_of : {W S : Type 0} → (S → SeatValue) → Counted W S → List SeatReply
+replies_of shown writer = map (λ note. seat_reply (shown note.0) (written_line note.1.0 note.1.1)) (notes_of writer)
+
+-- over this reader and this writer, by what a seat shows
+abbrev pub state_of : {R W S : Type 0} → (S → SeatValue) → Counted R (Unit {0}) → Counted W S → SeatState → SessionState R W S
+state_of shown reader writer at_seat = record { reader = reader; writer = writer; replied = replies_of shown writer; at_seat = at_seat }
 
 -- what was read and written in a session and its exchanges, from one state to another
-pub record SessionRecord : Type 0 where
+pub record SessionRecord (R W S : Type 0) : Type 0 where
   pub read : List ℕ
   pub written : List ℕ
   pub exchanges : List Exchange
-  pub before : SessionState
-  pub after : SessionState
+  pub before : SessionState R W S
+  pub after : SessionState R W S
 
-abbrev pub session_record_of : List ℕ → List ℕ → List Exchange → SessionState → SessionState → SessionRecord
+abbrev pub session_record_of : {R W S : Type 0} → List ℕ → List ℕ → List Exchange → SessionState R W S → SessionState R W S
+    → SessionRecord R W S
 session_record_of read written exchanges before after = record { read = read; written = written; exchanges = exchanges; before = before; after = after }
-
-abbrev pub ReadFailed : SessionRecord → Type 0
-ReadFailed e = e.before.failed_reads < e.after.failed_reads
-
-abbrev pub WriteFailed : SessionRecord → Type 0
-WriteFailed e = e.before.failed_writes < e.after.failed_writes
 
 -- lines of what was read are answered, from the first on: some of those that have a line end; or, if the reader is at its end, all of them, of
 -- which the last needs no line end
@@ -96,32 +94,41 @@ AnswerLines exchanges read at_end = ((n : ℕ) × (lines_in exchanges ≡ take n
 abbrev pub LastRelease : ℕ → SeatValue → SeatValue → Type 0
 LastRelease number a b = ((a.held ≡ None) × (b ≡ a)) ⊎ ((a.held ≢ None) × ((last : SeatAnswer) × IsGivenBack last × AnswerStep number a last b))
 
--- how the exchanges agree with what was read and written, by how the session ended
-abbrev pub EndsSo : Result Ended SessionFault → SessionRecord → Type 0
--- all is read and answered
-EndsSo (Ok ended) e =
-    IsAtEnd e.after.unread × (¬ ReadFailed e) × (¬ WriteFailed e) × (lines_in e.exchanges ≡ lines_of e.read) × (e.written ≡ text_of e.exchanges)
--- a read failed, or a line went on past 16,777,216 bytes, of which one byte more was read; all whole lines before that are answered
-EndsSo (Err SessionFault.ReadFailed) e =
-    (ReadFailed e ⊎ (length (rest_of e.read) ≡ 16_777_217)) × (¬ WriteFailed e) × (lines_in e.exchanges ≡ whole_lines e.read)
-    × (e.written ≡ text_of e.exchanges)
--- a write failed: lines that were read are answered, and the last reply is perhaps not written wholly; further lines may have been read
-EndsSo (Err SessionFault.WriteFailed) e =
-    WriteFailed e × (¬ ReadFailed e) × AnswerLines e.exchanges e.read (IsAtEnd e.after.unread) × IsCutShort e.written e.exchanges
--- the first million lines are answered, and a byte behind them was read
-EndsSo (Err SessionFault.TooManyRequests) e =
-    (¬ ReadFailed e) × (¬ WriteFailed e) × (length e.exchanges ≡ 1_000_000) × (1_000_000 < length (lines_of e.read))
-    × (lines_in e.exchanges ≡ take 1_000_000 (lines_of e.read)) × (e.written ≡ text_of e.exchanges)
+module _ {R W S : Type 0} (words : ServeWords R W) where
+  abbrev pub ReadsWork : SessionRecord R W S → Type 0
+  ReadsWork e = Works words.reads e.before.reader e.after.reader
 
--- what a session reads, does and writes: a million lines at most. The seat shows at each reply what the exchanges up to that one made of it
-pub record Serves (form : ReplyForm) (number : ℕ) (result : Result Ended SessionFault) (a b : SessionState) : Type 0 where
-  pub read : List ℕ
-  pub written : List ℕ
-  pub exchanges : List Exchange
-  pub reads : Consumes a.unread b.unread read
-  pub writes : Appends a.written b.written written
-  pub replies : b.replied ≡ a.replied ++ replies_in exchanges
-  pub does : AreExchanges form number a.at_seat exchanges b.at_seat
-  pub few : length exchanges ≤ 1_000_000
-  pub short : AreShort exchanges
-  pub ends : EndsSo result (session_record_of read written exchanges a b)
+  abbrev pub WritesWork : SessionRecord R W S → Type 0
+  WritesWork e = Works words.writes e.before.writer e.after.writer
+
+  -- how the exchanges agree with what was read and written, by how the session ended
+  abbrev pub EndsSo : Result Ended SessionFault → SessionRecord R W S → Type 0
+  -- all is read and answered
+  EndsSo (Ok ended) e =
+      IsAtEnd (words.reads.bytes (inner_of e.after.reader)) × ReadsWork e × WritesWork e × (lines_in e.exchanges ≡ lines_of e.read)
+      × (e.written ≡ text_of e.exchanges)
+  -- the last read failed, or a line went on past 16,777,216 bytes, of which one byte more was read; all whole lines before that are answered
+  EndsSo (Err SessionFault.ReadFailed) e =
+      (HasFailed words.reads e.before.reader e.after.reader ⊎ (ReadsWork e × (length (rest_of e.read) ≡ 16_777_217))) × WritesWork e
+      × (lines_in e.exchanges ≡ whole_lines e.read) × (e.written ≡ text_of e.exchanges)
+  -- the last write failed: lines that were read are answered, and the last reply is perhaps not written wholly; further lines may have been read
+  EndsSo (Err SessionFault.WriteFailed) e =
+      HasFailed words.writes e.before.writer e.after.writer × ReadsWork e
+      × AnswerLines e.exchanges e.read (IsAtEnd (words.reads.bytes (inner_of e.after.reader))) × IsCutShort e.written e.exchanges
+  -- the first million lines are answered, and a byte behind them was read
+  EndsSo (Err SessionFault.TooManyRequests) e =
+      ReadsWork e × WritesWork e × (length e.exchanges ≡ 1_000_000) × (1_000_000 < length (lines_of e.read))
+      × (lines_in e.exchanges ≡ take 1_000_000 (lines_of e.read)) × (e.written ≡ text_of e.exchanges)
+
+  -- what a session reads, does and writes: a million lines at most. The seat shows at each reply what the exchanges up to that one made of it
+  pub record Serves (number : ℕ) (result : Result Ended SessionFault) (a b : SessionState R W S) : Type 0 where
+    pub read : List ℕ
+    pub written : List ℕ
+    pub exchanges : List Exchange
+    pub reads : Consumes (words.reads.bytes (inner_of a.reader)) (words.reads.bytes (inner_of b.reader)) read
+    pub writes : Appends (words.writes.bytes (inner_of a.writer)) (words.writes.bytes (inner_of b.writer)) written
+    pub replies : b.replied ≡ a.replied ++ replies_in exchanges
+    pub does : AreExchanges words.form number a.at_seat exchanges b.at_seat
+    pub few : length exchanges ≤ 1_000_000
+    pub short : AreShort exchanges
+    pub ends : EndsSo result (session_record_of read written exchanges a b)

@@ -12,7 +12,6 @@ mod reply_form;
 mod reply_log;
 mod serving;
 mod session_server;
-mod shown_reply;
 
 pub use answer_replies::PointForm;
 pub use fault::{Ended, SessionFault};
@@ -21,4 +20,3 @@ pub use orders::{Gate, OpenGate, OrderFault, Orders};
 pub use reply_form::ReplyForm;
 pub use serving::{MOST_REQUESTS, serve};
 pub use session_server::{SessionServer, Streams};
-pub use shown_reply::ShownReply;

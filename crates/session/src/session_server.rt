@@ -4,7 +4,6 @@ ghost use Rattle.std.specs.Prelude.{◌≡◌};
 ghost use Rattle.session.specs.Forms.{bare};
 
 use crate::reply_form::ReplyForm;
-use crate::shown_reply::ShownReply;
 use answer_replies::PointForm;
 use lines::Counted;
 use std::alloc::Global;
@@ -34,19 +33,19 @@ impl<'a, T, G> SessionServer<'a, T, G> {
     }
 }
 
-/// Where a session's requests are read and its replies are written, each with the number of its calls that failed; with
-/// each reply it is noted what the seat showed then.
+/// Where a session's requests are read and its replies are written, each with the number of its calls that failed; each
+/// reply is noted with the seat as it was then.
 #[derive(Drop)]
-pub struct Streams<I, O> {
+pub struct Streams<I, O, S> {
     pub reader: Counted<I>,
-    pub writer: Counted<O, ShownReply>,
+    pub writer: Counted<O, S>,
 }
 
-impl<I, O> Streams<I, O> {
+impl<I, O, S> Streams<I, O, S> {
     ghost use Rattle.session.specs.Streams.{AreNew};
 
     /// No call has failed yet, and nothing was replied.
-    pub fn new(reader: I, writer: O) -> Streams<I, O>
+    pub fn new(reader: I, writer: O) -> Streams<I, O, S>
         ensures { AreNew reader writer result }
     {
         Streams {

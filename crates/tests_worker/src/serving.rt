@@ -307,7 +307,7 @@ fn count_ends<
     requires loader { loader.table ≡ shelves }
     requires some { 1 ≤ length seats.items }
     requires few { length seats.items ≤ 16 }
-    requires closes { MayClose (sessions_of form C.words C.Reader.remaining C.Writer.contents shelf_seats) seats.items }
+    requires closes { MayClose (sessions_of form C.words C.Reader.words C.Writer.words shelf_seats) seats.items }
 {
     let feeds = two_feeds(alloc)?;
     let Ok(ran) = run_shelves::<B, _, _, _, _, _, _>(

@@ -19,7 +19,7 @@ learns_later k later a grows = learns_nothing TellsPublished k later a.answers g
 
 module _ {C R W T S N : Type 0} (words : SessionWords C R W T S N) where
   -- what a seat knows only grows
-  knows_more : (clients : List C) (sessions : List (Session R W)) (a b : WorkerState S) → AreServed words clients sessions a b
+  knows_more : (clients : List C) (sessions : List (Session R W S)) (a b : WorkerState S) → AreServed words clients sessions a b
       → Learns (words.seats.known a.seat) (words.seats.shown a.seat) (words.seats.known b.seat) (words.seats.shown b.seat)
   knows_more [] [] a b served =
       subst (λ (s : WorkerState S). Learns (words.seats.known a.seat) (words.seats.shown a.seat) (words.seats.known s.seat) (words.seats.shown s.seat))
@@ -32,7 +32,7 @@ module _ {C R W T S N : Type 0} (words : SessionWords C R W T S N) where
       (words.seats.known b.seat) (words.seats.shown b.seat) served.1.learns (knows_more clients sessions m b served.2)
 
   -- a session at a seat that held nothing, which tells what this history published
-  exact_one : (history : KnownHistory) (client : C) (now : Option (Streams R W)) (end : SessionEnd) (a m : WorkerState S)
+  exact_one : (history : KnownHistory) (client : C) (now : Option (Streams R W S)) (end : SessionEnd) (a m : WorkerState S)
       → (words.seats.shown a.seat).held ≡ None → IsServed words client (now, end) a m
       → TellPublished history (words.seats.shown a.seat) (words.seats.shown m.seat)
       → IsExact words history (served_client_of client (now, end)) a m
@@ -45,7 +45,7 @@ module _ {C R W T S N : Type 0} (words : SessionWords C R W T S N) where
       )
 
   -- each session reported what was published in the history that the seat knew then, so also what was published in that which it knows in the end
-  pub exact : (clients : List C) (sessions : List (Session R W)) (a b : WorkerState S) → (words.seats.shown a.seat).held ≡ None
+  pub exact : (clients : List C) (sessions : List (Session R W S)) (a b : WorkerState S) → (words.seats.shown a.seat).held ≡ None
       → AreServed words clients sessions a b → AreExact words clients sessions a b
   exact [] [] a b none served = served
   exact [] (session ∷ sessions) a b none served = absurd served

@@ -7,8 +7,8 @@ use Rattle.session.specs.declared.session_server.Streams.{Streams}
 use Rattle.workers.specs.declared.served.SessionEnd.{SessionEnd}
 
 -- a session: its client's reader and writer as they were when it ended, or none where the client couldn't be opened; and how it ended
-abbrev pub Session : Type 0 → Type 0 → Type 0
-Session R W = Option (Streams R W) × SessionEnd
+abbrev pub Session : Type 0 → Type 0 → Type 0 → Type 0
+Session R W S = Option (Streams R W S) × SessionEnd
 
 -- a count of 64 bits, which stops at the greatest value
 abbrev pub capped : ℕ → ℕ
@@ -26,17 +26,17 @@ abbrev pub is_spent : SessionEnd → Bool
 is_spent SessionEnd.Spent = true
 is_spent _ = false
 
-abbrev pub ended_in : {R W : Type 0} → List (Session R W) → ℕ
+abbrev pub ended_in : {R W S : Type 0} → List (Session R W S) → ℕ
 ended_in sessions = capped (count_by (λ session. has_ended session.1) sessions)
 
-abbrev pub failed_in : {R W : Type 0} → List (Session R W) → ℕ
+abbrev pub failed_in : {R W S : Type 0} → List (Session R W S) → ℕ
 failed_in sessions = capped (count_by (λ session. has_failed session.1) sessions)
 
-abbrev pub spent_in : {R W : Type 0} → List (Session R W) → ℕ
+abbrev pub spent_in : {R W S : Type 0} → List (Session R W S) → ℕ
 spent_in sessions = capped (count_by (λ session. is_spent session.1) sessions)
 
 -- the numbers count the sessions
-pub record AreCounted {R W : Type 0} (sessions : List (Session R W)) (ended failed spent : ℕ) : Type 0 where
+pub record AreCounted {R W S : Type 0} (sessions : List (Session R W S)) (ended failed spent : ℕ) : Type 0 where
   pub ended_are : ended ≡ ended_in sessions
   pub failed_are : failed ≡ failed_in sessions
   pub spent_are : spent ≡ spent_in sessions

@@ -3,14 +3,14 @@ use Rattle.std.specs.Prelude.{◌≡◌, ◌++◌, ◌∷◌, ℕ, Some, None, L
 use Rattle.client_queue.specs.declared.queue.DealerView.{DealerView}
 use Rattle.epochs.specs.Seats.{SeatValue}
 use Rattle.handoff.specs.Ends.{QueueId, TakerValue}
-use Rattle.lines.specs.Counting.{StopsAtFailure, inner_of}
+use Rattle.lines.specs.Streams.{inner_of}
 use Rattle.load_orders.specs.Asking.{OrderRoute, WorkerOrdersValue}
 use Rattle.orders.specs.Ordering.{OrderValue}
 use Rattle.shelf_steps.specs.declared.views.KnownHistory.{KnownHistory}
 use Rattle.session.specs.Learning.{AreFromPublished, Learns, TellPublished}
 use Rattle.session.specs.declared.fault.Ended.{Ended}
 use Rattle.session.specs.declared.fault.SessionFault.{SessionFault}
-use Rattle.session.specs.Sessions.{LastRelease, Serves, state_of}
+use Rattle.session.specs.Sessions.{LastRelease, Serves, serve_words, state_of}
 use Rattle.session.specs.Exchanges.{seat_state}
 use Rattle.workers.specs.Ends.{Session, end_of}
 use Rattle.workers.specs.Ordering.{IsAskedBy}
@@ -42,45 +42,44 @@ worker_starts seats route = map (λ seat. worker_start seat route) seats
 
 -- what a worker leaves: its clients' sessions, its seat, and its orders
 pub record ShareValue (R W S N : Type 0) : Type 0 where
-  pub sessions : List (Session R W)
+  pub sessions : List (Session R W S)
   pub seat : S
   pub orders : WorkerOrdersValue N
 
-abbrev pub share_of : {R W S N : Type 0} → List (Session R W) → S → WorkerOrdersValue N → ShareValue R W S N
+abbrev pub share_of : {R W S N : Type 0} → List (Session R W S) → S → WorkerOrdersValue N → ShareValue R W S N
 share_of sessions seat orders = record { sessions = sessions; seat = seat; orders = orders }
 
 -- what all workers leave: the sessions, worker after worker; and each one's seat and orders
 pub record WorkValue (R W S N : Type 0) : Type 0 where
-  pub sessions : List (Session R W)
+  pub sessions : List (Session R W S)
   pub seats : List S
   pub orders : List (WorkerOrdersValue N)
 
-abbrev pub work_of : {R W S N : Type 0} → List (Session R W) → List S → List (WorkerOrdersValue N) → WorkValue R W S N
+abbrev pub work_of : {R W S N : Type 0} → List (Session R W S) → List S → List (WorkerOrdersValue N) → WorkValue R W S N
 work_of sessions seats orders = record { sessions = sessions; seats = seats; orders = orders }
 
 -- a client, and the session that it had
-pub record ServedClient (C R W : Type 0) : Type 0 where
+pub record ServedClient (C R W S : Type 0) : Type 0 where
   pub client : C
-  pub session : Session R W
+  pub session : Session R W S
 
-abbrev pub served_client_of : {C R W : Type 0} → C → Session R W → ServedClient C R W
+abbrev pub served_client_of : {C R W S : Type 0} → C → Session R W S → ServedClient C R W S
 served_client_of client session = record { client = client; session = session }
 
 module _ {C R W T S N : Type 0} (words : SessionWords C R W T S N) where
   -- the client's own reader and writer were opened and served at this seat, and are so now: if a read or a write failed, it was the last one there
-  pub record IsSession (client : C) (served_client : Streams R W × SessionEnd) (a b : WorkerState S) : Type 0 where
+  pub record IsSession (client : C) (served_client : Streams R W S × SessionEnd) (a b : WorkerState S) : Type 0 where
     pub opened : R × W
     pub opens : words.clients.opens client (Ok opened)
-    pub was : Streams R W
+    pub was : Streams R W S
     pub new : AreNew opened.0 opened.1 was
     pub result : Result Ended SessionFault
     pub last : SeatValue
     pub end_is : served_client.1 ≡ end_of result
     pub released : LastRelease (words.seats.number a.seat) last (words.seats.shown b.seat)
-    pub serves : Serves words.form (words.seats.number a.seat) result
-        (state_of words.unread words.written was.reader was.writer (seat_state (words.seats.shown a.seat) a.asked))
-        (state_of words.unread words.written served_client.0.reader served_client.0.writer (seat_state last b.asked))
-    pub stops : StopsAtFailure was.reader served_client.0.reader × StopsAtFailure was.writer served_client.0.writer
+    pub serves : Serves (serve_words words.form words.reads words.writes) (words.seats.number a.seat) result
+        (state_of words.seats.shown was.reader was.writer (seat_state (words.seats.shown a.seat) a.asked))
+        (state_of words.seats.shown served_client.0.reader served_client.0.writer (seat_state last b.asked))
 
   -- the client couldn't be opened, and nothing was changed
   pub record IsUnopened (client : C) (end : SessionEnd) (a b : WorkerState S) : Type 0 where
@@ -90,18 +89,18 @@ module _ {C R W T S N : Type 0} (words : SessionWords C R W T S N) where
     pub same : b ≡ a
 
   -- the client was served so, or couldn't be opened
-  abbrev pub IsServed : C → Session R W → WorkerState S → WorkerState S → Type 0
+  abbrev pub IsServed : C → Session R W S → WorkerState S → WorkerState S → Type 0
   IsServed client session a b = MatchOption session.0 (IsUnopened client session.1 a b) (λ now. IsSession client (now, session.1) a b)
 
   -- as `IsServed`; and each profile in the session's exchanges, unless memory or a version was wanting, is answered exactly, over the accepted image
   -- that this history published as the version that the reply names
-  abbrev pub IsExact : KnownHistory → ServedClient C R W → WorkerState S → WorkerState S → Type 0
+  abbrev pub IsExact : KnownHistory → ServedClient C R W S → WorkerState S → WorkerState S → Type 0
   IsExact history served_client a b = MatchOption served_client.session.0 (IsUnopened served_client.client served_client.session.1 a b)
       (λ now. (session : IsSession served_client.client (now, served_client.session.1) a b) × AreFromPublished history words.form session.serves.exchanges)
 
   -- the clients are served at this seat one after the other, and each profile in their sessions is answered exactly, as the history has it that the
   -- seat knows in the end
-  abbrev pub AreExact : List C → List (Session R W) → WorkerState S → WorkerState S → Type 0
+  abbrev pub AreExact : List C → List (Session R W S) → WorkerState S → WorkerState S → Type 0
   AreExact [] [] a b = b ≡ a
   AreExact (client ∷ clients) (session ∷ sessions) a b =
       (m : WorkerState S) × IsExact (words.seats.known b.seat) (served_client_of client session) a m × AreExact clients sessions m b
@@ -113,7 +112,7 @@ module _ {C R W T S N : Type 0} (words : SessionWords C R W T S N) where
 
   -- a client is served at this seat, which learns meanwhile: each profile is answered over the image that the history published as its version, and
   -- the seat holds nothing then if it held nothing
-  pub record IsServedAt (client : C) (session : Session R W) (a b : WorkerState S) : Type 0 where
+  pub record IsServedAt (client : C) (session : Session R W S) (a b : WorkerState S) : Type 0 where
     pub served : IsServed client session a b
     pub number : words.seats.number b.seat ≡ words.seats.number a.seat
     pub learns : Learns (words.seats.known a.seat) (words.seats.shown a.seat) (words.seats.known b.seat) (words.seats.shown b.seat)
@@ -121,16 +120,16 @@ module _ {C R W T S N : Type 0} (words : SessionWords C R W T S N) where
     pub idle : IsIdle a.seat → IsIdle b.seat
 
   -- the clients are served at this seat one after the other, each in one of these sessions
-  abbrev pub AreServed : List C → List (Session R W) → WorkerState S → WorkerState S → Type 0
+  abbrev pub AreServed : List C → List (Session R W S) → WorkerState S → WorkerState S → Type 0
   AreServed [] [] a b = b ≡ a
   AreServed (client ∷ clients) (session ∷ sessions) a b =
       (m : WorkerState S) × IsServedAt client session a m × AreServed clients sessions m b
   AreServed _ _ a b = ⊥
 
   -- after some sessions from this state on, the client was served, and its session ended so
-  pub record IsServedLater (start : WorkerState S) (client : C) (now : Streams R W) (end : SessionEnd) : Type 0 where
+  pub record IsServedLater (start : WorkerState S) (client : C) (now : Streams R W S) (end : SessionEnd) : Type 0 where
     pub clients : List C
-    pub sessions : List (Session R W)
+    pub sessions : List (Session R W S)
     pub a : WorkerState S
     pub b : WorkerState S
     pub before : AreServed clients sessions start a
@@ -138,7 +137,7 @@ module _ {C R W T S N : Type 0} (words : SessionWords C R W T S N) where
 
   -- each client's reader and writer may be closed as its session left them, whichever sessions came before it from this state on
   abbrev pub MayCloseFrom : WorkerState S → Type 0
-  MayCloseFrom start = (client : C) (now : Streams R W) (end : SessionEnd) → IsServedLater start client now end
+  MayCloseFrom start = (client : C) (now : Streams R W S) (end : SessionEnd) → IsServedLater start client now end
       → words.clients.closes (inner_of now.reader) (inner_of now.writer) end
 
   -- a client's reader and writer may be closed after whatever sessions are served from the first on at one of these seats
@@ -147,14 +146,14 @@ module _ {C R W T S N : Type 0} (words : SessionWords C R W T S N) where
 
   -- at these shelves a worker's end of the queue of clients, at which none was taken yet, and a seat, from which on clients may be closed; and no
   -- session was noted yet
-  pub record IsReadyToServe (shelves : T) (taker : TakerValue C) (sessions : List (Session R W)) (start : WorkerState S) : Type 0 where
+  pub record IsReadyToServe (shelves : T) (taker : TakerValue C) (sessions : List (Session R W S)) (start : WorkerState S) : Type 0 where
     pub fits : words.seats.fits shelves start.seat
     pub none_taken : taker.taken ≡ []
     pub none_served : sessions ≡ []
     pub closes : MayCloseFrom start
 
   -- the clients that were taken from this queue, all who came, were served at a seat of these shelves
-  pub record HaveBeenServed (shelves : T) (queue : QueueId C) (share : TakerValue C × List (Session R W)) (a b : WorkerState S) : Type 0 where
+  pub record HaveBeenServed (shelves : T) (queue : QueueId C) (share : TakerValue C × List (Session R W S)) (a b : WorkerState S) : Type 0 where
     pub fits : words.seats.fits shelves b.seat
     pub queue_is : share.0.queue ≡ queue
     pub served : AreServed share.0.taken share.1 a b

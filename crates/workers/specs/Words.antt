@@ -1,9 +1,10 @@
 -- What contracts say of clients, of feeds and of a server as a whole: one record of words for each.
-use Rattle.std.specs.Prelude.{ℕ, List, Option, Result, String}
+use Rattle.std.specs.Prelude.{ℕ, List, Result, String}
 use Rattle.std.specs.Global.{Global}
 use Rattle.epochs.specs.Words.{LoaderWords, SeatWords}
 use Rattle.feed_files.specs.Files.{FileWords}
 use Rattle.feed_loader.specs.declared.plan.Plan.{Plan}
+use Rattle.lines.specs.Streams.{StreamWords}
 use Rattle.session.specs.declared.reply_form.ReplyForm.{ReplyForm}
 use Rattle.workers.specs.declared.clients.ConnFault.{ConnFault}
 use Rattle.workers.specs.declared.served.SessionEnd.{SessionEnd}
@@ -27,13 +28,12 @@ pub record FeedWords (F D : Type 0) : Type 1 where
   pub are_files : F → ℕ → D → Type 0
   pub is_plan : F → Plan → Type 0
 
--- sessions: the form of their replies, their clients, what is to be read and what was written, if that is known, and the seats at which they are
--- served
+-- sessions: the form of their replies, their clients, these clients' readers and writers, and the seats at which they are served
 pub record SessionWords (C R W T S N : Type 0) : Type 1 where
   pub form : ReplyForm
   pub clients : ClientWords C R W
-  pub unread : R → Option (List ℕ)
-  pub written : W → Option (List ℕ)
+  pub reads : StreamWords R
+  pub writes : StreamWords W
   pub seats : SeatWords T S N
 
 -- what comes of a load: the feed's files, the loader's seat, and the version that a notice is of
@@ -47,10 +47,8 @@ pub record LoadWords (F D T L N : Type 0) : Type 1 where
   pub feeds : FeedWords F D
   pub outcomes : OutcomeWords D T L N
 
-abbrev pub sessions_of : {C R W T S N : Type 0} → ReplyForm → ClientWords C R W → (R → Option (List ℕ)) → (W → Option (List ℕ)) → SeatWords T S N
-    → SessionWords C R W T S N
-sessions_of form clients unread written seats =
-    record { form = form; clients = clients; unread = unread; written = written; seats = seats }
+abbrev pub sessions_of : {C R W T S N : Type 0} → ReplyForm → ClientWords C R W → StreamWords R → StreamWords W → SeatWords T S N → SessionWords C R W T S N
+sessions_of form clients reads writes seats = record { form = form; clients = clients; reads = reads; writes = writes; seats = seats }
 
 abbrev pub outcomes_of : {D T L N : Type 0} → FileWords D → LoaderWords T L → (N → ℕ) → OutcomeWords D T L N
 outcomes_of files loader version = record { files = files; loader = loader; version = version }

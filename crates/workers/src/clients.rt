@@ -4,7 +4,7 @@ ghost use Rattle.std.specs.Prelude.{◌≡◌, ◌++◌, ◌∷◌, [], MatchOpt
 ghost use Rattle.workers.specs.Words.{ClientWords, SourceWords};
 
 use crate::served::SessionEnd;
-use std::io::{Read, Write};
+use lines::{ReadStream, WriteStream};
 
 /// A client couldn't be opened.
 #[derive(Clone, Copy, Debug, PartialEq, Eq)]
@@ -13,9 +13,9 @@ pub struct ConnFault;
 /// A client, who asks for one session. The reader and the writer that `open` gives may be of types that can't be
 /// dropped: `close` takes them back.
 pub trait Client {
-    type Reader: Read + Send;
+    type Reader: ReadStream + Send;
 
-    type Writer: Write + Send;
+    type Writer: WriteStream + Send;
 
     // What may come of opening the client, and whether a reader and a writer may be closed.
     ghost words: { ClientWords Self Self.Reader Self.Writer };

@@ -65,11 +65,11 @@ pub fn run_shelves<
     WorkersFault<K>,
 >
     requires ready { AreReadyAt B.table (server_input_of clients shelves seats.items loader feeds.now) }
-    requires closes { MayClose (sessions_of form C.words C.Reader.remaining C.Writer.contents shelf_seats) seats.items }
+    requires closes { MayClose (sessions_of form C.words C.Reader.words C.Writer.words shelf_seats) seats.items }
     ensures left { MatchResult result
         (IsLeftAt K.words (server_input_of clients shelves seats.items loader feeds.now))
         (IsUnserved K.words clients) }
-    ensures served { IfOk result (AllServed (sessions_of form C.words C.Reader.remaining C.Writer.contents shelf_seats)
+    ensures served { IfOk result (AllServed (sessions_of form C.words C.Reader.words C.Writer.words shelf_seats)
         K.words F.words (server_input_of clients shelves seats.items loader feeds.now)) }
     ensures loaded { IfOk result (AllLoaded (loads_of F.words
         (outcomes_of F.Files.words shelf_loader

@@ -8,7 +8,7 @@ use load_orders::{GhostList, UsedLoader, UsedOrders};
 #[derive(Drop)]
 pub struct ServingOutcome<R, W, K, S, L, N: Drop, D> {
     /// The sessions, seat after seat.
-    pub served: Served<R, W>,
+    pub served: Served<R, W, S>,
     /// The clients' source.
     pub clients: K,
     /// The workers' seats, in their order.

@@ -72,9 +72,9 @@ where
     T::Notice: Send + Drop,
     requires ready { AreReady T.Versions.words T.Loads.words
         (server_input_of clients shelves.now seats.items loader feeds.now) }
-    requires closes { MayClose (sessions_of form C.words C.Reader.remaining C.Writer.contents T.Versions.words)
+    requires closes { MayClose (sessions_of form C.words C.Reader.words C.Writer.words T.Versions.words)
         seats.items }
-    ensures { MatchResult result (IsRun (sessions_of form C.words C.Reader.remaining C.Writer.contents T.Versions.words)
+    ensures { MatchResult result (IsRun (sessions_of form C.words C.Reader.words C.Writer.words T.Versions.words)
         K.words (loads_of F.words (outcomes_of
         F.Files.words T.Loads.words T.Versions.words.version))
         (server_input_of clients shelves.now seats.items loader feeds.now))
@@ -93,10 +93,10 @@ where
                 × IsSend F.Files.row × IsSend E.row
                 × AreReady T.Versions.words T.Loads.words
                 (server_input_of clients shelves.now seats.items loader feeds.now)
-                × MayClose (sessions_of form C.words C.Reader.remaining C.Writer.contents T.Versions.words)
+                × MayClose (sessions_of form C.words C.Reader.words C.Writer.words T.Versions.words)
                 seats.items }
             ensures { MatchResult result (IsRun
-                (sessions_of form C.words C.Reader.remaining C.Writer.contents T.Versions.words)
+                (sessions_of form C.words C.Reader.words C.Writer.words T.Versions.words)
                 K.words (loads_of F.words (outcomes_of
                 F.Files.words
                 T.Loads.words T.Versions.words.version))
@@ -165,11 +165,11 @@ where
                     worker_post,
                     move || -> (Share<C, T::Seat>, UsedOrders<T::Notice>)
                         requires { IsReadyToServe
-                            (sessions_of form C.words C.Reader.remaining C.Writer.contents T.Versions.words)
+                            (sessions_of form C.words C.Reader.words C.Writer.words T.Versions.words)
                             shelves.now taker none_served_yet (worker_state seat [])
                             × (end.items ≡ []) }
                         ensures { IsWorked
-                            (sessions_of form C.words C.Reader.remaining C.Writer.contents T.Versions.words) F.words
+                            (sessions_of form C.words C.Reader.words C.Writer.words T.Versions.words) F.words
                             (post_of (place_of shelves.entry.now form taker.queue feeds.entry.now end.queue) seat)
                             result.0.taker (share_of result.0.served result.0.seat result.1) }
                     {

@@ -1,7 +1,7 @@
 //! How sessions ended.
 
 ghost use Rattle.std.specs.Prelude.{◌≡◌, ◌++◌, ◌∷◌, [], IfSome};
-ghost use Rattle.lines.specs.Counting.{inner_of};
+ghost use Rattle.lines.specs.Streams.{inner_of};
 ghost use Rattle.workers.specs.Ends.{end_of as end_of_outcome};
 
 use crate::clients::Client;
@@ -35,30 +35,30 @@ pub(crate) fn end_of(outcome: Result<Ended, SessionFault>) -> SessionEnd
 /// sessions: for each, how it ended and, if its client could be opened, the client's reader and writer as they were
 /// then.
 #[derive(Drop)]
-pub struct Served<R, W> {
+pub struct Served<R, W, S> {
     ended: u64,
     failed: u64,
     spent: u64,
-    sessions: GhostList<(Option<Streams<R, W>>, SessionEnd)>,
+    sessions: GhostList<(Option<Streams<R, W, S>>, SessionEnd)>,
 }
 
-impl<R, W> Model for Served<R, W> {
+impl<R, W, S> Model for Served<R, W, S> {
     ghost use Rattle.std.specs.Prelude.{List};
     ghost use Rattle.workers.specs.Ends.{AreCounted, Session};
 
-    ghost Value = { List (Session R W) };
+    ghost Value = { List (Session R W S) };
 
     ghost view = { λ s. s.sessions };
 
     ghost invariant = { λ s. AreCounted s.sessions s.ended s.failed s.spent };
 }
 
-impl<R, W> Served<R, W> {
+impl<R, W, S> Served<R, W, S> {
     ghost use Rattle.std.specs.Prelude.{◌≡◌, ◌++◌, ◌∷◌, []};
     ghost use Rattle.workers.specs.Ends.{ended_in, failed_in, spent_in};
 
     /// Counts no session.
-    pub fn new() -> Served<R, W>
+    pub fn new() -> Served<R, W, S>
         ensures { result ≡ [] }
     {
         Served {
@@ -70,7 +70,7 @@ impl<R, W> Served<R, W> {
     }
 
     // Counts a session and notes it.
-    fn add(&mut self, session: &(Option<Streams<R, W>>, SessionEnd))
+    fn add(&mut self, session: &(Option<Streams<R, W, S>>, SessionEnd))
         ensures { self.new ≡ self.old ++ session.now ∷ [] }
     {
         match session.1 {
@@ -82,7 +82,7 @@ impl<R, W> Served<R, W> {
     }
 
     /// Adds another worker's sessions.
-    pub fn join(&mut self, other: Served<R, W>)
+    pub fn join(&mut self, other: Served<R, W, S>)
         ensures { self.new ≡ self.old ++ other }
     {
         let Served {
@@ -120,9 +120,9 @@ impl<R, W> Served<R, W> {
 }
 
 /// Notes the session, and closes its client, if it could be opened, with the very reader and writer that are noted.
-pub(crate) fn close_client<C: Client>(
-    served: &mut Served<C::Reader, C::Writer>,
-    session: (Option<Streams<C::Reader, C::Writer>>, SessionEnd),
+pub(crate) fn close_client<C: Client, S>(
+    served: &mut Served<C::Reader, C::Writer, S>,
+    session: (Option<Streams<C::Reader, C::Writer, S>>, SessionEnd),
 )
     requires closes { IfSome session.0 (λ now. C.words.closes (inner_of now.reader) (inner_of now.writer) session.1) }
     ensures { served.new ≡ served.old ++ session ∷ [] }

@@ -29,13 +29,13 @@ impl<'a, R: Wait, N: Drop, T: Versions<Notice = N>, G: Gate> SessionWorker<'a, R
         client: C,
         seat: &mut T::Seat,
         orders: &mut O,
-    ) -> (Option<Streams<C::Reader, C::Writer>>, SessionEnd)
+    ) -> (Option<Streams<C::Reader, C::Writer, T::Seat>>, SessionEnd)
         requires fits { T.words.fits self.now.session_server.shelves.now seat.old }
         requires notices { AgreeOnNotices O.notice_version T.words.version }
         ensures fits { T.words.fits self.now.session_server.shelves.now seat.new }
         ensures route { O.route orders.new ≡ O.route orders.old }
-        ensures session { IsServedAt (sessions_of self.now.session_server.form C.words C.Reader.remaining
-            C.Writer.contents
+        ensures session { IsServedAt (sessions_of self.now.session_server.form C.words C.Reader.words
+            C.Writer.words
             T.words)
             client result (worker_state seat.old (O.asked orders.old)) (worker_state seat.new (O.asked orders.new)) }
     {
@@ -57,15 +57,15 @@ impl<'a, R: Wait, N: Drop, T: Versions<Notice = N>, G: Gate> SessionWorker<'a, R
         mut taker: Taker<C>,
         mut seat: T::Seat,
         mut orders: O,
-        mut served: Served<C::Reader, C::Writer>,
+        mut served: Served<C::Reader, C::Writer, T::Seat>,
     ) -> (Share<C, T::Seat>, O)
-        requires ready { IsReadyToServe (sessions_of self.now.session_server.form C.words C.Reader.remaining
-            C.Writer.contents T.words)
+        requires ready { IsReadyToServe (sessions_of self.now.session_server.form C.words C.Reader.words
+            C.Writer.words T.words)
             self.now.session_server.shelves.now taker served (worker_state seat (O.asked orders)) }
         requires notices { AgreeOnNotices O.notice_version T.words.version }
         ensures route { O.route result.1 ≡ O.route orders }
-        ensures served { HaveBeenServed (sessions_of self.now.session_server.form C.words C.Reader.remaining
-            C.Writer.contents T.words)
+        ensures served { HaveBeenServed (sessions_of self.now.session_server.form C.words C.Reader.words
+            C.Writer.words T.words)
             self.now.session_server.shelves.now taker.queue (result.0.taker, result.0.served)
             (worker_state seat (O.asked orders)) (worker_state result.0.seat (O.asked result.1)) }
     {
@@ -73,7 +73,7 @@ impl<'a, R: Wait, N: Drop, T: Versions<Notice = N>, G: Gate> SessionWorker<'a, R
             match taker.next(self.rt) {
                 Some(client) => {
                     let session = self.serve_client(client, &mut seat, &mut orders);
-                    close_client::<C>(&mut served, session);
+                    close_client::<C, T::Seat>(&mut served, session);
                 }
                 None => {
                     let share = Share {

@@ -25,7 +25,7 @@ use std::thread::{Promise, PromisedHandle, Threads};
 /// What a worker leaves: its clients' sessions, its end of the queue of clients, and its seat.
 #[derive(Drop)]
 pub(crate) struct Share<C: Client + Drop, S> {
-    pub served: Served<C::Reader, C::Writer>,
+    pub served: Served<C::Reader, C::Writer, S>,
     pub taker: Taker<C>,
     pub seat: S,
 }
@@ -87,7 +87,7 @@ impl<C: Client + Drop, N: Drop, S, T: Versions<Seat = S, Notice = N>, F: Feeds> 
     ghost use Rattle.workers.specs.Words.{sessions_of};
 
     ghost kept_by = { λ post done. IsWorked
-        (sessions_of post.place.form C.words C.Reader.remaining C.Writer.contents T.words) F.words post done.0.taker
+        (sessions_of post.place.form C.words C.Reader.words C.Writer.words T.words) F.words post done.0.taker
         (share_of done.0.served done.0.seat done.1) };
 }
 
@@ -173,7 +173,7 @@ pub(crate) fn deal_and_join<
 ) -> Result<
     (
         K,
-        Served<C::Reader, C::Writer>,
+        Served<C::Reader, C::Writer, S>,
         Vec<S>,
         GhostList<UsedOrders<N>>,
     ),
@@ -185,13 +185,13 @@ pub(crate) fn deal_and_join<
     ensures source { MatchResult result (λ run_result. IsExhausted K.words clients run_result.0)
         (IsExhausted K.words clients) }
     ensures served { IfOk result (λ run_result. AreServedSince
-        (sessions_of form C.words C.Reader.remaining C.Writer.contents T.words) (K.words.came clients)
+        (sessions_of form C.words C.Reader.words C.Writer.words T.words) (K.words.came clients)
         (K.words.came run_result.0)
         (worker_starts (map (λ worker. worker.promise.seat) workers.items)
         (route_at F.words (place_of shelves.now form dealer.queue feeds.now asks.old.queue)))
         (work_of run_result.1 run_result.2.items run_result.3)) }
     ensures back { IfOk result (λ run_result. AreBack
-        (sessions_of form C.words C.Reader.remaining C.Writer.contents T.words)
+        (sessions_of form C.words C.Reader.words C.Writer.words T.words)
         (place_of shelves.now form dealer.queue feeds.now asks.old.queue)
         (work_of run_result.1 run_result.2.items run_result.3) asks.new) }
 {
@@ -223,7 +223,7 @@ fn join_workers<
     asks: &mut OrderKeeper<N>,
 ) -> Option<
     (
-        Served<C::Reader, C::Writer>,
+        Served<C::Reader, C::Writer, S>,
         Vec<S>,
         GhostList<UsedOrders<N>>,
     ),
@@ -232,12 +232,12 @@ fn join_workers<
         (place_of shelves.now form dealer.queue feeds.now asks.old.queue) workers.items asks.old room.items }
     requires dealer { IsReadyToJoin dealer.view (length workers.items) }
     ensures served { IfSome result (λ joined. AreAllServed
-        (sessions_of form C.words C.Reader.remaining C.Writer.contents T.words) dealer.view.sent
+        (sessions_of form C.words C.Reader.words C.Writer.words T.words) dealer.view.sent
         (worker_starts (map (λ worker. worker.promise.seat) workers.items)
         (route_at F.words (place_of shelves.now form dealer.queue feeds.now asks.old.queue)))
         (work_of joined.0 joined.1.items joined.2)) }
     ensures back { IfSome result (λ joined. AreBack
-        (sessions_of form C.words C.Reader.remaining C.Writer.contents T.words)
+        (sessions_of form C.words C.Reader.words C.Writer.words T.words)
         (place_of shelves.now form dealer.queue feeds.now asks.old.queue)
         (work_of joined.0 joined.1.items joined.2) asks.new) }
 {

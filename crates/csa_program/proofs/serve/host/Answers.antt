@@ -9,11 +9,9 @@ returns-in-Ok-serve_accepted g c =
     let folders = c.args.folders.now in
     let made = c.in-Ok.made in
     let acceptor = c.new-acceptor in
-    let hosted = c.in-Ok-serve_accepted.hosted in
-    let shown = c.in-Ok-serve_accepted.ensures in
+    let end = c.in-Ok-serve_accepted.end in
     let kept = acceptor.ensures.rules in
     hosted_run _ _ _ _ _ _ folders.setup.now.request.now c.args.image folders.setup.now.zone_bytes.items
-    made.0 made.2.items made.1 acceptor.result hosted.acceptor folders
-    hosted.served c.end_of.result.0 c.end_of.result.1 c.in-Ok.ensures.first c.in-Ok.ensures.new acceptor.ensures.none_came
-    (ap (λ (rules : SessionRules). rules.idle) kept, ap (λ (rules : SessionRules). rules.log) kept) (refl, refl, refl) shown.run
-    (shown.many folders.setup.now.request.now.sessions acceptor.ensures.counted) c.end_of.ensures.ends c.end_of.ensures.deaf
+    made.0 made.2.items made.1 acceptor.result folders _ end.0 end.1 c.in-Ok.ensures.first c.in-Ok.ensures.new acceptor.ensures.none_came
+    (ap (λ (rules : SessionRules). rules.idle) kept, ap (λ (rules : SessionRules). rules.log) kept) (refl, refl, refl)
+    acceptor.ensures.counted c.in-Ok-serve_accepted.ensures

@@ -11,7 +11,7 @@ pub returns-clause-many : goal.returns-clause-many
 returns-clause-many g c =
     ok_then c.run_shelves.result _
     (λ run_result. g.K.Clients.words.came c.args.clients ≡ [] → length run_result.served ≡ length (g.K.Clients.words.came run_result.clients))
-    (λ run_result served none. sessions_many (sessions_of c.args.form g.C.Client.words g.C.Reader.Read.remaining g.C.Writer.Write.contents shelf_seats)
+    (λ run_result served none. sessions_many (sessions_of c.args.form g.C.Client.words g.C.Reader.ReadStream.words g.C.Writer.WriteStream.words shelf_seats)
     (g.K.Clients.words.came c.args.clients) (g.K.Clients.words.came run_result.clients)
     (worker_starts c.args.made.2.items (route_to c.args.folders.now.setup.now.names.items run_result.orders.queue))
     (work_of run_result.served run_result.seats.items run_result.asked) served none) c.run_shelves.ensures.served

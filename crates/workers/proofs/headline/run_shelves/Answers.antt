@@ -15,5 +15,5 @@ of-loader-requires g c = c.requires.ready.ready.loader_fits ∙ c.requires.ready
 -- the seats are the same under their shelves' name
 pub run_workers-requires-clause-closes : goal.run_workers-requires-clause-closes
 run_workers-requires-clause-closes g c κs within =
-    subst (λ items. MayClose (sessions_of c.args.form g.C.Client.words g.C.Reader.Read.remaining g.C.Writer.Write.contents shelf_seats) items)
+    subst (λ items. MayClose (sessions_of c.args.form g.C.Client.words g.C.Reader.ReadStream.words g.C.Writer.WriteStream.words shelf_seats) items)
     (sym c.in-Ok.ensures) c.requires.closes

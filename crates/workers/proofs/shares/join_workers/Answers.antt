@@ -11,7 +11,7 @@ use Rattle.workers.proofs.shares.join_workers.Goals as goal
 
 pub loop-worker-init : goal.loop-worker-init
 loop-worker-init g c =
-    let words = sessions_of c.args.form g.C.Client.words g.C.Reader.Read.remaining g.C.Writer.Write.contents
+    let words = sessions_of c.args.form g.C.Client.words g.C.Reader.ReadStream.words g.C.Writer.WriteStream.words
     g.T.Versions.words in
     let place = place_of c.args.shelves.now c.args.form c.args.dealer.queue c.args.feeds.now c.args.asks.now.queue in
     let items = c.into_iter-worker-iterator.ensures.into_iter_gives.0 in
@@ -56,7 +56,7 @@ take_in-requires g c =
 -- one worker more is joined, whose taker came back because the queue was closed for it
 pub loop-worker-preserved : goal.loop-worker-preserved
 loop-worker-preserved g c =
-    let words = sessions_of c.args.form g.C.Client.words g.C.Reader.Read.remaining g.C.Writer.Write.contents
+    let words = sessions_of c.args.form g.C.Client.words g.C.Reader.ReadStream.words g.C.Writer.WriteStream.words
     g.T.Versions.words in
     let place = place_of c.args.shelves.now c.args.form c.args.dealer.queue c.args.feeds.now c.args.asks.now.queue in
     let was = c.loop-worker.invariant in
@@ -68,7 +68,7 @@ loop-worker-preserved g c =
     let pair = c.join-share.result in
     let done = pair.0 in
     let share = subst (λ (p : PlaceValue _ _ _ _). IsShare
-    (sessions_of p.form g.C.Client.words g.C.Reader.Read.remaining g.C.Writer.Write.contents g.T.Versions.words)
+    (sessions_of p.form g.C.Client.words g.C.Reader.ReadStream.words g.C.Writer.WriteStream.words g.T.Versions.words)
     (worker_start c.in-Some.worker.promise.seat (route_at g.F.Feeds.words p)) done.taker.taken (share_of done.served done.seat pair.1)) mine kept.served in
     let fits = subst (λ (p : PlaceValue _ _ _ _). g.T.Versions.words.fits p.shelves done.seat) mine kept.fits in
     let back = c.take_back.ensures in
@@ -101,7 +101,7 @@ loop-worker-preserved g c =
 -- all were
 pub returns : goal.returns
 returns g c =
-    let words = sessions_of c.args.form g.C.Client.words g.C.Reader.Read.remaining g.C.Writer.Write.contents
+    let words = sessions_of c.args.form g.C.Client.words g.C.Reader.ReadStream.words g.C.Writer.WriteStream.words
     g.T.Versions.words in
     let place = place_of c.args.shelves.now c.args.form c.args.dealer.queue c.args.feeds.now c.args.asks.now.queue in
     let was = c.loop-worker.invariant in

@@ -21,7 +21,7 @@ invariant-loop-worker g l = record {
   closings : l.dealer.view.closings ≡ length (into_iter_items l.initial.worker-iterator);
   out : l.dealer.view.out ≡ length (into_iter_items l.worker-iterator);
   ended : l.dealer.view.ended + length (into_iter_items l.worker-iterator) ≡ l.dealer.view.closings;
-  joined : Joined (sessions_of l.fn.form g.C.Client.words g.C.Reader.Read.remaining g.C.Writer.Write.contents g.T.Versions.words)
+  joined : Joined (sessions_of l.fn.form g.C.Client.words g.C.Reader.ReadStream.words g.C.Writer.WriteStream.words g.T.Versions.words)
       (λ worker. worker.promise.seat)
       (route_at g.F.Feeds.words (place_of l.fn.shelves l.fn.form l.fn.dealer.queue l.fn.feeds l.fn.asks.queue))
       (into_iter_items l.initial.worker-iterator) (into_iter_items l.worker-iterator)

@@ -24,7 +24,6 @@ returns-in-Ok-clause-session g c =
         end_is = c.end_of.ensures;
         released = is.session.1;
         serves = is.session.2;
-        stops = is.stops;
       };
       number = is.seat.number;
       learns = is.seat.learns;

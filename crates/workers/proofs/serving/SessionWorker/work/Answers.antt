@@ -12,7 +12,7 @@ loop-init g c = record {
   queue = refl;
   route = refl;
   fits = c.requires.ready.fits;
-  served = serves_none (sessions_of c.args.self.now.session_server.form g.C.Client.words g.C.Reader.Read.remaining g.C.Writer.Write.contents
+  served = serves_none (sessions_of c.args.self.now.session_server.form g.C.Client.words g.C.Reader.ReadStream.words g.C.Writer.WriteStream.words
       g.T.Versions.words)
       _ _ (worker_state c.args.seat (g.O.Orders.asked c.args.orders)) c.requires.ready.none_taken c.requires.ready.none_served;
 }
@@ -20,7 +20,7 @@ loop-init g c = record {
 -- a client more was taken and served
 pub loop-preserved : goal.loop-preserved
 loop-preserved g c =
-    let words = sessions_of c.args.self.now.session_server.form g.C.Client.words g.C.Reader.Read.remaining g.C.Writer.Write.contents
+    let words = sessions_of c.args.self.now.session_server.form g.C.Client.words g.C.Reader.ReadStream.words g.C.Writer.WriteStream.words
     g.T.Versions.words in
     let was = c.loop.invariant in
     let one = c.serve_client-session in
@@ -40,7 +40,7 @@ loop-preserved g c =
 -- what was served may be closed
 pub close_client-requires-clause-closes : goal.close_client-requires-clause-closes
 close_client-requires-clause-closes g c =
-    let words = sessions_of c.args.self.now.session_server.form g.C.Client.words g.C.Reader.Read.remaining g.C.Writer.Write.contents
+    let words = sessions_of c.args.self.now.session_server.form g.C.Client.words g.C.Reader.ReadStream.words g.C.Writer.WriteStream.words
     g.T.Versions.words in
     let one = c.serve_client-session in
     let asked = g.O.Orders.asked in
@@ -51,7 +51,7 @@ close_client-requires-clause-closes g c =
 -- none came any more; and what was reported exactly while a client was served is so still
 pub returns-in-None-next-clause-served : goal.returns-in-None-next-clause-served
 returns-in-None-next-clause-served g c =
-    let words = sessions_of c.args.self.now.session_server.form g.C.Client.words g.C.Reader.Read.remaining g.C.Writer.Write.contents
+    let words = sessions_of c.args.self.now.session_server.form g.C.Client.words g.C.Reader.ReadStream.words g.C.Writer.WriteStream.words
     g.T.Versions.words in
     let asked = g.O.Orders.asked in
     let a = worker_state c.args.seat (asked c.args.orders) in

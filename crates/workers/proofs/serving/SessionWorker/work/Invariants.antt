@@ -10,7 +10,7 @@ invariant-loop g l = record {
   queue : l.taker.queue ≡ l.fn.taker.queue;
   route : g.O.Orders.route l.orders ≡ g.O.Orders.route l.fn.orders;
   fits : g.T.Versions.words.fits l.self.session_server.shelves.now l.seat;
-  served : AreServed (sessions_of l.self.session_server.form g.C.Client.words g.C.Reader.Read.remaining g.C.Writer.Write.contents
+  served : AreServed (sessions_of l.self.session_server.form g.C.Client.words g.C.Reader.ReadStream.words g.C.Writer.WriteStream.words
       g.T.Versions.words) l.taker.taken l.served
       (worker_state l.fn.seat (g.O.Orders.asked l.fn.orders)) (worker_state l.seat (g.O.Orders.asked l.orders));
 }

@@ -16,7 +16,7 @@ use Rattle.workers.proofs.running.fn.run_workers.scope.Goals as goal
 -- the next seat is one of those that are left
 pub spawn_with-begun-requires-clause-runs : goal.spawn_with-begun-requires-clause-runs
 spawn_with-begun-requires-clause-runs g c =
-    let words = sessions_of c.captures.form g.C.Client.words g.C.Reader.Read.remaining g.C.Writer.Write.contents
+    let words = sessions_of c.captures.form g.C.Client.words g.C.Reader.ReadStream.words g.C.Writer.WriteStream.words
     g.T.Versions.words in
     let left : All (g.T.Versions.words.fits c.captures.shelves.now) (c.in-Some.seat ∷ c.next.new.self.rest.items) =
     subst (λ items. All (g.T.Versions.words.fits c.captures.shelves.now) items) c.in-Some.ensures.steps.0 c.loop-seat.invariant.fit in
@@ -36,7 +36,7 @@ spawn_with-begun-requires-clause-runs g c =
 
 pub loop-seat-preserved : goal.loop-seat-preserved
 loop-seat-preserved g c =
-    let words = sessions_of c.captures.form g.C.Client.words g.C.Reader.Read.remaining g.C.Writer.Write.contents
+    let words = sessions_of c.captures.form g.C.Client.words g.C.Reader.ReadStream.words g.C.Writer.WriteStream.words
     g.T.Versions.words in
     let was = c.loop-seat.invariant in
     let step = c.in-Some.ensures.steps in
@@ -77,7 +77,7 @@ loop-seat-preserved g c =
 -- all seats may be used at the shelves
 pub loop-seat-init : goal.loop-seat-init
 loop-seat-init g c =
-    let words = sessions_of c.captures.form g.C.Client.words g.C.Reader.Read.remaining g.C.Writer.Write.contents
+    let words = sessions_of c.captures.form g.C.Client.words g.C.Reader.ReadStream.words g.C.Writer.WriteStream.words
     g.T.Versions.words in
     let all : All (g.T.Versions.words.fits c.captures.shelves.now) c.captures.seats.items = c.requires.12.fit in
     let items = c.into_iter-seat-iterator.ensures.into_iter_gives.0 in
@@ -129,7 +129,7 @@ returns-in-Some-close_and_join g c =
     let joined = after.ensures in
     let post = c.in-Ok-started.ensures.ok ∙ c.of-loader_post.ensures in
     let queue : c.loop-seat.asks.queue ≡ after.orders.queue = sym (joined.loaded.queue ∙ was.loader) in
-    let words = sessions_of c.captures.form g.C.Client.words g.C.Reader.Read.remaining g.C.Writer.Write.contents
+    let words = sessions_of c.captures.form g.C.Client.words g.C.Reader.ReadStream.words g.C.Writer.WriteStream.words
     g.T.Versions.words in
     let loads = loads_of g.F.Feeds.words (outcomes_of
     g.F.Files.FeedFiles.words

@@ -13,7 +13,7 @@ invariant-loop-seat g l = record {
   next : (goal.iterator-loop-seat g).can_next l.seat-iterator;
   finite : (goal.iterator-loop-seat g).is_finite l.seat-iterator;
   fit : All (g.T.Versions.words.fits l.shelves) l.seat-iterator.rest.items;
-  close : MayClose (sessions_of l.form g.C.Client.words g.C.Reader.Read.remaining g.C.Writer.Write.contents g.T.Versions.words)
+  close : MayClose (sessions_of l.form g.C.Client.words g.C.Reader.ReadStream.words g.C.Writer.WriteStream.words g.T.Versions.words)
       l.seat-iterator.rest.items;
   len : into_iter_len l.seat-iterator ≡ length (into_iter_items l.seat-iterator);
   at : All (λ worker. worker.promise.place ≡ place_of l.shelves l.form l.dealer.queue l.feeds l.asks.queue) l.workers.items;

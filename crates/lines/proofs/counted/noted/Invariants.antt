@@ -1,0 +1,5 @@
+use Rattle.lines.specs.LineReads.{reads_of}
+use Rattle.lines.proofs.counted.noted.Given as goal
+
+abbrev pub ghost-at : goal.ghost-at
+ghost-at a = (a.first.now.now, reads_of a.second.now)
