@@ -9,10 +9,12 @@ use Rattle.epochs.specs.ShelfLoads.{ShelfLoaderValue}
 use Rattle.epochs.specs.ShelfSeats.{NoticeValue, SeatsHanded, ShelfSeatValue}
 use Rattle.epochs.specs.ShelfWords.{shelf_seats}
 use Rattle.image_layout.specs.Image.{ImageValue}
+use Rattle.client_queue.specs.Dealing.{SourceWords}
 use Rattle.lines.specs.Streams.{StreamWords}
+use Rattle.ordered_loads.specs.Words.{LoadWords}
 use Rattle.session.specs.declared.reply_form.ReplyForm.{ReplyForm}
 use Rattle.workers.specs.Headline.{IsRunAt, ServerInput, server_input_of}
-use Rattle.workers.specs.Words.{ClientWords, LoadWords, SessionWords, SourceWords, sessions_of}
+use Rattle.workers.specs.Words.{ClientWords, SessionWords, sessions_of}
 use Rattle.workers.specs.declared.outcome.ServingOutcome.{ServingOutcome}
 
 -- a run whose replies have the form that is wanted

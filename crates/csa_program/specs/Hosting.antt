@@ -10,7 +10,9 @@ use Rattle.session.specs.declared.reply_form.ReplyForm.{ReplyForm}
 use Rattle.shelf_steps.specs.Handed.{handed}
 use Rattle.shelf_steps.specs.declared.views.View.{View}
 use Rattle.workers.specs.Headline.{IsRunAt, server_input_of}
-use Rattle.workers.specs.Words.{LoadWords, SessionWords, SourceWords}
+use Rattle.client_queue.specs.Dealing.{SourceWords}
+use Rattle.ordered_loads.specs.Words.{LoadWords}
+use Rattle.workers.specs.Words.{SessionWords}
 use Rattle.workers.specs.declared.outcome.ServingOutcome.{ServingOutcome}
 use Rattle.csa_program.specs.Acceptor.{AreAsMany}
 use Rattle.csa_program.specs.Serving.{counts_of, form_with}

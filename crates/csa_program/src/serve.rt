@@ -10,7 +10,8 @@ ghost use Rattle.epochs.specs.ShelfSeats.{SeatsHanded};
 ghost use Rattle.workers.specs.Headline.{AreReadyAt, IsRunAt, server_input_of};
 ghost use Rattle.workers.specs.Sessions.{MayClose};
 ghost use Rattle.epochs.specs.ShelfWords.{shelf_loader, shelf_seats};
-ghost use Rattle.workers.specs.Words.{loads_of, outcomes_of, sessions_of};
+ghost use Rattle.ordered_loads.specs.Words.{loads_of, outcomes_of};
+ghost use Rattle.workers.specs.Words.{sessions_of};
 ghost use Rattle.csa_program.specs.Acceptor.{AreCountedOff};
 ghost use Rattle.csa_program.specs.Hosting.{IsHosted, IsRunTo, first_loader, form_asked};
 ghost use Rattle.csa_program.specs.Running.{IsServeEnd};
@@ -52,7 +53,7 @@ use std::time::{Clock, Instant};
 use std::{io, thread};
 use text_pieces::{put_number, put_text};
 use workers::{
-    Client, Clients, Feeds, LoadRefusal, LoadedVersion, PointForm, ReplyForm, Served,
+    Client, Clients, DrawPermit, Feeds, LoadRefusal, LoadedVersion, PointForm, ReplyForm, Served,
     ServingOutcome, WorkersFault, run_shelves,
 };
 
@@ -111,7 +112,7 @@ impl<'a, H: Disk + Explains + Clock + WallClock + Sync> Feeds for Folders<'a, H>
         }
     }
 
-    fn files(&self, index: usize) -> Option<FolderFiles<'a, H>> {
+    fn files(&self, index: usize, _permit: DrawPermit) -> Option<FolderFiles<'a, H>> {
         match self.setup.request.feeds.get(index) {
             Some(feed) => Some(FolderFiles::new(self.disk, feed.folder)),
             None => None,

@@ -13,7 +13,7 @@ mod taking;
 pub use answer_channels::{AnswerSender, LoadAnswer};
 pub use ghost_list::GhostList;
 pub use keeper::{OrderKeeper, order_queue};
-pub use loader::{LoaderOrders, UsedLoader};
+pub use loader::{DrawPermit, LoaderOrders, UsedLoader};
 pub use orders::{OrderFault, Orders};
 pub use queue::{Order, OrderEnd, OrderRule};
 pub use taking::{UsedOrders, WorkerOrders};

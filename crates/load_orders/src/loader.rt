@@ -74,16 +74,21 @@ impl<N: Drop> Model for UsedLoader<N> {
     } };
 }
 
+/// Leave to draw the files of one feed. It comes with an order that the loader takes, and from nowhere else, and
+/// drawing uses it up: so files are drawn once at most for each order, and for nothing else.
+#[derive(Drop)]
+pub struct DrawPermit(());
+
 impl<N: Drop, P: TakeRule<Order<N>>> LoaderOrders<N, P> {
-    /// Takes the order that has waited longest, or waits for one. Each order taken before must have been answered. None
-    /// if the queue was closed for the loader; then none ever comes. None also if all other ends are gone and the queue
-    /// is empty: the contract says only that it was empty at one moment of the call; that the ends are gone, only tests
-    /// show.
-    pub fn next<R: Wait>(&mut self, rt: &R) -> Option<Order<N>>
+    /// Takes the order that has waited longest, or waits for one; with it comes the leave to draw its feed's files.
+    /// Each order taken before must have been answered. None if the queue was closed for the loader; then none ever
+    /// comes. None also if all other ends are gone and the queue is empty: the contract says only that it was empty at
+    /// one moment of the call; that the ends are gone, only tests show.
+    pub fn next<R: Wait>(&mut self, rt: &R) -> Option<(Order<N>, DrawPermit)>
         requires { AllAnswered self.old }
         ensures queue { self.new.queue ≡ self.old.queue }
-        ensures taken { MatchOption result (self.new.taken ≡ self.old.taken) (λ order. self.new.taken
-            ≡ self.old.taken ++ order ∷ []) }
+        ensures taken { MatchOption result (self.new.taken ≡ self.old.taken) (λ next. self.new.taken
+            ≡ self.old.taken ++ next.0 ∷ []) }
         ensures answered { self.new.answered ≡ self.old.answered }
         ensures over { self.new.over ≡ is_none result }
         ensures none { IfNone result (self.new.closed ≡ false → Held P.Protocol.holds 0
@@ -92,7 +97,10 @@ impl<N: Drop, P: TakeRule<Order<N>>> LoaderOrders<N, P> {
     {
         let order = self.end.next(rt);
         self.over = order.is_none();
-        order
+        match order {
+            Some(order) => Some((order, DrawPermit(()))),
+            None => None,
+        }
     }
 
     /// Sends what came of the order to whoever waits for it, by the order's own answer channel. Perhaps nobody waits

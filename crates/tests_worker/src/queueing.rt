@@ -109,7 +109,7 @@ impl Loader {
     /// index of the order's feed.
     fn answer_next<R: Wait>(self, rt: &R, answer: Option<LoadAnswer<u64>>) -> Option<usize> {
         let mut orders = self.orders;
-        let order = orders.next(rt)?;
+        let (order, _) = orders.next(rt)?;
         let feed = order.feed;
         if let Some(answer) = answer {
             orders.answer(rt, order, answer);
@@ -129,7 +129,7 @@ fn take_and_answer<R: Wait>(rt: &R, orders: &mut LoaderOrders<u64>) -> &'static 
     ensures answered { AllAnswered orders.new }
     ensures queue { orders.new.queue ≡ orders.old.queue }
 {
-    let Some(order) = orders.next(rt) else {
+    let Some((order, _)) = orders.next(rt) else {
         return "nothing";
     };
     let feed = order.feed;

@@ -188,7 +188,7 @@ impl Feeds for TwoFeeds {
         })
     }
 
-    fn files(&self, index: usize) -> Option<MemoryFiles<'static>> {
+    fn files(&self, index: usize, _permit: DrawPermit) -> Option<MemoryFiles<'static>> {
         if index == 1 {
             return Some(MemoryFiles::of(&BAD_FILES));
         }

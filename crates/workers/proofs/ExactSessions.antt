@@ -1,8 +1,6 @@
 -- What sessions reported, by the history that their seat knows in the end.
 use Rattle.std.proofs.Common.{◌≡◌, ◌∷◌, ℕ, List, [], Option, Some, None, sym, subst}
 use Rattle.image_layout.specs.Image.{ImageValue}
-use Rattle.epochs.specs.SeatHistory.{Grows}
-use Rattle.epochs.specs.Seats.{SeatValue}
 use Rattle.shelf_steps.specs.declared.views.KnownHistory.{KnownHistory}
 use Rattle.session.specs.Learning.{IsPublishedIfHeld, Learns, TellPublished, TellsPublished}
 use Rattle.session.specs.Exchanges.{seat_state}
@@ -13,10 +11,6 @@ use Rattle.workers.specs.Sessions.{AreExact, AreServed, IsExact, IsServed, Worke
 use Rattle.workers.specs.Words.{SessionWords}
 use Rattle.workers.specs.declared.served.SessionEnd.{SessionEnd}
 
--- a seat that is left alone while its shelves' history goes on
-learns_later : (k later : KnownHistory) (a : SeatValue) → Grows k later → Learns k a later a
-learns_later k later a grows = learns_nothing TellsPublished k later a.answers grows
-
 module _ {C R W T S N : Type 0} (words : SessionWords C R W T S N) where
   -- what a seat knows only grows
   knows_more : (clients : List C) (sessions : List (Session R W S)) (a b : WorkerState S) → AreServed words clients sessions a b
@@ -24,12 +18,11 @@ module _ {C R W T S N : Type 0} (words : SessionWords C R W T S N) where
   knows_more [] [] a b served =
       subst (λ (s : WorkerState S). Learns (words.seats.known a.seat) (words.seats.shown a.seat) (words.seats.known s.seat) (words.seats.shown s.seat))
       (sym served) (learns_same (words.seats.known a.seat) (words.seats.shown a.seat))
-  knows_more [] (session ∷ sessions) a b served = absurd served
-  knows_more (client ∷ clients) [] a b served = absurd served
   knows_more (client ∷ clients) (session ∷ sessions) a b served =
       let m = served.0 in
       learns_on (words.seats.known a.seat) (words.seats.shown a.seat) (words.seats.known m.seat) (words.seats.shown m.seat)
       (words.seats.known b.seat) (words.seats.shown b.seat) served.1.learns (knows_more clients sessions m b served.2)
+  knows_more clients sessions a b served = absurd served
 
   -- a session at a seat that held nothing, which tells what this history published
   exact_one : (history : KnownHistory) (client : C) (now : Option (Streams R W S)) (end : SessionEnd) (a m : WorkerState S)
@@ -48,17 +41,16 @@ module _ {C R W T S N : Type 0} (words : SessionWords C R W T S N) where
   pub exact : (clients : List C) (sessions : List (Session R W S)) (a b : WorkerState S) → (words.seats.shown a.seat).held ≡ None
       → AreServed words clients sessions a b → AreExact words clients sessions a b
   exact [] [] a b none served = served
-  exact [] (session ∷ sessions) a b none served = absurd served
-  exact (client ∷ clients) [] a b none served = absurd served
   exact (client ∷ clients) (session ∷ sessions) a b none served =
       let m = served.0 in
       let at = served.1 in
       let rest = knows_more clients sessions m b served.2 in
       let known = words.seats.known in
       let learns = learns_on (known a.seat) (words.seats.shown a.seat) (known m.seat) (words.seats.shown m.seat)
-      (known b.seat) (words.seats.shown m.seat) at.learns (learns_later (known m.seat) (known b.seat) (words.seats.shown m.seat) rest.grows) in
+      (known b.seat) (words.seats.shown m.seat) at.learns (learns_nothing TellsPublished (known m.seat) (known b.seat) _ rest.grows) in
       let tells = learning_tells (known a.seat) (known b.seat) (words.seats.shown a.seat) (words.seats.shown m.seat) learns in (
         m,
         exact_one (known b.seat) client session.0 session.1 a m none at.served tells,
         exact clients sessions m b (at.idle none) served.2,
       )
+  exact clients sessions a b none served = absurd served

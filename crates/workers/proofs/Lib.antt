@@ -1,5 +1,3 @@
 pub mod Ending
-pub mod Carried
 pub mod Shared
 pub mod ExactSessions
-mod Learning

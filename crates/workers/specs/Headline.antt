@@ -15,10 +15,12 @@ use Rattle.image_layout.specs.Image.{ImageValue}
 use Rattle.shelf_steps.specs.Laws.{IsLoader, Shelved}
 use Rattle.shelf_steps.specs.Rule.{KeepsRule}
 use Rattle.shelf_steps.specs.declared.views.LoaderView.{LoaderView}
-use Rattle.workers.specs.Carrying.{AreLoaded, load_input_of, loads_value}
+use Rattle.client_queue.specs.Dealing.{IsExhausted, SourceWords}
+use Rattle.ordered_loads.specs.Carrying.{AreLoaded, load_input_of, loads_value}
+use Rattle.ordered_loads.specs.Words.{FeedWords, LoadWords}
 use Rattle.workers.specs.Ordering.{AreAllTaken, route_to}
 use Rattle.workers.specs.Sessions.{AreServedSince, worker_starts, work_of}
-use Rattle.workers.specs.Words.{FeedWords, IsExhausted, LoadWords, SessionWords, SourceWords}
+use Rattle.workers.specs.Words.{SessionWords}
 use Rattle.workers.specs.declared.outcome.ServingOutcome.{ServingOutcome}
 use Rattle.workers.specs.declared.running.WorkersFault.{WorkersFault}
 

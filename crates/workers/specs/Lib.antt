@@ -1,12 +1,6 @@
 pub mod Words
 pub mod Ends
 pub mod Sessions
-pub mod Dealing
-pub mod Loading
-pub mod Carrying
 pub mod Ordering
-pub mod Drawing
-pub mod Learned
-pub mod Lines
 pub mod Posts
 pub mod Headline

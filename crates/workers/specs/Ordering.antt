@@ -3,7 +3,7 @@ use Rattle.std.specs.Prelude.{◌≡◌, ℕ, List, String, IsPermutation, flat_
 use Rattle.std.specs.Global.{Global}
 use Rattle.handoff.specs.Queue.{IsQueue}
 use Rattle.load_orders.specs.Asking.{HasAsked, OrderRoute, WorkerOrdersValue, route_of}
-use Rattle.load_orders.specs.Keeping.{KeeperValue, QueueId}
+use Rattle.load_orders.specs.Keeping.{QueueId}
 use Rattle.load_orders.specs.Answering.{LoaderOrdersValue}
 use Rattle.load_orders.specs.declared.queue.Order.{Order}
 
@@ -22,8 +22,3 @@ put_by workers = flat_map (λ orders. orders.end.items) workers
 -- the loader took what these workers put, each order once, and nothing else
 abbrev pub AreAllTaken : {N : Type 0} → List (WorkerOrdersValue N) → LoaderOrdersValue N → Type 0
 AreAllTaken workers loader = IsPermutation (put_by workers) loader.taken
-
--- the end that keeps this queue, while so many ends are out at which orders are put: these orders were put at the ends that came back, and the
--- queue isn't closed
-abbrev pub IsKeeperOf : {N : Type 0} → QueueId N → List (Order N) → ℕ → KeeperValue N → Type 0
-IsKeeperOf queue put out keeper = keeper ≡ record { queue = queue; put = put; out = out; closings = 0 }

@@ -1,13 +1,14 @@
--- Where the workers and the loader of a server work, and what they leave there.
-use Rattle.std.specs.Prelude.{◌≡◌, ◌≤◌, List, [], All, length}
+-- Where the workers of a server work, and what they leave there.
+use Rattle.std.specs.Prelude.{◌≡◌, ◌++◌, ◌∷◌, ℕ, List, [], All, length, true}
+use Rattle.client_queue.specs.Ends.{DealerValue, nothing_put, with_back}
 use Rattle.handoff.specs.Ends.{QueueId as ClientQueueId, TakerValue}
 use Rattle.load_orders.specs.Asking.{OrderRoute}
-use Rattle.load_orders.specs.Keeping.{KeeperValue, QueueId}
+use Rattle.load_orders.specs.Keeping.{KeeperValue, QueueId, with_orders}
+use Rattle.ordered_loads.specs.Words.{FeedWords}
 use Rattle.session.specs.declared.reply_form.ReplyForm.{ReplyForm}
-use Rattle.workers.specs.Carrying.{AreLoaded, LoadsValue, load_input_of}
-use Rattle.workers.specs.Ordering.{IsKeeperOf, put_by, route_to}
-use Rattle.workers.specs.Sessions.{IsShare, ShareValue, WorkValue, worker_start}
-use Rattle.workers.specs.Words.{FeedWords, LoadWords, SessionWords}
+use Rattle.workers.specs.Ordering.{put_by, route_to}
+use Rattle.workers.specs.Sessions.{HaveAllServed, IsShare, ShareValue, WorkValue, WorkerStart, worker_start}
+use Rattle.workers.specs.Words.{SessionWords}
 
 -- where all workers of a server work: at these shelves, with replies in this form, for the clients of this queue, and with orders of these feeds by
 -- this queue
@@ -29,16 +30,6 @@ pub record PostValue (T S C N F : Type 0) : Type 0 where
 abbrev pub post_of : {T S C N F : Type 0} → PlaceValue T C N F → S → PostValue T S C N F
 post_of place seat = record { place = place; seat = seat }
 
--- the loader's post: its seat at these shelves, these feeds, and the queue of its orders
-pub record LoaderPostValue (T L F N : Type 0) : Type 0 where
-  pub shelves : T
-  pub seat : L
-  pub feeds : F
-  pub queue : QueueId N
-
-abbrev pub loader_post_of : {T L F N : Type 0} → T → L → F → QueueId N → LoaderPostValue T L F N
-loader_post_of shelves seat feeds queue = record { shelves = shelves; seat = seat; feeds = feeds; queue = queue }
-
 -- the way of all orders that are asked for at this place
 abbrev pub route_at : {T C N F D : Type 0} → FeedWords F D → PlaceValue T C N F → OrderRoute N
 route_at feeds place = route_to (feeds.named place.feeds) place.orders
@@ -51,23 +42,48 @@ pub record IsWorked {C R W T S N F D : Type 0} (words : SessionWords C R W T S N
   pub fits : words.seats.fits post.place.shelves share.seat
   pub served : IsShare words (worker_start post.seat (route_at feeds post.place)) taker.taken share
 
--- what the loader leaves of its post: its end of the queue of orders, its seat, which still fits the shelves, and the loads that were ordered
-pub record IsLoaderDone {F D T L N : Type 0} (words : LoadWords F D T L N) (post : LoaderPostValue T L F N) (loads : LoadsValue D N) (b : L)
-    : Type 0 where
-  pub queue : loads.orders.queue ≡ post.queue
-  pub fits : words.outcomes.loader.fits post.shelves b
-  pub loaded : AreLoaded (load_input_of words post.feeds loads.orders.queue) post.seat loads b
+-- the ends that keep both queues
+pub record QueuesValue (C N : Type 0) : Type 0 where
+  pub clients : DealerValue C
+  pub orders : KeeperValue N
 
--- the workers that are out, one at least: all have posts at this place, their ends of the queue of orders are out, and no seat is back
-pub record AreOut {H T S C N F : Type 0} (post_of : H → PostValue T S C N F) (place : PlaceValue T C N F) (workers : List H) (keeper : KeeperValue N)
-    (back : List S) : Type 0 where
-  pub at : All (λ worker. (post_of worker).place ≡ place) workers
-  pub some : 1 ≤ length workers
-  pub ends : IsKeeperOf place.orders [] (length workers) keeper
-  pub none_back : back ≡ []
+abbrev pub queues_of : {C N : Type 0} → DealerValue C → KeeperValue N → QueuesValue C N
+queues_of clients orders = record { clients = clients; orders = orders }
 
--- all workers are back: their ends of the queue of orders, with what was put there, and their seats, which still fit the shelves
-pub record AreBack {C R W T S N F : Type 0} (words : SessionWords C R W T S N) (place : PlaceValue T C N F) (work : WorkValue R W S N)
-    (keeper : KeeperValue N) : Type 0 where
-  pub ends : IsKeeperOf place.orders (put_by work.orders) 0 keeper
-  pub fit : All (words.seats.fits place.shelves) work.seats
+-- a worker is joined for whom the queue of clients was closed: its ends of both queues are back, and what it leaves of its post is added to the work
+pub record IsJoined {C R W T S N F D : Type 0} (words : SessionWords C R W T S N) (feeds : FeedWords F D) (post : PostValue T S C N F)
+    (a b : QueuesValue C N × WorkValue R W S N) : Type 0 where
+  pub taker : TakerValue C
+  pub share : ShareValue R W S N
+  pub worked : IsWorked words feeds post taker share
+  pub closed : taker.closed ≡ true
+  pub clients_are : b.0.clients ≡ with_back a.0.clients taker
+  pub orders_are : b.0.orders ≡ with_orders a.0.orders share.orders.end.items
+  pub sessions_are : b.1.sessions ≡ a.1.sessions ++ share.sessions
+  pub seats_are : b.1.seats ≡ a.1.seats ++ share.seat ∷ []
+  pub asked_are : b.1.orders ≡ a.1.orders ++ share.orders ∷ []
+
+-- these clients were put in their queue, which was closed for so many takers, and so many of these came back because it was
+pub record AreBack {C : Type 0} (clients : List C) (takers back : ℕ) (a b : DealerValue C) : Type 0 where
+  pub queue : b.queue ≡ a.queue
+  pub sent : b.view.sent ≡ clients
+  pub closings : b.view.closings ≡ takers
+  pub out : b.view.out ≡ a.view.out
+  pub ended : b.view.ended ≡ back
+
+-- nothing was put in either queue, and the queue of orders is open; ends of both may be out
+pub record AreUnused {C N : Type 0} (queues : QueuesValue C N) : Type 0 where
+  pub none_put : queues.clients.view ≡ record nothing_put { out = queues.clients.view.out }
+  pub none_asked : queues.orders.put ≡ []
+  pub unclosed : queues.orders.closings ≡ 0
+
+-- all clients by whom the list of those who came grew were put in their queue, which was closed for so many takers; workers at these posts took some
+-- of them and served them, and their ends of both queues are back
+pub record HaveServed {C R W T S N : Type 0} (words : SessionWords C R W T S N) (shelves : T) (starts : List (WorkerStart S N)) (takers : ℕ)
+    (before after : List C) (a b : QueuesValue C N) (work : WorkValue R W S N) : Type 0 where
+  pub clients : List C
+  pub came : after ≡ before ++ clients
+  pub dealt : AreBack clients takers (length starts) a.clients b.clients
+  pub served : HaveAllServed words b.clients.view.taken starts work
+  pub fit : All (words.seats.fits shelves) work.seats
+  pub orders_are : b.orders ≡ record a.orders { put = put_by work.orders }

@@ -1,6 +1,5 @@
 -- What clients' sessions do.
-use Rattle.std.specs.Prelude.{◌≡◌, ◌++◌, ◌∷◌, ℕ, Some, None, List, [], All, Result, Ok, Err, IsPermutation, MatchOption, flat_map, map}
-use Rattle.client_queue.specs.declared.queue.DealerView.{DealerView}
+use Rattle.std.specs.Prelude.{◌≡◌, ◌++◌, ◌∷◌, Some, None, List, [], All, Result, Ok, Err, IsPermutation, MatchOption, flat_map, map}
 use Rattle.epochs.specs.Seats.{SeatValue}
 use Rattle.handoff.specs.Ends.{QueueId, TakerValue}
 use Rattle.lines.specs.Streams.{inner_of}
@@ -144,6 +143,11 @@ module _ {C R W T S N : Type 0} (words : SessionWords C R W T S N) where
   abbrev pub MayClose : List S → Type 0
   MayClose seats = All (λ seat. MayCloseFrom (worker_state seat [])) seats
 
+  -- a worker may begin at this seat of these shelves
+  pub record MayBegin (shelves : T) (seat : S) : Type 0 where
+    pub fits : words.seats.fits shelves seat
+    pub closes : MayCloseFrom (worker_state seat [])
+
   -- at these shelves a worker's end of the queue of clients, at which none was taken yet, and a seat, from which on clients may be closed; and no
   -- session was noted yet
   pub record IsReadyToServe (shelves : T) (taker : TakerValue C) (sessions : List (Session R W S)) (start : WorkerState S) : Type 0 where
@@ -183,15 +187,12 @@ module _ {C R W T S N : Type 0} (words : SessionWords C R W T S N) where
     pub seats_are : work.seats ≡ map (λ share. share.seat) shares
     pub orders_are : work.orders ≡ map (λ share. share.orders) shares
 
+  -- all clients of whom these workers took just these, each client once, are served
+  abbrev pub HaveAllServed : List C → List (WorkerStart S N) → WorkValue R W S N → Type 0
+  HaveAllServed taken starts work = (clients : List C) → IsPermutation clients taken → AreAllServed clients starts work
+
   -- all clients by whom the list of those who came grew are served
   pub record AreServedSince (before after : List C) (starts : List (WorkerStart S N)) (work : WorkValue R W S N) : Type 0 where
     pub clients : List C
     pub came : after ≡ before ++ clients
     pub all : AreAllServed clients starts work
-
--- so many workers are out, none is back, and the queue was closed for each
-pub record IsReadyToJoin {C : Type 0} (dealer : DealerView C) (workers : ℕ) : Type 0 where
-  pub out : dealer.out ≡ workers
-  pub closings : dealer.closings ≡ workers
-  pub nothing_back : dealer.taken ≡ []
-  pub none_ended : dealer.ended ≡ 0

@@ -5,16 +5,18 @@ ghost use Rattle.workers.specs.Headline.{AllLoaded, AllServed, AreReadyAt, IsLef
 ghost use Rattle.workers.specs.Headline.{PinnedAreLeftAloneAt, server_input_of};
 ghost use Rattle.workers.specs.Sessions.{MayClose};
 ghost use Rattle.epochs.specs.ShelfWords.{shelf_loader, shelf_seats};
-ghost use Rattle.workers.specs.Words.{loads_of, outcomes_of, sessions_of};
+ghost use Rattle.ordered_loads.specs.Words.{loads_of, outcomes_of};
+ghost use Rattle.workers.specs.Words.{sessions_of};
 
-use crate::clients::{Client, Clients};
-use crate::feeds::Feeds;
+use crate::clients::Client;
 use crate::outcome::ServingOutcome;
 use crate::running::{WorkersFault, run_workers};
+use client_queue::Clients;
 use epochs::laws::{pinned_images_are_left_alone, seats_know_one_history};
 use epochs::{
     NamedLoader, NamedNotice, NamedSeat, NamedShelves, ShelfLoader, ShelfSeat, Shelves, ShelvesName,
 };
+use ordered_loads::Feeds;
 use orders::Gate;
 use session::ReplyForm;
 use std::alloc::{AllocError, Global};
@@ -38,8 +40,8 @@ use std::thread::Threads;
 ///   over the image that was published as the version that the reply names, and for it each connection of the window
 ///   was read once, which is noted with the reply; or the reply says why it isn't: memory ran out, no version could be
 ///   pinned, or the profile or its window can't be asked of that image.
-/// - `loaded`: the loader took exactly the orders that the sessions put, each once, and carried out each. Each image
-///   that it published is that of the bytes that the files of the ordered feed gave.
+/// - `loaded`: the loader took exactly the orders that the sessions put, each once, and carried out each, from files
+///   that were drawn for it. Each image that it published is that of the bytes that the files of the ordered feed gave.
 /// - `pinned`: no image is collected while a seat of these shelves has it pinned.
 pub fn run_shelves<
     B: ShelvesName + Send + Sync,
@@ -111,14 +113,15 @@ fn know_one_history<B: ShelvesName>(seats: &Vec<NamedSeat<B>>, loader: &NamedLoa
 // The seats, under their shelves' name.
 fn named_seats<B: ShelvesName>(
     alloc: Global,
-    seats: Vec<ShelfSeat>,
+    mut seats: Vec<ShelfSeat>,
 ) -> Result<Vec<NamedSeat<B>>, AllocError>
     requires { All (λ seat. seat.table ≡ B.table) seats.items }
     ensures { IfOk result (λ named. named.items ≡ seats.items) }
 {
-    let mut named = Vec::with_capacity(alloc, seats.len())?;
-    for seat in seats {
-        named.push(NamedSeat::of(seat))?;
-    }
+    let Some(seat) = seats.pop() else {
+        return Ok(Vec::new(alloc));
+    };
+    let mut named = named_seats(alloc, seats)?;
+    named.push(NamedSeat::of(seat))?;
     Ok(named)
 }

@@ -1,28 +1,21 @@
 //! Workers that serve sessions concurrently, each at a seat of its own, and the one loader beside them.
 #![tactic(auto)]
 
-mod carrying;
 mod clients;
-mod dealing;
-mod drawing;
-mod feeds;
 mod headline;
-mod loading;
 mod outcome;
-mod refusal;
+mod posts;
 mod running;
 mod served;
 mod serving;
 mod shares;
 
-pub use clients::{Client, Clients, ConnFault};
-pub use drawing::{DrawnFiles, UsedFiles};
-pub use feeds::Feeds;
+pub use client_queue::Clients;
+pub use clients::{Client, ConnFault};
 pub use headline::run_shelves;
-pub use load_orders::UsedLoader;
-pub use loading::{LoadedVersion, load_one};
+pub use load_orders::{DrawPermit, UsedLoader};
+pub use ordered_loads::{DrawnFiles, Feeds, LoadRefusal, LoadedVersion, UsedFiles, load_one};
 pub use outcome::ServingOutcome;
-pub use refusal::LoadRefusal;
 pub use running::{WorkersFault, run_workers};
 pub use served::{Served, SessionEnd};
 pub use serving::SessionWorker;

@@ -1,31 +1,33 @@
 //! The workers and the loader, in one scope.
 
 ghost use denote.Param.Send.{IsSend, IsSync};
-ghost use Rattle.std.specs.Prelude.{◌≡◌, ◌++◌, ◌∷◌, [], MatchResult, OnOk};
-ghost use Rattle.workers.specs.Carrying.{loads_value};
+ghost use Rattle.std.specs.Prelude.{All, IfOk, MatchResult};
+ghost use Rattle.client_queue.specs.Dealing.{IsExhausted};
+ghost use Rattle.ordered_loads.specs.Words.{loads_of, outcomes_of};
 ghost use Rattle.workers.specs.Headline.{AreReady, IsRun, IsUnserved, server_input_of};
-ghost use Rattle.workers.specs.Posts.{IsLoaderDone, IsWorked, loader_post_of, place_of, post_of};
-ghost use Rattle.workers.specs.Sessions.{IsReadyToServe, MayClose, share_of, worker_state};
-ghost use Rattle.workers.specs.Words.{loads_of, outcomes_of, sessions_of};
+ghost use Rattle.workers.specs.Ordering.{route_to};
+ghost use Rattle.workers.specs.Posts.{AreUnused, HaveServed, queues_of};
+ghost use Rattle.workers.specs.Sessions.{MayBegin, MayClose, work_of, worker_starts};
+ghost use Rattle.workers.specs.Words.{sessions_of};
 
-use crate::carrying::LoadContext;
-use crate::clients::{Client, Clients};
-use crate::drawing::UsedFiles;
-use crate::feeds::Feeds;
+use crate::clients::Client;
 use crate::outcome::ServingOutcome;
+use crate::posts::{Workplace, join_worker, start_worker};
 use crate::served::Served;
-use crate::serving::SessionWorker;
-use crate::shares::{LoaderPost, Share, WorkerPost, close_and_join, deal_and_join};
-use client_queue::client_queue;
+use crate::shares::Work;
+use client_queue::{Clients, Dealer, client_queue, deal_all};
 use epochs::{Loads, Versions};
-use load_orders::{GhostList, LoaderOrders, UsedOrders, WorkerOrders, order_queue};
+use feed_loader::FeedFiles;
+use lines::{ReadStream, WriteStream};
+use load_orders::{GhostList, OrderKeeper, order_queue};
+use ordered_loads::{Feeds, LoadContext, close_and_join, start_loader};
 use orders::Gate;
-use session::{ReplyForm, SessionServer};
-use std::alloc::{AllocError, Global};
+use session::ReplyForm;
+use std::alloc::Global;
 use std::io::Write;
 use std::sync::Wait;
 use std::thread;
-use std::thread::Threads;
+use std::thread::{Scope, Threads};
 use thiserror::Error;
 
 /// Why clients weren't served, or why nothing is known of their sessions; with the clients' source.
@@ -103,123 +105,144 @@ where
                 (server_input_of clients shelves.entry.now seats.items loader feeds.entry.now))
                 (IsUnserved K.words clients) }
         {
-            let Ok(mut dealer) = client_queue(alloc) else {
-                return Err(WorkersFault::NotStarted { clients });
+            let workplace = Workplace {
+                rt,
+                alloc,
+                shelves,
+                feeds,
+                gate,
+                form,
             };
-            let Ok(room) = Vec::with_capacity(alloc, seats.len()) else {
-                return Err(WorkersFault::NotStarted { clients });
-            };
-            let Ok((mut asks, orders)) = order_queue(alloc) else {
-                return Err(WorkersFault::NotStarted { clients });
-            };
-            let loader_seat = loader;
-            let loader_post = LoaderPost::of(shelves, &loader_seat, feeds, &orders);
-            // Made here, since what a thread returns has to be of types that it captures.
-            let unused = GhostList::none();
-            let started = scope.spawn_with(
-                loader_post,
-                move || -> (
-                    LoaderOrders<T::Notice>,
-                    T::Loader,
-                    UsedFiles<F::Files, T::Notice>,
-                )
-                    requires { T.Loads.words.fits shelves.now loader_seat
-                        × (orders.taken ≡ []) × (orders.answered ≡ []) × (unused ≡ []) }
-                    ensures { IsLoaderDone
-                        (loads_of F.words (outcomes_of
-                        F.Files.words
-                        T.Loads.words T.Versions.words.version))
-                        (loader_post_of shelves.entry.now loader_seat feeds.entry.now orders.queue)
-                        (loads_value result.0 result.2) result.1 }
-                {
-                    let loading = LoadContext {
-                        rt,
-                        alloc,
-                        shelves,
-                        feeds,
-                    };
-                    let (orders, loader_seat, used, _) = loading.load_all(
-                        orders,
-                        loader_seat,
-                        unused,
-                        errors,
-                    );
-                    (orders, loader_seat, used)
-                },
-            );
-            let Ok(loading) = started else {
-                return Err(WorkersFault::NotStarted { clients });
-            };
-            let mut workers = Vec::new(alloc);
-            for seat in seats {
-                let Ok(taker) = dealer.taker() else {
-                    return Err(WorkersFault::NotStarted { clients });
-                };
-                let Ok(end) = asks.another_end() else {
-                    return Err(WorkersFault::NotStarted { clients });
-                };
-                // Made here too.
-                let none_served_yet = Served::new();
-                let worker_post = WorkerPost::of(shelves, form, &taker, feeds, &end, &seat);
-                let begun = scope.spawn_with(
-                    worker_post,
-                    move || -> (Share<C, T::Seat>, UsedOrders<T::Notice>)
-                        requires { IsReadyToServe
-                            (sessions_of form C.words C.Reader.words C.Writer.words T.Versions.words)
-                            shelves.now taker none_served_yet (worker_state seat [])
-                            × (end.items ≡ []) }
-                        ensures { IsWorked
-                            (sessions_of form C.words C.Reader.words C.Writer.words T.Versions.words) F.words
-                            (post_of (place_of shelves.entry.now form taker.queue feeds.entry.now end.queue) seat)
-                            result.0.taker (share_of result.0.served result.0.seat result.1) }
-                    {
-                        let session_server = SessionServer {
-                            alloc,
-                            shelves,
-                            gate,
-                            form,
-                        };
-                        let orders = WorkerOrders::new(rt, alloc, feeds.names(), shelves, end);
-                        let worker = SessionWorker { rt, session_server };
-                        let (share, orders) = worker.work(taker, seat, orders, none_served_yet);
-                        (share, orders.into_used())
-                    },
-                );
-                let Ok(worker) = begun else {
-                    return Err(WorkersFault::NotStarted { clients });
-                };
-                let Ok(()) = push_worker(&mut workers, worker) else {
-                    return Err(WorkersFault::NotStarted { clients });
-                };
-            }
-            let served = deal_and_join(
-                rt, shelves, form, feeds, clients, dealer, workers, room, &mut asks,
-            );
-            match served {
-                Ok((clients, served, seats, asked)) => match close_and_join(rt, asks, loading) {
-                    Some((orders, loader, used)) => Ok(ServingOutcome {
-                        served,
-                        clients,
-                        seats,
-                        orders,
-                        loader,
-                        asked,
-                        used,
-                    }),
-                    None => Err(WorkersFault::Lost { clients }),
-                },
-                Err(clients) => Err(WorkersFault::Lost { clients }),
-            }
+            run_in(scope, &workplace, clients, seats, loader, errors)
         },
     )
 }
 
-// Adds the worker at the end.
-fn push_worker<W: Drop>(workers: &mut Vec<W>, worker: W) -> Result<(), AllocError>
-    ensures { OnOk result (workers.new.items ≡ workers.old.items ++ worker ∷ []) }
+// Starts the loader in this scope, has all clients served at the seats, and joins the loader.
+fn run_in<
+    's,
+    A,
+    C: Client<Reader = I, Writer = O> + Drop + Send + 's,
+    I: ReadStream + Send + 's,
+    O: WriteStream + Send + 's,
+    K: Clients<C> + Drop,
+    S: Send + Drop + 's,
+    L: Send + Drop + 's,
+    N: Send + Drop + 's,
+    D: FeedFiles + Send + Drop + 's,
+    T: Versions<Seat = S, Notice = N> + Loads<Loader = L> + Sync + 's,
+    F: Feeds<Files = D> + Sync + 's,
+    G: Gate + Sync + 's,
+    E: Write + Send + Drop + 's,
+    R: Threads + Wait + Sync + 's,
+>(
+    scope: &Scope<'s, A>,
+    workplace: &Workplace<'s, R, T, F, G>,
+    clients: K,
+    seats: Vec<S>,
+    loader: L,
+    errors: E,
+) -> Result<ServingOutcome<I, O, K, S, L, N, D>, WorkersFault<K>>
+    requires ready { AreReady T.Versions.words T.Loads.words
+        (server_input_of clients workplace.now.shelves.now seats.items loader workplace.now.feeds.now) }
+    requires closes { MayClose (sessions_of workplace.now.form C.words I.words O.words T.Versions.words)
+        seats.items }
+    ensures { MatchResult result (IsRun
+        (sessions_of workplace.now.form C.words I.words O.words T.Versions.words)
+        K.words (loads_of F.words (outcomes_of D.words T.Loads.words T.Versions.words.version))
+        (server_input_of clients workplace.now.shelves.now seats.items loader workplace.now.feeds.now))
+        (IsUnserved K.words clients) }
 {
-    match workers.push(worker) {
-        Ok(()) => Ok(()),
-        Err(_) => Err(AllocError),
+    let Ok(mut dealer) = client_queue(workplace.alloc) else {
+        return Err(WorkersFault::NotStarted { clients });
+    };
+    let Ok((mut asks, orders)) = order_queue(workplace.alloc) else {
+        return Err(WorkersFault::NotStarted { clients });
+    };
+    let loads = LoadContext {
+        rt: workplace.rt,
+        alloc: workplace.alloc,
+        shelves: workplace.shelves,
+        feeds: workplace.feeds,
+    };
+    let Ok(loading) = start_loader(scope, &loads, loader, orders, errors) else {
+        return Err(WorkersFault::NotStarted { clients });
+    };
+    let takers = seats.len();
+    let (clients, work) = serve_at(
+        scope,
+        workplace,
+        &mut dealer,
+        &mut asks,
+        clients,
+        seats,
+        takers,
+    )?;
+    dealer.all_were_taken();
+    match close_and_join(workplace.rt, asks, loading) {
+        Some((orders, loader, used)) => Ok(ServingOutcome {
+            served: work.served,
+            clients,
+            seats: work.seats,
+            orders,
+            loader,
+            asked: work.asked,
+            used,
+        }),
+        None => Err(WorkersFault::Lost { clients }),
+    }
+}
+
+// Has all clients served by a worker at each of these seats. The worker at the last seat is started, the clients are
+// served at the others, and it is joined; where no seat is left, all clients are dealt, and the queue is closed for so
+// many takers. Returns the clients' source, and what these workers leave.
+fn serve_at<
+    's,
+    A,
+    C: Client<Reader = I, Writer = O> + Drop + Send + 's,
+    I: ReadStream + Send + 's,
+    O: WriteStream + Send + 's,
+    K: Clients<C> + Drop,
+    S: Send + Drop + 's,
+    N: Send + Drop + 's,
+    T: Versions<Seat = S, Notice = N> + Sync + 's,
+    F: Feeds + Sync + 's,
+    G: Gate + Sync + 's,
+    R: Threads + Wait + Sync + 's,
+>(
+    scope: &Scope<'s, A>,
+    workplace: &Workplace<'s, R, T, F, G>,
+    dealer: &mut Dealer<C>,
+    asks: &mut OrderKeeper<N>,
+    clients: K,
+    mut seats: Vec<S>,
+    takers: usize,
+) -> Result<(K, Work<I, O, S, N>), WorkersFault<K>>
+    requires begin { All (MayBegin (sessions_of workplace.now.form C.words I.words O.words T.words)
+        workplace.now.shelves.now) seats.items }
+    requires unused { AreUnused (queues_of dealer.old asks.old) }
+    ensures source { MatchResult result (λ left. IsExhausted K.words clients left.0) (IsUnserved K.words clients) }
+    ensures served { IfOk result (λ left. HaveServed
+        (sessions_of workplace.now.form C.words I.words O.words T.words) workplace.now.shelves.now
+        (worker_starts seats.items (route_to (F.words.named workplace.now.feeds.now) asks.old.queue)) takers
+        (K.words.came clients) (K.words.came left.0) (queues_of dealer.old asks.old) (queues_of dealer.new asks.new)
+        (work_of left.1.served left.1.seats.items left.1.asked)) }
+{
+    let Some(seat) = seats.pop() else {
+        let source = deal_all(workplace.rt, clients, dealer, takers);
+        let work = Work {
+            served: Served::new(),
+            seats,
+            asked: GhostList::none(),
+        };
+        return Ok((source, work));
+    };
+    let Some(worker) = start_worker(scope, workplace, dealer, asks, seat) else {
+        return Err(WorkersFault::NotStarted { clients });
+    };
+    let (source, work) = serve_at(scope, workplace, dealer, asks, clients, seats, takers)?;
+    match join_worker(workplace.rt, worker, dealer, asks, work) {
+        Some(work) => Ok((source, work)),
+        None => Err(WorkersFault::Lost { clients: source }),
     }
 }

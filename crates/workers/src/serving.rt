@@ -58,7 +58,7 @@ impl<'a, R: Wait, N: Drop, T: Versions<Notice = N>, G: Gate> SessionWorker<'a, R
         mut seat: T::Seat,
         mut orders: O,
         mut served: Served<C::Reader, C::Writer, T::Seat>,
-    ) -> (Share<C, T::Seat>, O)
+    ) -> (Share<C, C::Reader, C::Writer, T::Seat>, O)
         requires ready { IsReadyToServe (sessions_of self.now.session_server.form C.words C.Reader.words
             C.Writer.words T.words)
             self.now.session_server.shelves.now taker served (worker_state seat (O.asked orders)) }

@@ -1,13 +1,6 @@
 use Rattle.std.proofs.Common.{refl}
-use Rattle.shelf_steps.specs.declared.views.KnownHistory.{KnownHistory}
-use Rattle.epochs.specs.Seats.{SeatValue}
-use Rattle.session.specs.Learning.{TellPublished}
 use Rattle.session.proofs.LearnLemmas.{learning_tells, learns_same}
 use Rattle.workers.proofs.serving.SessionWorker.serve_client.Goals as goal
-
--- a seat at which nothing was done
-tells_same : (k : KnownHistory) (a : SeatValue) → TellPublished k a a
-tells_same k a = learning_tells k k a a (learns_same k a)
 
 -- the client's own reader and writer were served
 pub returns-in-Ok-clause-session : goal.returns-in-Ok-clause-session
@@ -33,10 +26,13 @@ returns-in-Ok-clause-session g c =
 
 -- nothing was done
 pub returns-in-Err-clause-session : goal.returns-in-Err-clause-session
-returns-in-Err-clause-session g c = record {
-  served = record { fault = c.in-Err.field-0; opens = c.in-Err.ensures; end_is = refl; same = refl };
-  number = refl;
-  learns = learns_same (g.T.Versions.words.known c.args.seat.now) (g.T.Versions.words.shown c.args.seat.now);
-  profiles = tells_same (g.T.Versions.words.known c.args.seat.now) (g.T.Versions.words.shown c.args.seat.now);
-  idle = λ none. none;
-}
+returns-in-Err-clause-session g c =
+    let known = g.T.Versions.words.known c.args.seat.now in
+    let shown = g.T.Versions.words.shown c.args.seat.now in
+    record {
+      served = record { fault = c.in-Err.field-0; opens = c.in-Err.ensures; end_is = refl; same = refl };
+      number = refl;
+      learns = learns_same known shown;
+      profiles = learning_tells known known shown shown (learns_same known shown);
+      idle = λ none. none;
+    }

@@ -1,21 +1,25 @@
-use Rattle.std.proofs.Common.{refl, sym, subst, ◌∙◌}
+use Rattle.std.proofs.Common.{refl, sym, subst, ◌∙◌, ◌++◌, ◌∷◌, []}
 use Rattle.workers.specs.Sessions.{AreServed, worker_state}
 use Rattle.workers.specs.Words.{sessions_of}
-use Rattle.workers.proofs.Ending.{may_close, serves_next, serves_none}
+use Rattle.workers.proofs.Ending.{may_close, served_also}
 use Rattle.workers.proofs.ExactSessions.{exact}
 use Rattle.workers.proofs.serving.SessionWorker.work.Goals as goal
 
 pub loop-init : goal.loop-init
-loop-init g c = record {
-  next = tt;
-  finite = tt;
-  queue = refl;
-  route = refl;
-  fits = c.requires.ready.fits;
-  served = serves_none (sessions_of c.args.self.now.session_server.form g.C.Client.words g.C.Reader.ReadStream.words g.C.Writer.WriteStream.words
-      g.T.Versions.words)
-      _ _ (worker_state c.args.seat (g.O.Orders.asked c.args.orders)) c.requires.ready.none_taken c.requires.ready.none_served;
-}
+loop-init g c =
+    let words = sessions_of c.args.self.now.session_server.form g.C.Client.words g.C.Reader.ReadStream.words g.C.Writer.WriteStream.words
+    g.T.Versions.words in
+    let a = worker_state c.args.seat (g.O.Orders.asked c.args.orders) in
+    let ready = c.requires.ready in
+    record {
+      next = tt;
+      finite = tt;
+      queue = refl;
+      route = refl;
+      fits = ready.fits;
+      served = subst (λ clients. AreServed words clients c.args.served a a) (sym ready.none_taken)
+          (subst (λ list. AreServed words [] list a a) (sym ready.none_served) refl);
+    }
 
 -- a client more was taken and served
 pub loop-preserved : goal.loop-preserved
@@ -26,15 +30,18 @@ loop-preserved g c =
     let one = c.serve_client-session in
     let noted = c.close_client in
     let asked = g.O.Orders.asked in
+    let a = worker_state c.args.seat (asked c.args.orders) in
+    let b = worker_state one.new.seat (asked one.new.orders) in
+    let also = served_also words c.loop.taker.taken c.loop.served c.in-Some-next.client one.result a (worker_state c.loop.seat (asked c.loop.orders)) b
+    was.served one.ensures.session in
     record {
       next = tt;
       finite = tt;
       queue = c.in-Some-next.ensures.queue ∙ was.queue;
       route = one.ensures.route ∙ was.route;
       fits = one.ensures.fits;
-      served = serves_next words _ _ c.loop.served noted.new.served c.in-Some-next.client one.result
-          (worker_state c.args.seat (asked c.args.orders)) (worker_state c.loop.seat (asked c.loop.orders)) (worker_state one.new.seat (asked one.new.orders))
-          was.served c.in-Some-next.ensures.taken noted.ensures one.ensures.session;
+      served = subst (λ clients. AreServed words clients noted.new.served a b) (sym c.in-Some-next.ensures.taken)
+          (subst (λ list. AreServed words (c.loop.taker.taken ++ c.in-Some-next.client ∷ []) list a b) (sym noted.ensures) also);
     }
 
 -- what was served may be closed

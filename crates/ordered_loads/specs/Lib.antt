@@ -1,0 +1,7 @@
+pub mod Words
+pub mod Loading
+pub mod Learned
+pub mod Drawing
+pub mod Carrying
+pub mod Lines
+pub mod Posts

@@ -1,0 +1,54 @@
+//! The feeds that may be ordered.
+
+ghost use Rattle.std.specs.Prelude.{◌≡◌, ◌≤◌, [], length, IfOk, MatchOption, MatchResult};
+ghost use Rattle.feed_loader.specs.declared.plan.Plan.{Plan};
+ghost use Rattle.ordered_loads.specs.Loading.{HasDays};
+ghost use Rattle.ordered_loads.specs.Words.{FeedWords};
+
+use crate::loading::LoadedVersion;
+use crate::refusal::LoadRefusal;
+use feed_loader::{FeedFiles, Plan};
+use load_orders::DrawPermit;
+use std::alloc::{AllocError, Global};
+use std::io::Write;
+use std::time::Instant;
+
+/// The feeds that may be ordered by their names.
+pub trait Feeds {
+    type Files: FeedFiles + Send + Drop;
+
+    // Their names, by index; whether these are the files of the feed at an index; and whether a feed may be loaded by
+    // this plan.
+    ghost words: { FeedWords Self Self.Files };
+
+    /// Their names, by index.
+    fn names(&self) -> &[String]
+        ensures { result.now ≡ words.named self.now };
+
+    /// The plan by which the next feed is loaded. It is asked for anew before each load, since it may depend on a
+    /// clock. Running out of memory is the only error, and even then there is such a plan.
+    fn plan(&self, alloc: Global) -> Result<Plan, AllocError>
+        ensures plan { MatchResult result (words.is_plan self.now)
+            (λ _. (plan : Plan) × words.is_plan self.now plan) }
+        ensures days { IfOk result HasDays };
+
+    /// The files of the feed at the index, of which no read has failed yet. None only where there is no such feed. Only
+    /// an order that was taken gives leave for it, once.
+    fn files(&self, index: usize, permit: DrawPermit) -> Option<Self::Files>
+        ensures { MatchOption result (length (words.named self.now) ≤ index)
+            (λ files. (Self.Files.words.failed files ≡ [])
+            × words.are_files self.now index files) };
+
+    /// Called before the feed at the index is loaded. Returns the instant at which that is, for `finish`, or none.
+    fn begin(&self, index: usize) -> Option<Instant>;
+
+    /// Called when that load has ended and the loader has written its own line, with the writer of that line. Nothing
+    /// else depends on what is done here.
+    fn finish<E: Write>(
+        &self,
+        errors: &mut E,
+        index: usize,
+        begun: Option<Instant>,
+        outcome: Result<LoadedVersion, LoadRefusal>,
+    );
+}
