@@ -18,6 +18,7 @@ pub mod StepFacts
 pub mod LogLemmas
 mod OriginLemmas
 mod TakeLemmas
+mod TakenInLists
 mod EverywhereLemmas
 pub mod OrderLemmas
 pub mod Chains

@@ -15,6 +15,8 @@ pub mod Adding
 pub mod Starts
 pub mod Hops
 pub mod ScanState
+pub mod Keeping
+pub mod InLists
 pub mod Nearest
 pub mod JourneyNodes
 pub mod Answered

@@ -11,6 +11,7 @@ use crate::final_walks::final_walks_to;
 use crate::found::{Found, in_order};
 use crate::found_between::FoundBetween;
 use crate::hop::ScanQuery;
+use crate::in_lists::InLists;
 use crate::journey_nodes::journeys_as_nodes;
 use crate::origin::Origin;
 use crate::scan::scan_window;
@@ -83,11 +84,10 @@ pub fn profile_between<S: ConnSource, C: Criterion>(
     let end = source.first_at(query.by);
     let own = query.copy()?;
     let asked = ask(alloc, source, criterion, own)?;
-    let scan = scan_window::<S, C, Origin<C>>(alloc, source, &asked, start..end)?;
+    let scan = scan_window::<S, C, InLists<C>, Origin<C>>(alloc, source, &asked, start..end)?;
     let points = in_order(alloc, criterion, &scan.state.origin.found)?;
     let view = ScanView {
-        trips: &scan.state.trips,
-        stops: &scan.state.stops,
+        keeping: &scan.state.keeping,
         origin: &scan.state.origin,
     };
     let spelled = journeys_as_nodes(alloc, source, &view, &points)?;
