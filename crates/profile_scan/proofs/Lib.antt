@@ -34,3 +34,7 @@ pub mod Listed
 pub mod Single
 pub mod AnsweredLemmas
 pub mod Windows
+pub mod LaneExits
+pub mod LaneOffers
+pub mod LanesLeft
+pub mod LanesBoarded

@@ -143,6 +143,38 @@ module _ {V : Type 0} (rules : Rules V) where
     covered = covered;
   }
 
+  -- nothing is taken of an offer with no open way, whatever is excused
+  pub but_none : {A : Type 0} (Excused : A → Type 0) (offer : Offer A V) (points : List (Point V)) → ((way : A) → offer.is_open way → ⊥)
+      → TakesInBut rules Excused offer points points
+  but_none Excused offer points none = takes_but Excused offer points points (takes_none offer points none)
+
+  -- one element more, of which the same is excused
+  pub but_more : {X A : Type 0} (Was There : X → Type 0) (offer : X → Offer A V) (Excused : A → Type 0) (x : X) (old mid new : List (Point V))
+      → ((y : X) → Was y → There y) → There x → ((y : X) → There y → Was y ⊎ (y ≡ x))
+      → ((y : X) (way : A) → Was y → (offer y).is_open way → Admits rules ((offer y).value way))
+      → TakesInBut rules (λ way. Excused way.1) (each_of Was offer) old mid → TakesInBut rules Excused (offer x) mid new
+      → TakesInBut rules (λ way. Excused way.1) (each_of There offer) old new
+  but_more {X} {A} Was There offer Excused x old mid new was_there there_x split admits before here = record {
+    only = λ p h. elim (here.only p h) [
+      | inl in_mid ↦ elim (before.only p in_mid) [
+        | inl in_old ↦ inl in_old
+        | inr o ↦ inr (record { way = o.way; is_open = (was_there o.way.0 o.is_open.0, o.is_open.1); departs = o.departs; worth = o.worth; fits = o.fits })
+      ]
+      | inr o ↦ inr (record { way = (x, o.way); is_open = (there_x, o.is_open); departs = o.departs; worth = o.worth; fits = o.fits })
+    ];
+    kept = λ d v a c. here.kept d v a (before.kept d v a c);
+    covered = λ way opened. elim (split way.0 opened.0) [
+      | inl was ↦ elim (before.covered way (was, opened.1)) [
+        | inl c ↦ inl (here.kept ((offer way.0).departure way.1) ((offer way.0).value way.1) (admits way.0 way.1 was opened.1) c)
+        | inr excused ↦ inr excused
+      ]
+      | inr same ↦ elim (here.covered way.1 (subst (λ (y : X). (offer y).is_open way.1) same opened.1)) [
+        | inl c ↦ inl (subst (λ (y : X). Covers rules new ((offer y).departure way.1) ((offer y).value way.1)) (sym same) c)
+        | inr excused ↦ inr excused
+      ]
+    ];
+  }
+
   -- with weaker excuses
   pub excused_as : {A : Type 0} (Was Excused : A → Type 0) (offer : Offer A V) (old new : List (Point V))
       → ((way : A) → offer.is_open way → Was way → Excused way) → TakesInBut rules Was offer old new → TakesInBut rules Excused offer old new

@@ -17,6 +17,7 @@ pub mod Hops
 pub mod ScanState
 pub mod Keeping
 pub mod InLists
+pub mod InLanes
 pub mod Nearest
 pub mod JourneyNodes
 pub mod Answered

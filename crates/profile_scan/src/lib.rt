@@ -72,6 +72,7 @@ mod final_walks;
 mod found;
 mod found_between;
 mod hop;
+mod in_lanes;
 mod in_lists;
 mod journey_nodes;
 mod keeping;

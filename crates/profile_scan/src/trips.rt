@@ -152,14 +152,14 @@ impl<C: Criterion> Trips<C> {
 
 // How to end: the walk to a target, and when it is over.
 #[derive(Clone, Copy)]
-struct Ending {
-    walk: Option<Footpath>,
-    time: u32,
+pub struct Ending {
+    pub walk: Option<Footpath>,
+    pub time: u32,
 }
 
 // The end of a journey that gets off where a connection ends, if it reaches a target by `query.by`; `way` is the
 // footpath from that stop to the nearest target, which is its loop if it is a target itself.
-fn end_of(connection: &Connection, query: &SetQuery, way: Option<FinalWalk>) -> Option<Ending>
+pub fn end_of(connection: &Connection, query: &SetQuery, way: Option<FinalWalk>) -> Option<Ending>
     requires arrival { IsTime connection.now.arr }
     requires secs { IfSome way (λ way. IsSecs way.secs) }
     ensures { MatchOption result ((walk : Option Footpath) → IsEnding connection.now (question query.now) way walk → ⊥)

@@ -1,0 +1,369 @@
+-- A trip in lanes is left: to end, or to change.
+use Rattle.std.proofs.Common.{◌≡◌, ◌≢◌, ◌⊎◌, ℕ, ◌+◌, ◌*◌, ◌<◌, ◌≤◌, List, [], ◌∷◌, ◌++◌, length, Contains, Option, Some, None, slice_get, slice_index, nat_lt, nat_le}
+use Rattle.std.proofs.Common.{Bool, true, false, inl, inr, refl, sym, ap, ◌∙◌, subst, arith, length-append}
+use Rattle.std.specs.Global.{Vec}
+use Rattle.std.proofs.lemmas.Bool.{cases_lt, and_from, lt-ltb, le-leb}
+use Rattle.std.proofs.lemmas.Option.{slice_get_within, same_Some}
+use Rattle.reasoning.proofs.ListLemmas.{contains_only, contains_first, extends_none, extends_on, not_in_nil, slice_get-front, slice_get-last, same_at}
+use Rattle.reasoning.proofs.OptionLemmas.{option_cases}
+use Rattle.criteria.specs.Laws.{Admits, IsTime, time_limit}
+use Rattle.criteria.specs.declared.arrival_trips.TimeTrips.{TimeTrips}
+use Rattle.bags.specs.Dominance.{IsCovered}
+use Rattle.bags.specs.declared.point.Point.{Point}
+use Rattle.timetable.specs.declared.network.Connection.{Connection}
+use Rattle.timetable.specs.declared.network.Footpath.{Footpath}
+use Rattle.timetable.specs.Journeys.{start_secs}
+use Rattle.fronts.specs.declared.labels.Label.{Label}
+use Rattle.fronts.proofs.Growth.{extends_long}
+use Rattle.lanes.specs.Lanes.{trip_rules, lane_labels, IsBeaten, IsOutdone}
+use Rattle.lanes.specs.LaneLists.{word_tag}
+use Rattle.lanes.specs.LanesWithTags.{labels_in}
+use Rattle.lanes.specs.TripLanes.{AllBeaten, TakesAll, ending, front_labels, labels_at, offered_by, trips_of}
+use Rattle.lanes.specs.StopLanes.{IsFrontFrom, entries_of, front_at, points_at, steps_of, stops_of, tags_at}
+use Rattle.lanes.specs.declared.trip_lanes.Lanes.{Lanes}
+use Rattle.lanes.specs.declared.trip_lanes.TripLanes.{TripLanes}
+use Rattle.lanes.specs.declared.words.Words.{Words}
+use Rattle.lanes.proofs.LaneLemmas.{stands, no_worse_from}
+use Rattle.lanes.proofs.CoverLemmas.{points_admitted}
+use Rattle.lanes.proofs.EntryLemmas.{from_map, into_map}
+use Rattle.profile_scan.specs.SetQuery.{SetQueryValue}
+use Rattle.profile_scan.specs.Values.{started}
+use Rattle.profile_scan.specs.Matching.{Spellings, from_to}
+use Rattle.profile_scan.specs.Steps.{IsOffered, TakesInBut}
+use Rattle.profile_scan.specs.Bound.{Excludes}
+use Rattle.profile_scan.specs.Adding.{IsEnding, NoChange, changes_from, endings, endings_and_changes, label_points, only_if}
+use Rattle.profile_scan.specs.Keeping.{Leaves}
+use Rattle.profile_scan.specs.ScanRecords.{ScanRecords, Grows, IsExit, scan_records, spelling_of}
+use Rattle.profile_scan.specs.InLanes.{AreInLanes, CanLeaveLanes, LaneTakes, LeadsWithin, changes_in_lanes, ends_in_lanes, exit_of, exits_in}
+use Rattle.profile_scan.specs.InLanes.{left_in_lanes, value_of}
+use Rattle.profile_scan.specs.declared.final_walks.FinalWalk.{FinalWalk}
+use Rattle.profile_scan.specs.declared.hop.Hop.{Hop}
+use Rattle.profile_scan.specs.declared.in_lanes.InLanes.{InLanes}
+use Rattle.profile_scan.specs.declared.in_lanes.LaneExit.{LaneExit}
+use Rattle.profile_scan.specs.declared.in_lanes.LaneExit.TheVariants.{Ends as EndsLane, Changes as ChangesLane}
+use Rattle.profile_scan.specs.declared.scan_records.Exit.{Exit}
+use Rattle.profile_scan.specs.declared.scan_records.Exit.TheVariants.{Ends, Changes}
+use Rattle.profile_scan.specs.declared.scan_records.SetOut.{SetOut}
+use Rattle.profile_scan.proofs.LaneExits.{exit_at, exit_spelled_at, exits_long, exits_more}
+use Rattle.profile_scan.proofs.LaneOffers.{as_point, beaten_covers, changes_taken, kept_covers}
+use Rattle.profile_scan.proofs.ScanRecordLemmas.{exits_grow, grows_none, grows_on, stays}
+
+-- a trip has labels of fewer than eight trips
+few_trips : (trips : TripLanes) (trip : ℕ) (l : Label TimeTrips) → Contains (labels_at trips trip) l → l.value.trips < 8
+few_trips trips trip l is = elim (option_cases (slice_get trips.lanes.items trip)) [
+  | inl none ↦ absurd (not_in_nil l (subst (λ (o : Option Lanes). Contains (labels_in o) l) none is))
+  | inr some ↦
+      let s = stands (slice_index some.0.tags) some.0.times l (subst (λ (o : Option Lanes). Contains (labels_in o) l) some.1 is) in
+      let below = s.below in
+      let long = (trips.tagged trip some.0 some.1).lanes_are.long in
+      omega (arith, below, long)
+]
+
+-- and they are admitted
+pub label_admits : (trips : TripLanes) (trip : ℕ) (l : Label TimeTrips) → Contains (labels_at trips trip) l → Admits trip_rules l.value
+label_admits trips trip l is = elim (option_cases (slice_get trips.lanes.items trip)) [
+  | inl none ↦ absurd (not_in_nil l (subst (λ (o : Option Lanes). Contains (labels_in o) l) none is))
+  | inr some ↦
+      let s = stands (slice_index some.0.tags) some.0.times l (subst (λ (o : Option Lanes). Contains (labels_in o) l) some.1 is) in
+      let below = s.below in
+      let at = s.at in
+      let less = s.less in
+      let are = (trips.tagged trip some.0 some.1).lanes_are in
+      let long = are.long in
+      let time = are.times l.value.trips (omega (arith, below, long)) (omega (arith, at, less)) in
+      and_from (nat_lt l.value.time time_limit) (nat_le l.value.trips 65535) (lt-ltb l.value.time time_limit (omega (arith, time, at)))
+      (le-leb l.value.trips 65535 (omega (arith, below, long)))
+]
+
+module _ (q : SetQueryValue) (hop : Hop TimeTrips) (old : InLanes) (can : CanLeaveLanes q hop old) (trips : TripLanes) (exits : Vec LaneExit) where
+  abbrev trip : ℕ
+  trip = hop.connection.trip
+
+  abbrev Tags : ℕ → List ℕ
+  Tags = tags_at old.stops
+
+  abbrev new : InLanes
+  new = record { trips = trips; stops = old.stops; exits = exits; bound = old.bound }
+
+  bag_admitted : (p : Point TimeTrips) → Contains (points_at old.stops hop.connection.to) p → Admits trip_rules p.value
+  bag_admitted p is =
+      points_admitted old.stops.entries.items can.are.at_stops.lists (slice_index old.stops.heads.items hop.connection.to) p
+      (can.are.at_stops.within hop.connection.to) is
+
+  -- an exit more
+  module _ (x : LaneExit) (pushed : exits.items ≡ old.exits.items ++ x ∷ []) (leads : LeadsWithin (entries_of old.stops) x) where
+    each_leads : (k : ℕ) (y : LaneExit) → slice_get exits.items k ≡ Some y → LeadsWithin (entries_of old.stops) y
+    each_leads k y at =
+        let at_pushed : slice_get (old.exits.items ++ x ∷ []) k ≡ Some y = ap (λ xs. slice_get xs k) (sym pushed) ∙ at in
+        let within = slice_get_within exits.items k y at in
+        let long = ap length pushed ∙ length-append old.exits.items (x ∷ []) in
+        elim (cases_lt k (length old.exits.items)) [
+          | inl lt ↦ can.are.exits k y (sym (slice_get-front old.exits.items (x ∷ []) k lt) ∙ at_pushed)
+          | inr ge ↦
+              let last : k ≡ length old.exits.items = omega (arith, within, long, ge) in
+              subst (LeadsWithin (entries_of old.stops))
+              (same_at (old.exits.items ++ x ∷ []) (length old.exits.items) x y (slice_get-last old.exits.items x)
+              (subst (λ n. slice_get (old.exits.items ++ x ∷ []) n ≡ Some y) last at_pushed)) leads
+        ]
+
+    pub still_are : trips_of trips ≡ trips_of old.trips → AreInLanes (stops_of old.stops) (trips_of old.trips) hop.bound.now new
+    still_are long = record {
+      at_stops = can.are.at_stops;
+      stops_are = refl;
+      trips_are = long;
+      exits = each_leads;
+      excludes = can.are.excludes;
+    }
+
+    -- its lanes are spelled
+    module _ (walks : List Footpath) (set_outs : List SetOut) (before all : ScanRecords)
+        (first_grows : Grows before (scan_records (value_of old).exits (value_of old).steps set_outs))
+        (then_grows : Grows (scan_records (value_of new).exits (value_of new).steps set_outs) all) where
+      pub lane_spelled : (first k : ℕ) → first ≡ 8 * length old.exits.items → k < 8
+          → IsExit (from_to (spelling_of walks before) (spelling_of walks all)) (exit_of Tags x k) (first + k)
+      lane_spelled first k first_is lt =
+          let was = scan_records (value_of old).exits (value_of old).steps set_outs in
+          let now = scan_records (value_of new).exits (value_of new).steps set_outs in
+          let more = exits_more Tags old.exits.items exits.items x pushed in
+          let fewer = extends_long before.exits was.exits first_grows.exits in
+          let long = exits_long Tags old.exits.items in
+          exit_spelled_at walks before all (first + k) (exit_of Tags x k)
+          (grows_on before was all first_grows (grows_on was now all (exits_grow was.exits now.exits was.steps set_outs more) then_grows))
+          (stays now.exits all.exits then_grows.exits (first + k) (exit_of Tags x k) (exit_at Tags old.exits.items exits.items x pushed first k first_is lt))
+          (omega (arith, fewer, long, first_is))
+
+  -- to change
+  module _ (entry first : ℕ) (front : Words) (stands_for : IsFrontFrom old.stops hop.connection.to hop.connection.arr entry)
+      (words : front_at old.stops entry ≡ lane_labels (word_tag (Tags entry)) front.times) where
+    made_of : (l : Label TimeTrips) → Contains (lane_labels (word_tag (Tags entry)) front.times) l
+        → (p : Point TimeTrips) × Contains (points_at old.stops hop.connection.to) p × (hop.connection.arr ≤ p.departure) × (p.value ≡ l.value)
+        × (p.tag ≡ l.tag)
+    made_of l is = stands_for.made_of l (subst (λ (ls : List (Label TimeTrips)). Contains ls l) (sym words) is)
+
+    betters : (p : Point TimeTrips) → Contains (points_at old.stops hop.connection.to) p → hop.connection.arr ≤ p.departure
+        → IsBeaten (lane_labels (word_tag (Tags entry)) front.times) p.value
+    betters p is late = subst (λ (ls : List (Label TimeTrips)). IsBeaten ls p.value) words (stands_for.betters p is late)
+
+    pub change_lowered : first ≡ 8 * length old.exits.items → exits.items ≡ old.exits.items ++ ChangesLane hop.place entry ∷ []
+        → TakesAll trip (front_labels old.bound) (offered_by front first) old.trips trips
+        → LaneTakes trip hop.bound.now (λ p. Excludes trip_rules hop.bound.now p.value)
+        (λ tags. changes_from tags hop.place hop.connection.arr (points_at old.stops hop.connection.to)) old new
+    change_lowered first_is pushed takes = record {
+      are = still_are (ChangesLane hop.place entry) pushed stands_for.within takes.long;
+      stops = refl;
+      writes = record {
+        exits = exits_more Tags old.exits.items exits.items (ChangesLane hop.place entry) pushed;
+        steps = extends_none (steps_of old.stops);
+      };
+      other_trips = takes.elsewhere;
+      takes = λ walks set_outs before all first_grows then_grows.
+          changes_taken front.times (word_tag (Tags entry)) first hop.connection.arr hop.place (points_at old.stops hop.connection.to)
+          (front_labels old.bound) (labels_at old.trips trip) (labels_at trips trip) hop.bound.now
+          (from_to (spelling_of walks before) (spelling_of walks all)) made_of betters bag_admitted
+          (λ l is. elim (takes.only l is) [
+            | inl was ↦ inl was
+            | inr offered ↦
+                let tagged = (stands (λ k. first + k) front.times l offered).tagged in
+                inr (offered, subst (IsExit (from_to (spelling_of walks before) (spelling_of walks all))
+                (Changes hop.place (word_tag (Tags entry) l.value.trips))) (sym tagged)
+                (lane_spelled (ChangesLane hop.place entry) pushed stands_for.within walks set_outs before all first_grows then_grows first
+                l.value.trips first_is (few_trips trips trip l is)))
+          ])
+          takes.kept takes.taken can.are.excludes;
+    }
+
+    pub change_none : AllBeaten (front_labels old.bound) (labels_at old.trips trip) (offered_by front first)
+        → LaneTakes trip hop.bound.now (λ p. Excludes trip_rules hop.bound.now p.value)
+        (λ tags. changes_from tags hop.place hop.connection.arr (points_at old.stops hop.connection.to)) old old
+    change_none beaten = record {
+      are = can.are;
+      stops = refl;
+      writes = record { exits = extends_none (value_of old).exits; steps = extends_none (value_of old).steps };
+      other_trips = λ k other. refl;
+      takes = λ walks set_outs before all first_grows then_grows.
+          changes_taken front.times (word_tag (Tags entry)) first hop.connection.arr hop.place (points_at old.stops hop.connection.to)
+          (front_labels old.bound) (labels_at old.trips trip) (labels_at old.trips trip) hop.bound.now
+          (from_to (spelling_of walks before) (spelling_of walks all)) made_of betters bag_admitted (λ l is. inl is)
+          (λ l is. (l, is, no_worse_from l.value l.value (omega arith) (omega arith))) beaten can.are.excludes;
+    }
+
+started_same : (walk : Option Footpath) (v : TimeTrips) → started trip_rules walk v ≡ v
+started_same None v = refl
+started_same (Some f) v = refl
+
+-- labels take in the one ending that there is
+module _ (q : SetQueryValue) (c : Connection) (way : Option FinalWalk) (place time tag : ℕ) (walk : Option Footpath) (old new : List (Label TimeTrips))
+    (is_ending : IsEnding c q way walk) (time_is : time ≡ c.arr + start_secs walk)
+    (one : (other : Option Footpath) → IsEnding c q way other → other ≡ walk) where
+  pub ends_taken : (spell : Spellings) → ((l : Label TimeTrips) → Contains new l → Contains old l
+      ⊎ (Contains (ending time tag) l × IsExit spell (Ends place walk) l.tag))
+      → ((l : Label TimeTrips) → Contains old l → IsBeaten new l.value) → AllBeaten [] new (ending time tag)
+      → TakesInBut trip_rules (λ _. ⊥) (endings trip_rules spell place c q way) (label_points old) (label_points new)
+  ends_taken spell only kept taken = record {
+    only = λ p h.
+        let l = from_map as_point new p h in
+        elim (only l.0 l.1) [
+          | inl was ↦ inl (subst (Contains (label_points old)) l.2 (into_map as_point old l.0 was))
+          | inr offered ↦ inr (subst (IsOffered (endings trip_rules spell place c q way)) l.2 (record {
+            way = walk;
+            is_open = is_ending;
+            departs = refl;
+            worth = ap (λ (m : Label TimeTrips). m.value) (contains_only (record { value = record { time = time; trips = 0 }; tag = tag }) l.0 offered.0)
+                ∙ ap (λ n. record { time = n; trips = 0 }) time_is ∙ sym (started_same walk (trip_rules.arrive (c.arr + start_secs walk)));
+            fits = offered.1;
+          }))
+        ];
+    kept = λ departure v a covers. kept_covers old new kept departure v covers;
+    covered = λ other opened.
+        let same = one other opened in
+        let ends : Label TimeTrips = record { value = record { time = time; trips = 0 }; tag = tag } in
+        elim (taken ends (contains_first ends [])) [
+          | inl beaten ↦
+              let value : ends.value ≡ started trip_rules other (trip_rules.arrive (c.arr + start_secs other)) =
+              ap (λ n. record { time = n; trips = 0 }) (time_is ∙ ap (λ w. c.arr + start_secs w) (sym same))
+              ∙ sym (started_same other (trip_rules.arrive (c.arr + start_secs other))) in
+              inl (beaten_covers new _ (subst (IsBeaten new) value beaten))
+          | inr outdone ↦ inr (not_in_nil outdone.0 outdone.1)
+        ];
+  }
+
+module _ (q : SetQueryValue) (hop : Hop TimeTrips) (old : InLanes) (can : CanLeaveLanes q hop old) (walk : Option Footpath) (time first : ℕ)
+    (is_ending : IsEnding hop.connection q hop.final_walk walk) (time_is : time ≡ hop.connection.arr + start_secs walk)
+    (one : (other : Option Footpath) → IsEnding hop.connection q hop.final_walk other → other ≡ walk) where
+  pub end_none : AllBeaten [] (labels_at old.trips hop.connection.trip) (ending time first)
+      → LaneTakes hop.connection.trip hop.bound.now (λ _. ⊥) (λ tags. endings trip_rules tags hop.place hop.connection q hop.final_walk) old old
+  end_none beaten = record {
+    are = can.are;
+    stops = refl;
+    writes = record { exits = extends_none (value_of old).exits; steps = extends_none (value_of old).steps };
+    other_trips = λ k other. refl;
+    takes = λ walks set_outs before all first_grows then_grows.
+        ends_taken q hop.connection hop.final_walk hop.place time first walk (labels_at old.trips hop.connection.trip)
+        (labels_at old.trips hop.connection.trip) is_ending time_is one (from_to (spelling_of walks before) (spelling_of walks all)) (λ l is. inl is)
+        (λ l is. (l, is, no_worse_from l.value l.value (omega arith) (omega arith))) beaten;
+  }
+
+  pub end_lowered : (trips : TripLanes) (exits : Vec LaneExit) → first ≡ 8 * length old.exits.items
+      → exits.items ≡ old.exits.items ++ EndsLane hop.place walk ∷ []
+      → TakesAll hop.connection.trip [] (ending time first) old.trips trips
+      → LaneTakes hop.connection.trip hop.bound.now (λ _. ⊥) (λ tags. endings trip_rules tags hop.place hop.connection q hop.final_walk) old
+      (record { trips = trips; stops = old.stops; exits = exits; bound = old.bound })
+  end_lowered trips exits first_is pushed takes =
+      let x = EndsLane hop.place walk in
+      record {
+        are = still_are q hop old can trips exits x pushed tt takes.long;
+        stops = refl;
+        writes = record { exits = exits_more (tags_at old.stops) old.exits.items exits.items x pushed; steps = extends_none (steps_of old.stops) };
+        other_trips = takes.elsewhere;
+        takes = λ walks set_outs before all first_grows then_grows.
+            let tags = from_to (spelling_of walks before) (spelling_of walks all) in
+            ends_taken q hop.connection hop.final_walk hop.place time first walk (labels_at old.trips hop.connection.trip)
+            (labels_at trips hop.connection.trip) is_ending time_is one tags
+            (λ l is. elim (takes.only l is) [
+              | inl was ↦ inl was
+              | inr offered ↦
+                  let tag_is : first + 0 ≡ l.tag = (let e : first + 0 ≡ first = omega arith in e)
+                  ∙ sym (ap (λ (m : Label TimeTrips). m.tag) (contains_only (record { value = record { time = time; trips = 0 }; tag = first }) l offered)) in
+                  inr (offered, subst (IsExit tags (Ends hop.place walk)) tag_is
+                  (lane_spelled q hop old can trips exits x pushed tt walks set_outs before all first_grows then_grows first 0 first_is (omega arith)))
+            ])
+            takes.kept takes.taken;
+      }
+
+-- the value of an ending is admitted
+ending_admits : (q : SetQueryValue) (c : Connection) (way : Option FinalWalk) (walk : Option Footpath) → IsTime q.by → IsEnding c q way walk
+    → Admits trip_rules (started trip_rules walk (trip_rules.arrive (c.arr + start_secs walk)))
+ending_admits q c None walk by ends = absurd ends
+ending_admits q c (Some way) None by ends =
+    and_from (nat_lt (c.arr + 0) time_limit) (nat_le 0 65535) (lt-ltb (c.arr + 0) time_limit (omega (arith, by, ends.1))) (le-leb 0 65535 (omega arith))
+ending_admits q c (Some way) (Some f) by ends =
+    and_from (nat_lt (c.arr + f.secs) time_limit) (nat_le 0 65535) (lt-ltb (c.arr + f.secs) time_limit (omega (arith, by, ends.2)))
+    (le-leb 0 65535 (omega arith))
+
+-- each way to leave is covered, or excused
+covered_either : (q : SetQueryValue) (hop : Hop TimeTrips) (tags : Spellings) (bag new : List (Point TimeTrips))
+    → ((walk : Option Footpath) → IsEnding hop.connection q hop.final_walk walk
+    → IsCovered trip_rules new 0 (started trip_rules walk (trip_rules.arrive (hop.connection.arr + start_secs walk))))
+    → ((p : Point TimeTrips) → Contains bag p × (hop.connection.arr ≤ p.departure)
+    → IsCovered trip_rules new 0 p.value ⊎ Excludes trip_rules hop.bound.now p.value)
+    → (way : Option Footpath ⊎ Point TimeTrips)
+    → (only_if (hop.connection.alight ≡ true) (endings_and_changes trip_rules tags hop.place hop.connection q hop.final_walk bag)).is_open way
+    → IsCovered trip_rules new
+    ((only_if (hop.connection.alight ≡ true) (endings_and_changes trip_rules tags hop.place hop.connection q hop.final_walk bag)).departure way)
+    ((only_if (hop.connection.alight ≡ true) (endings_and_changes trip_rules tags hop.place hop.connection q hop.final_walk bag)).value way)
+    ⊎ NoChange (Excludes trip_rules hop.bound.now) way
+covered_either q hop tags bag new ends changes (inl walk) opened = inl (ends walk opened.1)
+covered_either q hop tags bag new ends changes (inr p) opened = changes p opened.1
+
+-- to end, and then to change
+module _ (q : SetQueryValue) (hop : Hop TimeTrips) (old mid : InLanes) (can : CanLeaveLanes q hop old)
+    (ended : LaneTakes hop.connection.trip hop.bound.now (λ _. ⊥) (λ tags. endings trip_rules tags hop.place hop.connection q hop.final_walk) old mid) where
+  pub can_change : CanLeaveLanes q hop mid
+  can_change = record {
+    hop = can.hop;
+    are = subst (λ n. AreInLanes n (trips_of mid.trips) hop.bound.now mid) (sym ended.are.stops_are)
+        (subst (λ n. AreInLanes (stops_of old.stops) n hop.bound.now mid) (sym ended.are.trips_are) ended.are);
+    trip = subst (λ n. hop.connection.trip < n) (sym ended.are.trips_are) can.trip;
+    stop = subst (λ n. hop.connection.to < n) (sym ended.are.stops_are) can.stop;
+  }
+
+  pub left : hop.connection.alight ≡ true → (new : InLanes)
+      → LaneTakes hop.connection.trip hop.bound.now (λ p. Excludes trip_rules hop.bound.now p.value)
+      (λ tags. changes_from tags hop.place hop.connection.arr (points_at mid.stops hop.connection.to)) mid new
+      → Leaves trip_rules q hop (value_of old) (value_of new) × AreInLanes (stops_of old.stops) (trips_of old.trips) hop.bound.now new
+  left alights new changed = (
+    record {
+      writes = record {
+        exits = extends_on (value_of old).exits (value_of mid).exits (value_of new).exits ended.writes.exits changed.writes.exits;
+        steps = extends_on (value_of old).steps (value_of mid).steps (value_of new).steps ended.writes.steps changed.writes.steps;
+      };
+      bags = λ stop. ap (λ s. points_at s stop) (changed.stops ∙ ended.stops);
+      other_trips = λ k other. ap label_points (changed.other_trips k other ∙ ended.other_trips k other);
+      takes = λ walks set_outs.
+          let was = scan_records (value_of old).exits (value_of old).steps set_outs in
+          let between = scan_records (value_of mid).exits (value_of mid).steps set_outs in
+          let now = scan_records (value_of new).exits (value_of new).steps set_outs in
+          let tags = from_to (spelling_of walks was) (spelling_of walks now) in
+          let g1 : Grows was between = record { exits = ended.writes.exits; steps = ended.writes.steps; set_outs = extends_none set_outs } in
+          let g2 : Grows between now = record { exits = changed.writes.exits; steps = changed.writes.steps; set_outs = extends_none set_outs } in
+          both alights tags new (ended.takes walks set_outs was now (grows_none was) g2)
+          (subst (λ (bag : List (Point TimeTrips)). TakesInBut trip_rules (λ p. Excludes trip_rules hop.bound.now p.value)
+          (changes_from tags hop.place hop.connection.arr bag) (label_points (labels_at mid.trips hop.connection.trip))
+          (label_points (labels_at new.trips hop.connection.trip))) (ap (λ s. points_at s hop.connection.to) ended.stops)
+          (changed.takes walks set_outs was now g1 (grows_none now)));
+    },
+    subst (λ n. AreInLanes n (trips_of old.trips) hop.bound.now new) ended.are.stops_are
+        (subst (λ n. AreInLanes (stops_of mid.stops) n hop.bound.now new) ended.are.trips_are changed.are),
+  )
+    where
+      both : hop.connection.alight ≡ true → (tags : Spellings) (new : InLanes)
+          → TakesInBut trip_rules (λ _. ⊥) (endings trip_rules tags hop.place hop.connection q hop.final_walk)
+          (label_points (labels_at old.trips hop.connection.trip)) (label_points (labels_at mid.trips hop.connection.trip))
+          → TakesInBut trip_rules (λ p. Excludes trip_rules hop.bound.now p.value)
+          (changes_from tags hop.place hop.connection.arr (points_at old.stops hop.connection.to))
+          (label_points (labels_at mid.trips hop.connection.trip)) (label_points (labels_at new.trips hop.connection.trip))
+          → TakesInBut trip_rules (NoChange (Excludes trip_rules hop.bound.now))
+          (only_if (hop.connection.alight ≡ true) (endings_and_changes trip_rules tags hop.place hop.connection q hop.final_walk
+          (points_at old.stops hop.connection.to)))
+          (label_points (labels_at old.trips hop.connection.trip)) (label_points (labels_at new.trips hop.connection.trip))
+      both alights tags new first second = record {
+        only = λ p h. elim (second.only p h) [
+          | inl in_mid ↦ elim (first.only p in_mid) [
+            | inl in_old ↦ inl in_old
+            | inr o ↦ inr (record { way = inl o.way; is_open = (alights, o.is_open); departs = o.departs; worth = o.worth; fits = o.fits })
+          ]
+          | inr o ↦ inr (record { way = inr o.way; is_open = (alights, o.is_open); departs = o.departs; worth = o.worth; fits = o.fits })
+        ];
+        kept = λ d v a c. second.kept d v a (first.kept d v a c);
+        covered = covered_either q hop tags (points_at old.stops hop.connection.to) (label_points (labels_at new.trips hop.connection.trip))
+            (λ walk opened. elim (first.covered walk opened) [
+              | inl c ↦ second.kept 0 _ (ending_admits q hop.connection hop.final_walk walk can.hop.by opened) c
+              | inr no ↦ absurd no
+            ]) second.covered;
+      }
+
+  pub left_or_full : hop.connection.alight ≡ true → (new : InLanes) (changed : Bool) → changes_in_lanes hop changed mid new
+      → left_in_lanes q hop changed old new
+  left_or_full alights new true changed = left alights new changed
+  left_or_full alights new false full =
+      subst (λ (lanes : InLanes). ends_in_lanes q hop old lanes) (sym full) ended
