@@ -18,7 +18,7 @@ use Rattle.fronts.specs.Lists.{steps_of}
 use Rattle.fronts.specs.declared.entry.RiddenLabel.{RiddenLabel}
 use Rattle.profile_scan.specs.Matching.{Spellings, from_to}
 use Rattle.profile_scan.specs.ScanRecords.{scan_records, spelling_of}
-use Rattle.profile_scan.specs.Steps.{Offer, TakesIn, TakesInBut, boardings, settings_out, MayBoard, MaySetOut}
+use Rattle.profile_scan.specs.Steps.{Offer, TakesIn, boardings, settings_out, MayBoard, MaySetOut}
 use Rattle.profile_scan.specs.Points.{Covers}
 use Rattle.profile_scan.specs.Starts.{IsLed, SaysLed}
 use Rattle.profile_scan.specs.Adding.{each_of, StandsBetween, AreWalksInto, IsTried, StartsFrom, MayStart, boardings_by, settings_out_by}
@@ -27,11 +27,11 @@ use Rattle.profile_scan.specs.Parts.{BoardsAfter, BoardsAfterEach}
 use Rattle.profile_scan.specs.declared.hop.Hop.{Hop}
 use Rattle.profile_scan.specs.declared.stops.Stops.{Stops}
 use Rattle.profile_scan.proofs.Admitted.{AreAdmitted}
-use Rattle.profile_scan.proofs.Offers.{but_as, takes_none, takes_more, takes_as}
+use Rattle.profile_scan.proofs.Offers.{takes_none, takes_more, takes_as}
 use Rattle.profile_scan.proofs.PartLemmas.{lists_none, lists_on}
 use Rattle.profile_scan.proofs.ScanRecordLemmas.{grows_on, steps_grow}
 
-pub between_more : (walks : List Footpath) (begin end : ℕ) (y : Footpath) → StandsBetween walks begin end y → StandsBetween walks begin (end + 1) y
+between_more : (walks : List Footpath) (begin end : ℕ) (y : Footpath) → StandsBetween walks begin end y → StandsBetween walks begin (end + 1) y
 between_more walks begin end y s = (s.0, s.1, omega (arith, s.2), s.3)
 
 pub between_split : (walks : List Footpath) (begin end : ℕ) (x y : Footpath) → slice_get walks end ≡ Some x
@@ -244,26 +244,6 @@ module _ {V : Type 0} (rules : Rules V) (t : TimetableValue) (tags : Spellings) 
         there = record { walk = way.0; label = way.1 };
         is_open =
             may_board stop way.0 way.1 opened.0 opened.1;
-        departs = refl;
-        worth = refl;
-        fits = λ tag h. h;
-      })
-      (λ way opened. here.covered (way.walk, way.label) (between way.walk opened.is_footpath opened.leads, ((opened.leaves, opened.fits), opened.is_label)))
-      here
-
-  -- the same where labels are excused
-  pub boardings_but : (Excused : Point V → Type 0) (stop : ℕ) (old new : List (Point V))
-      → TakesInBut rules (λ way. Excused way.1) (each_of (StandsBetween t.footpaths begin end) (boardings_by rules tags i c stop labels)) old new
-      → TakesInBut rules (λ way. Excused way.label) (boardings rules t tags i stop labels) old new
-  boardings_but Excused stop old new takes =
-      let here = subst (λ (x : Connection). TakesInBut rules (λ way. Excused way.1)
-      (each_of (StandsBetween t.footpaths begin end) (boardings_by rules tags i x stop labels)) old new) is takes in
-      but_as rules (λ way. Excused way.1) (λ way. Excused way.label)
-      (each_of (StandsBetween t.footpaths begin end) (boardings_by rules tags i (connection_at t i) stop labels)) (boardings rules t tags i stop labels)
-      old new
-      (λ way opened. record {
-        there = record { walk = way.0; label = way.1 };
-        is_open = may_board stop way.0 way.1 opened.0 opened.1;
         departs = refl;
         worth = refl;
         fits = λ tag h. h;

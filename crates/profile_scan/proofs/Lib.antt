@@ -18,7 +18,6 @@ pub mod StepFacts
 pub mod LogLemmas
 mod OriginLemmas
 mod TakeLemmas
-mod TakenInLists
 mod EverywhereLemmas
 pub mod OrderLemmas
 pub mod Chains
@@ -34,7 +33,3 @@ pub mod Listed
 pub mod Single
 pub mod AnsweredLemmas
 pub mod Windows
-pub mod LaneExits
-pub mod LaneOffers
-pub mod LanesLeft
-pub mod LanesBoarded

@@ -15,9 +15,6 @@ pub mod Adding
 pub mod Starts
 pub mod Hops
 pub mod ScanState
-pub mod Keeping
-pub mod InLists
-pub mod InLanes
 pub mod Nearest
 pub mod JourneyNodes
 pub mod Answered

@@ -11,7 +11,6 @@ use crate::final_walks::final_walks_to;
 use crate::found::{Found, in_order};
 use crate::found_between::FoundBetween;
 use crate::hop::ScanQuery;
-use crate::in_lists::InLists;
 use crate::journey_nodes::journeys_as_nodes;
 use crate::origin::Origin;
 use crate::scan::scan_window;
@@ -84,10 +83,11 @@ pub fn profile_between<S: ConnSource, C: Criterion>(
     let end = source.first_at(query.by);
     let own = query.copy()?;
     let asked = ask(alloc, source, criterion, own)?;
-    let scan = scan_window::<S, C, InLists<C>, Origin<C>>(alloc, source, &asked, start..end)?;
+    let scan = scan_window::<S, C, Origin<C>>(alloc, source, &asked, start..end)?;
     let points = in_order(alloc, criterion, &scan.state.origin.found)?;
     let view = ScanView {
-        keeping: &scan.state.keeping,
+        trips: &scan.state.trips,
+        stops: &scan.state.stops,
         origin: &scan.state.origin,
     };
     let spelled = journeys_as_nodes(alloc, source, &view, &points)?;

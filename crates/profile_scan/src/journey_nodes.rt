@@ -7,7 +7,6 @@ ghost use Rattle.profile_scan.specs.declared.journey_nodes.Change.{Change};
 ghost use Rattle.profile_scan.specs.JourneyNodes.{IsRoute, change, ending, IsLabelSpelled, SaysLabel, IsJourneySpelled};
 ghost use Rattle.profile_scan.specs.JourneyNodes.{SaysJourney, AreSpelledAgain};
 
-use crate::keeping::Keeping;
 use crate::nodes::Node;
 use crate::scan_records::Exit;
 use crate::view::ScanView;
@@ -33,7 +32,7 @@ struct LastAlighting {
     walk: Option<Footpath>,
 }
 
-impl<'a, C: Criterion, K: Keeping<C>> ScanView<'a, C, K> {
+impl<'a, C: Criterion> ScanView<'a, C> {
     ghost use Rattle.std.specs.Prelude.{◌≡◌, ◌++◌, ◌∷◌, [], ℕ, IfOk, Contains, Some, None, length, map};
     ghost use Rattle.bags.specs.declared.point.Point.{Point};
     ghost use Rattle.profile_scan.specs.Views.{scan_records_seen};
@@ -44,12 +43,12 @@ impl<'a, C: Criterion, K: Keeping<C>> ScanView<'a, C, K> {
 
     // The change that a label says, if it says one.
     fn change_after(&self, label: usize) -> Option<Change>
-        ensures { result ≡ change (scan_records_seen K.value self.now) label }
+        ensures { result ≡ change (scan_records_seen self.now) label }
     {
-        match self.keeping.exit(label)? {
+        match self.trips.exits.get(label).copied()? {
             Exit::Ends { .. } => None,
             Exit::Changes { last, step } => {
-                let step = self.keeping.step(step)?;
+                let step = self.stops.lists.step(step)?;
                 Some(Change { last, step })
             },
         }
@@ -57,9 +56,9 @@ impl<'a, C: Criterion, K: Keeping<C>> ScanView<'a, C, K> {
 
     // The end that a label says, if it says one.
     fn end_after(&self, label: usize) -> Option<LastAlighting>
-        ensures { result ≡ ending (scan_records_seen K.value self.now) label }
+        ensures { result ≡ ending (scan_records_seen self.now) label }
     {
-        match self.keeping.exit(label)? {
+        match self.trips.exits.get(label).copied()? {
             Exit::Ends { last, walk } => Some(LastAlighting { last, walk }),
             Exit::Changes { .. } => None,
         }
@@ -68,14 +67,13 @@ impl<'a, C: Criterion, K: Keeping<C>> ScanView<'a, C, K> {
     // Follows changes from a label to one that ends, and returns that one; `route` gets the labels before it. A
     // change leads to an earlier label, so no label comes twice.
     fn note_route(&self, first: usize, route: &mut Vec<usize>) -> Result<usize, AllocError>
-        ensures route { IfOk result (λ last. IsRoute (scan_records_seen K.value self.now) first route.new.items last) }
-        ensures ends { IfOk result (λ last. (walks : _)
-            → IsLabelSpelled walks (scan_records_seen K.value self.now) first
-            → change (scan_records_seen K.value self.now) last ≡ None) }
+        ensures route { IfOk result (λ last. IsRoute (scan_records_seen self.now) first route.new.items last) }
+        ensures ends { IfOk result (λ last. (walks : _) → IsLabelSpelled walks (scan_records_seen self.now) first
+            → change (scan_records_seen self.now) last ≡ None) }
     {
         route.clear();
         let mut label = first;
-        for _i in 0..self.keeping.exits() {
+        for _i in 0..self.trips.exits.len() {
             match self.change_after(label) {
                 None => return Ok(label),
                 Some(change) => {
@@ -92,9 +90,9 @@ impl<'a, C: Criterion, K: Keeping<C>> ScanView<'a, C, K> {
     // nothing.
     fn add_end_node(&self, label: usize, nodes: &mut Vec<Node>) -> Result<usize, AllocError>
         ensures { IfOk result (λ number. AddsNodes nodes.old.items nodes.new.items
-            ((walks : _) → IsLabelSpelled walks (scan_records_seen K.value self.now) label
-            → change (scan_records_seen K.value self.now) label ≡ None
-            → SaysLabel walks (scan_records_seen K.value self.now) label nodes.new.items number)) }
+            ((walks : _) → IsLabelSpelled walks (scan_records_seen self.now) label
+            → change (scan_records_seen self.now) label ≡ None
+            → SaysLabel walks (scan_records_seen self.now) label nodes.new.items number)) }
     {
         match self.end_after(label) {
             None => Ok(nodes.len()),
@@ -117,14 +115,12 @@ impl<'a, C: Criterion, K: Keeping<C>> ScanView<'a, C, K> {
         next: usize,
         nodes: &mut Vec<Node>,
     ) -> Result<usize, AllocError>
-        requires spelled { IsLabelSpelled (S.timetable source.now).footpaths
-            (scan_records_seen K.value self.now) label }
-        requires next { (c : Change) × (change (scan_records_seen K.value self.now) label ≡ Some c)
-            × SaysLabel (S.timetable source.now).footpaths
-            (scan_records_seen K.value self.now) c.step.label nodes.old.items next }
+        requires spelled { IsLabelSpelled (S.timetable source.now).footpaths (scan_records_seen self.now) label }
+        requires next { (c : Change) × (change (scan_records_seen self.now) label ≡ Some c)
+            × SaysLabel (S.timetable source.now).footpaths (scan_records_seen self.now) c.step.label nodes.old.items
+            next }
         ensures { IfOk result (λ number. AddsNodes nodes.old.items nodes.new.items
-            (SaysLabel (S.timetable source.now).footpaths
-            (scan_records_seen K.value self.now) label nodes.new.items number)) }
+            (SaysLabel (S.timetable source.now).footpaths (scan_records_seen self.now) label nodes.new.items number)) }
     {
         match self.change_after(label) {
             None => Ok(next),
@@ -157,10 +153,9 @@ impl<'a, C: Criterion, K: Keeping<C>> ScanView<'a, C, K> {
         route: &mut Vec<usize>,
         nodes: &mut Vec<Node>,
     ) -> Result<usize, AllocError>
-        requires { IsJourneySpelled (S.timetable source.now).footpaths (scan_records_seen K.value self.now) tag }
+        requires { IsJourneySpelled (S.timetable source.now).footpaths (scan_records_seen self.now) tag }
         ensures { IfOk result (λ number. AddsNodes nodes.old.items nodes.new.items
-            (SaysJourney (S.timetable source.now).footpaths
-            (scan_records_seen K.value self.now) tag nodes.new.items number)) }
+            (SaysJourney (S.timetable source.now).footpaths (scan_records_seen self.now) tag nodes.new.items number)) }
     {
         let set_out = self.origin.set_outs[tag];
         let last = self.note_route(set_out.label, route)?;
@@ -197,16 +192,16 @@ pub struct NodePoints<V> {
 }
 
 /// Returns the points with their journeys as nodes: each point's tag is then the number of a `SetsOut` node.
-pub fn journeys_as_nodes<S: ConnSource, C: Criterion, K: Keeping<C>>(
+pub fn journeys_as_nodes<S: ConnSource, C: Criterion>(
     alloc: Global,
     source: &S,
-    view: &ScanView<'_, C, K>,
+    view: &ScanView<'_, C>,
     points: &[Point<C::V>],
 ) -> Result<NodePoints<C::V>, AllocError>
     requires { (p : Point _) → Contains points.now p
-        → IsJourneySpelled (S.timetable source.now).footpaths (scan_records_seen K.value view.now) p.tag }
-    ensures { IfOk result (λ spelled. AreSpelledAgain (S.timetable source.now).footpaths
-        (scan_records_seen K.value view.now) points.now spelled.points.items spelled.nodes.items) }
+        → IsJourneySpelled (S.timetable source.now).footpaths (scan_records_seen view.now) p.tag }
+    ensures { IfOk result (λ spelled. AreSpelledAgain (S.timetable source.now).footpaths (scan_records_seen view.now)
+        points.now spelled.points.items spelled.nodes.items) }
 {
     let mut spelled = Vec::with_capacity(alloc, points.len())?;
     let mut nodes = Vec::new(alloc);

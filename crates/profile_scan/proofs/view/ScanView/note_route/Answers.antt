@@ -6,18 +6,16 @@ use Rattle.profile_scan.proofs.JourneyNodeLemmas.{route_push, spells_change, not
 use Rattle.profile_scan.proofs.view.ScanView.note_route.Goals as goal
 
 pub loop-i-init : goal.loop-i-init
-loop-i-init g c =
-    let s = scan_records_seen g.K.Keeping.value c.args.self.now in
-    record {
-      route = subst (λ ls. IsRoute s c.args.first ls c.args.first) (sym c.clear.ensures.items) refl;
-      tells = λ walks is.
-          let all : length s.exits - 0 ≡ length s.exits = omega arith in
-          (is.0, ap (λ n. label_spells walks s n c.args.first) all ∙ is.1);
-    }
+loop-i-init g c = record {
+  route = subst (λ ls. IsRoute (scan_records_seen c.args.self.now) c.args.first ls c.args.first) (sym c.clear.ensures.items) refl;
+  tells = λ walks is.
+      let all : length (scan_records_seen c.args.self.now).exits - 0 ≡ length (scan_records_seen c.args.self.now).exits = omega arith in
+      (is.0, ap (λ n. label_spells walks (scan_records_seen c.args.self.now) n c.args.first) all ∙ is.1);
+}
 
 pub loop-i-preserved : goal.loop-i-preserved
 loop-i-preserved g c =
-    let s = scan_records_seen g.K.Keeping.value c.args.self.now in
+    let s = scan_records_seen c.args.self.now in
     let is = sym c.change_after.ensures ∙ c.in-Some.is in
     record {
       route = subst (λ ls. IsRoute s c.args.first ls c.in-Some.change.step.label)
@@ -32,8 +30,8 @@ loop-i-preserved g c =
 
 pub returns-clause-ends : goal.returns-clause-ends
 returns-clause-ends g c walks spelled =
-    let s = scan_records_seen g.K.Keeping.value c.args.self.now in
+    let s = scan_records_seen c.args.self.now in
     let t = c.loop-i.invariant.tells walks spelled in
-    let long = c.exits-i-end.ensures in
+    let long = c.args.self.now.trips.now.exits.ok.0 in
     let none : 0 ≡ length s.exits - c.loop-i._i = omega arith in
     absurd (not_spelled walks s c.loop-i.label t.0 (ap (λ n. label_spells walks s n c.loop-i.label) none ∙ t.1))
