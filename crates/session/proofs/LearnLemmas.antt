@@ -19,7 +19,7 @@ use Rattle.session.specs.Sessions.{AreExchanges, LastRelease, moves_of}
 use Rattle.session.specs.Exchanges.{Exchange, IsExchange, Meets, ProfileIsMet, SeatState, deed_of, seat_state}
 use Rattle.session.specs.Learning.{AreFromPublished, GoesOn, IsFromPublished, IsPublishedIfHeld, Learns, LearnsBy, LearningTells}
 use Rattle.session.specs.Learning.{ReportsPublished, TellsPublished}
-use Rattle.session.proofs.SeatLemmas.{answers_grow, is_pinned, pin_refused, release_refused, steps}
+use Rattle.session.proofs.SeatLemmas.{answers_grow, is_pinned, steps}
 use Rattle.session.specs.Replies.{ReplyValue}
 use Rattle.session.proofs.ExchangeLemmas.{moves_follow}
 
@@ -91,13 +91,11 @@ learns_pinned k l number a b step grows known =
     learns_answer k l number a b (SeatAnswer.Pinned pinned.version pinned.shown) pinned.step grows holds.published
 
 pub learns_unpinned : (k l : KnownHistory) (a b : SeatValue) (fault : PinFault) → PinStep a (Err fault) b → Grows k l → Learns k a l b
-learns_unpinned k l a b fault step grows =
-    learns_one TellsPublished k l a.answers b.answers (SeatAnswer.PinRefused fault) grows (pin_refused a b fault step).answers tt
+learns_unpinned k l a b fault step grows = learns_answer k l 0 a b (SeatAnswer.PinRefused fault) step grows tt
 
 pub learns_by_release : (k l : KnownHistory) (a b : SeatValue) (r : Result (Unit {0}) PinFault) → ReleaseStep a r b → Grows k l → Learns k a l b
 learns_by_release k l a b (Ok u) step grows = learns_answer k l 0 a b SeatAnswer.Released step grows tt
-learns_by_release k l a b (Err fault) step grows =
-    learns_one TellsPublished k l a.answers b.answers (SeatAnswer.ReleaseRefused fault) grows (release_refused a b fault step).answers tt
+learns_by_release k l a b (Err fault) step grows = learns_answer k l 0 a b (SeatAnswer.ReleaseRefused fault) step grows tt
 
 pub learns_by_notice : (k l : KnownHistory) (a b : SeatValue) (version : ℕ) → JoinStep a version b → l ≡ k → Learns k a l b
 learns_by_notice k l a b version step same =
@@ -134,7 +132,7 @@ profile_from : (k : KnownHistory) (form : ReplyForm) (held : Option (ℕ × Imag
 profile_from k form (Some h) ask moves reply met held are = inl (h.0, h.1, held, met.1)
 profile_from k form None ask moves reply (inl met) held are =
     let once = subst (λ (xs : List SeatMove). All (TellsPublished k) (answers_in xs)) met.once.moves_are are in
-    let told = All-head (TellsPublished k) (SeatAnswer.Pinned met.version met.once.shown) (SeatAnswer.Released ∷ []) once in
+    let told = All-head (TellsPublished k) (SeatAnswer.Pinned met.version met.once.shown) (met.once.last ∷ []) once in
     inl (met.version, met.image, subst (λ (i : ImageValue). IsPublished k met.version i) met.once.image_is told, met.replied)
 profile_from k form None ask moves reply (inr refused) held are = inr (refused.fault, refused.reply_is)
 
@@ -169,7 +167,7 @@ exchanges_from k form number a b (t ∷ exchanges) (m, exchange, rest) held are 
 -- what was answered in the exchanges, and by the release behind them
 released_too : (number : ℕ) (last b : SeatValue) → LastRelease number last b → (rest : List SeatAnswer) × (b.answers ≡ last.answers ++ rest)
 released_too number last b (inl kept) = ([], ap (λ (s : SeatValue). s.answers) kept.1 ∙ sym (append-nil last.answers))
-released_too number last b (inr gave) = (SeatAnswer.Released ∷ [], (steps number last b SeatAnswer.Released gave.1).answers)
+released_too number last b (inr gave) = (gave.1.0 ∷ [], (steps number last b gave.1.0 gave.1.2).answers)
 
 -- what exchanges tell, by what the seat learned in them
 pub learning_tells : LearningTells

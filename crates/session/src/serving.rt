@@ -85,7 +85,7 @@ impl<'a, N: Drop, T: Versions<Notice = N>, G: Gate> SessionServer<'a, T, G> {
         outcome
     }
 
-    // Gives back what the seat holds, if anything.
+    // Gives back what the seat holds, if anything. If the seat turns out to be lost, nobody is notified.
     fn release_last(&self, seat: &mut T::Seat)
         requires { T.words.fits self.now.shelves.now seat.old }
         ensures seat { GoesOn T.words self.now.shelves.now seat.old seat.new }
