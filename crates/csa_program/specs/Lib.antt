@@ -5,4 +5,3 @@ pub mod Logging
 pub mod Running
 pub mod Serving
 pub mod Showing
-pub mod Watching
