@@ -5,3 +5,4 @@ pub mod Logging
 pub mod Running
 pub mod Serving
 pub mod Showing
+pub mod Watching

@@ -38,12 +38,12 @@ use feed_loader::Plan;
 use feed_messages::reason_of;
 use feed_plans::{PlanFailure, WallClock, plan_at, zone_and_plan};
 use image_commands::open_image;
-use image_files::{ImageDisk, Watched, WatchedRead};
+use image_files::ImageDisk;
 use image_verifier::Verified;
 use lines::{ReadStream, WriteStream};
 use orders::OpenGate;
 use std::alloc::{AllocError, Global};
-use std::io::{ErrorKind, Write};
+use std::io::{ErrorKind, Read, Write};
 use std::marker::Brand;
 use std::net::{Ipv4Addr, Net, TcpListener, TcpStream};
 use std::rt::Files;
@@ -176,13 +176,12 @@ impl<'a, H: Disk + Explains + Clock + WallClock + Threads + Wait + Sync + 'a> Ho
 /// Serves sessions until as many were served as are asked for, or prints the first thing that is wrong.
 pub fn run<
     H: Machine + ImageDisk<Image = H::File> + Net<Listener = TcpListener, Stream = TcpStream>,
-    I: WatchedRead,
-    O: Watched,
+    I: Read,
+    O: Write,
     E: Write + Send,
 >(rt: &H, request: ServeRequest<'_>, input: &mut I, output: &mut O, errors: &mut E) -> u8
     ensures { IsServeEnd (H.ImageDisk.may_hold rt.now) (H.WallClock.may_show rt.now)
-        (I.remaining input.old) request.entry (O.noted output.new) result
-        (O.contents output.old) (O.contents output.new) }
+        (I.remaining input.old) request.entry result (O.contents output.old) (O.contents output.new) }
 {
     let alloc = rt.alloc();
     let (zone_bytes, first) = match zone_and_plan(rt, &request.plan) {
@@ -232,7 +231,7 @@ fn keep_freed_memory(alloc: Global) {
 // Prints the port, serves whoever comes to it, and prints how many sessions there were.
 fn serve_at<
     H: Disk + Explains + Clock + WallClock + Threads + Wait + Sync,
-    O: Watched,
+    O: Write,
     E: Write + Send,
 >(
     rt: &H,
@@ -522,17 +521,15 @@ fn none_received<E: Write>(alloc: Global, errors: &mut E, port: u16, kind: Error
     ensures { (result ≡ INPUT_OUTPUT) ⊎ (result ≡ OUT_OF_MEMORY) }
 {
     let reason = reason_of(kind);
-    match format!(in alloc; "csa: can't listen at port {port}: {reason}\n") {
-        Ok(line) => {
-            let _ = errors.write_all(line.as_bytes());
-            status::INPUT_OUTPUT
-        }
-        Err(_) => status::OUT_OF_MEMORY,
-    }
+    status::write_line(
+        errors,
+        format!(in alloc; "csa: can't listen at port {port}: {reason}\n"),
+        status::INPUT_OUTPUT,
+    )
 }
 
 // Prints at which port the server listens.
-fn tell_port<O: Watched>(alloc: Global, port: u16, output: &mut O) -> u8
+fn tell_port<O: Write>(alloc: Global, port: u16, output: &mut O) -> u8
     ensures { ((result ≡ ACCEPTED) × Appends (O.contents output.old) (O.contents output.new) (port_text port))
         ⊎ IsNoServerEnd port (O.contents output.old) (O.contents output.new) result }
 {
@@ -553,7 +550,7 @@ fn port_line(alloc: Global, port: u16) -> Result<String, AllocError>
 
 // Prints how many sessions there were. The status follows from how they ended and whether accepting failed, unless the
 // line can't be printed.
-fn tell_served<O: Watched>(alloc: Global, ends: SessionCounts, is_deaf: bool, output: &mut O) -> u8
+fn tell_served<O: Write>(alloc: Global, ends: SessionCounts, is_deaf: bool, output: &mut O) -> u8
     ensures { (port : ℕ) (before : Option (List ℕ)) → Appends before (O.contents output.old) (port_text port)
         → IsServerEnd port before (O.contents output.new) ends is_deaf result }
 {

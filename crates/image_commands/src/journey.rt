@@ -10,7 +10,6 @@ use command_endings::status;
 use command_requests::JourneyRequest;
 use departure_lines::append_times;
 use feed_messages::explain;
-use image_files::Watched;
 use image_verifier::Verified;
 use journeys::{JourneyFault, TextFault, check, journey_parse};
 use std::alloc::{AllocError, Global};
@@ -32,7 +31,7 @@ pub enum Failure {
 
 /// Prints when the journey departs and arrives; or the first fault of the query, of the text or of the journey, which
 /// it explains in `errors`.
-pub fn run<O: Watched, E: Write>(
+pub fn run<O: Write, E: Write>(
     alloc: Global,
     image: &Verified,
     request: JourneyRequest<'_>,
@@ -40,7 +39,7 @@ pub fn run<O: Watched, E: Write>(
     errors: &mut E,
 ) -> u8
     ensures { IsOutcome (Prints (IsAccepted image.now request.entry.question request.entry.text.now)
-        (IsFaulty image.now request.entry.question request.entry.text.now)) ⊥ (O.noted output.new) result
+        (IsFaulty image.now request.entry.question request.entry.text.now)) result
         (O.contents output.old) (O.contents output.new) }
 {
     match judge(alloc, image, &request) {
