@@ -13,7 +13,7 @@ use crate::point_form::PointForm;
 use criteria::{Arrival, ArrivalTrips, ArrivalTripsWalk, CriterionName, ShowsFigures};
 use image_verifier::Verified;
 use journeys::{Answer, Departure, journey_string};
-use profile_scan::SetQuery;
+use profile_scan::{Scanned, SetQuery};
 use session_texts::Points;
 use sources::{InPlace, ReadLog};
 use station_answers::answer_between;
@@ -60,7 +60,7 @@ pub fn reply_by_name<L: ReadLog>(
 }
 
 // The line that replies to a query, by this criterion. The image is read in place.
-fn line_by<C: ShowsFigures, L: ReadLog>(
+fn line_by<C: ShowsFigures + Scanned, L: ReadLog>(
     alloc: Global,
     form: PointForm,
     image: &Verified,

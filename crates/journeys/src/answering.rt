@@ -13,7 +13,7 @@ ghost use Rattle.journeys.specs.Extracted.{Attains};
 
 use crate::extraction::extract;
 use criteria::Criterion;
-use profile_scan::{ConnSource, Found, profile};
+use profile_scan::{ConnSource, Found, Scanned, profile};
 use std::alloc::{AllocError, Global};
 use timetable::{Journey, Query};
 
@@ -39,7 +39,7 @@ pub struct Answer<C: Criterion> {
 ///
 /// Each connection of the window is asked for once, from the last to the first. The only error is that memory runs
 /// out; then a first part of them, or all, was asked for.
-pub fn answer_query<S: ConnSource, C: Criterion>(
+pub fn answer_query<S: ConnSource, C: Scanned>(
     alloc: Global,
     source: &mut S,
     criterion: &C,

@@ -1,7 +1,7 @@
 -- Boarding, over the footpaths into a connection's start.
 use Rattle.std.proofs.Common.{◌≡◌, ◌⊎◌, ◌↔◌, ℕ, ◌+◌, ◌-◌, ◌<◌, ◌≤◌, Bool, true, false, List, Contains, length, vec_len}
 use Rattle.std.proofs.Common.{slice_get, Option, Some, None, refl, sym, ◌∙◌, ap, subst, inl, inr, arith}
-use Rattle.std.proofs.lemmas.Bool.{cases_lt}
+use Rattle.std.proofs.lemmas.Bool.{cases_lt, true≢false}
 use Rattle.std.proofs.lemmas.Option.{same_Some}
 use Rattle.criteria.specs.Laws.{Rules, Laws, Admits, IsSecs}
 use Rattle.bags.specs.declared.point.Point.{Point}
@@ -18,7 +18,7 @@ use Rattle.fronts.specs.Lists.{steps_of}
 use Rattle.fronts.specs.declared.entry.RiddenLabel.{RiddenLabel}
 use Rattle.profile_scan.specs.Matching.{Spellings, from_to}
 use Rattle.profile_scan.specs.ScanRecords.{scan_records, spelling_of}
-use Rattle.profile_scan.specs.Steps.{Offer, TakesIn, boardings, settings_out, MayBoard, MaySetOut}
+use Rattle.profile_scan.specs.Steps.{Offer, TakesIn, TakesInBut, boardings, settings_out, MayBoard, MaySetOut, SettingOut}
 use Rattle.profile_scan.specs.Points.{Covers}
 use Rattle.profile_scan.specs.Starts.{IsLed, SaysLed}
 use Rattle.profile_scan.specs.Adding.{each_of, StandsBetween, AreWalksInto, IsTried, StartsFrom, MayStart, boardings_by, settings_out_by}
@@ -27,11 +27,11 @@ use Rattle.profile_scan.specs.Parts.{BoardsAfter, BoardsAfterEach}
 use Rattle.profile_scan.specs.declared.hop.Hop.{Hop}
 use Rattle.profile_scan.specs.declared.stops.Stops.{Stops}
 use Rattle.profile_scan.proofs.Admitted.{AreAdmitted}
-use Rattle.profile_scan.proofs.Offers.{takes_none, takes_more, takes_as}
+use Rattle.profile_scan.proofs.Offers.{but_as, takes_none, takes_more, takes_as}
 use Rattle.profile_scan.proofs.PartLemmas.{lists_none, lists_on}
 use Rattle.profile_scan.proofs.ScanRecordLemmas.{grows_on, steps_grow}
 
-between_more : (walks : List Footpath) (begin end : ℕ) (y : Footpath) → StandsBetween walks begin end y → StandsBetween walks begin (end + 1) y
+pub between_more : (walks : List Footpath) (begin end : ℕ) (y : Footpath) → StandsBetween walks begin end y → StandsBetween walks begin (end + 1) y
 between_more walks begin end y s = (s.0, s.1, omega (arith, s.2), s.3)
 
 pub between_split : (walks : List Footpath) (begin end : ℕ) (x y : Footpath) → slice_get walks end ≡ Some x
@@ -182,6 +182,24 @@ module _ {V : Type 0} (rules : Rules V) (t : TimetableValue) (tags : Spellings) 
       (subst (λ (x : Connection). x.board ≡ true) is boards)
       (subst (λ (x : Connection). TakesIn rules (settings_out_by rules tags i x q labels None) old new) is takes)
 
+-- nobody sets out where nobody may get on
+pub nobody_boards : {V : Type 0} (t : TimetableValue) (q : SetQueryValue) (i : ℕ) (c : Connection) → c ≡ connection_at t i → c.board ≡ false
+    → (labels : List (Point V)) (way : SettingOut V) → MaySetOut t q i labels way → ⊥
+nobody_boards t q i c is closed labels way may =
+    true≢false (sym may.boards ∙ subst (λ (x : Connection). x.board ≡ false) is closed)
+
+-- nor where neither a source is nor a footpath leads from one
+pub nobody_starts : {V : Type 0} (t : TimetableValue) (q : SetQueryValue) (i : ℕ) (c : Connection) → c ≡ connection_at t i
+    → (Contains q.sources c.from → ⊥) → (IsLed t q.sources c.from → ⊥) → (labels : List (Point V)) (way : SettingOut V) → MaySetOut t q i labels way → ⊥
+nobody_starts t q i c is here led labels way may =
+    from_start way.start (starts_from t q (connection_at t i) may.source way.start may.is_source may.is_start may.leads) may.is_start may.leads
+  where
+    from_start : (start : Option Footpath) → StartsFrom q (connection_at t i) start → IsStart t may.source start
+        → start_end may.source start ≡ (connection_at t i).from → ⊥
+    from_start None starts is_start leads = subst (λ (x : Connection). Contains q.sources x.from → ⊥) is here starts
+    from_start (Some f) starts is_start leads =
+        subst (λ (x : Connection). IsLed t q.sources x.from → ⊥) is led (f, is_start.0, starts, leads)
+
 -- where exactly the footpaths into a stop stand
 pub walks_into_it : (t : TimetableValue) (stop begin end : ℕ) → stop < t.stops → begin ≤ end → end ≤ length t.footpaths
     → ((k : ℕ) (f : Footpath) → At t.footpaths k f → (f.to ≡ stop) ↔ ((begin ≤ k) × (k < end)))
@@ -244,6 +262,26 @@ module _ {V : Type 0} (rules : Rules V) (t : TimetableValue) (tags : Spellings) 
         there = record { walk = way.0; label = way.1 };
         is_open =
             may_board stop way.0 way.1 opened.0 opened.1;
+        departs = refl;
+        worth = refl;
+        fits = λ tag h. h;
+      })
+      (λ way opened. here.covered (way.walk, way.label) (between way.walk opened.is_footpath opened.leads, ((opened.leaves, opened.fits), opened.is_label)))
+      here
+
+  -- the same where labels are excused
+  pub boardings_but : (Excused : Point V → Type 0) (stop : ℕ) (old new : List (Point V))
+      → TakesInBut rules (λ way. Excused way.1) (each_of (StandsBetween t.footpaths begin end) (boardings_by rules tags i c stop labels)) old new
+      → TakesInBut rules (λ way. Excused way.label) (boardings rules t tags i stop labels) old new
+  boardings_but Excused stop old new takes =
+      let here = subst (λ (x : Connection). TakesInBut rules (λ way. Excused way.1)
+      (each_of (StandsBetween t.footpaths begin end) (boardings_by rules tags i x stop labels)) old new) is takes in
+      but_as rules (λ way. Excused way.1) (λ way. Excused way.label)
+      (each_of (StandsBetween t.footpaths begin end) (boardings_by rules tags i (connection_at t i) stop labels)) (boardings rules t tags i stop labels)
+      old new
+      (λ way opened. record {
+        there = record { walk = way.0; label = way.1 };
+        is_open = may_board stop way.0 way.1 opened.0 opened.1;
         departs = refl;
         worth = refl;
         fits = λ tag h. h;

@@ -15,7 +15,7 @@ use Rattle.timetable.specs.TimetableValue.{TimetableValue}
 use Rattle.timetable.specs.Legal.{IsLegal}
 use Rattle.timetable.specs.Journeys.{connection_at}
 use Rattle.timetable.proofs.LegalLemmas.{departures_rise, Contains-At}
-use Rattle.profile_scan.specs.Steps.{AreUnpruned}
+use Rattle.profile_scan.specs.Steps.{IsOutdoneRidden}
 use Rattle.profile_scan.specs.Bound.{any_no_worse, survivors, AreBounds, IsLateValue, TakesPoints, TakesValue}
 use Rattle.profile_scan.proofs.Admitted.{AreAdmitted}
 use Rattle.profile_scan.proofs.Outdone.{KeepsCovers, outdone_worse, outdone_on}
@@ -53,17 +53,11 @@ module _ {V : Type 0} (rules : Rules V) (laws : Laws rules) (t : TimetableValue)
     (found_admitted : AreAdmitted rules found) (i : ℕ) (values : List V)
     (bounds : AreBounds rules t found (i + 1) values) where
   -- what a bound leaves out is outdone
-  pub survivors_by_bounds : (points : List (Point V)) → AreAdmitted rules points → AreUnpruned rules t found i points (survivors rules values points)
-  survivors_by_bounds points admitted = record {
-    only = λ p h. (from_survivors rules values points p h).0;
-    all = λ p h. elim (cases_Bool (any_no_worse rules values (rules.ride p.value))) [
-      | inl bettered ↦
-          let by = some_betters rules values (rules.ride p.value) bettered in
-          inr (outdone_worse rules laws t found found_admitted (i + 1) by.0 (rules.ride p.value)
-          (bounds.admitted by.0 by.1) (laws.ride_admits p.value (admitted p h)) by.2 (bounds.outdone by.0 by.1))
-      | inr free ↦ inl (into_survivors rules values points p h free)
-    ];
-  }
+  pub outdone_by_bounds : (v : V) → Admits rules v → any_no_worse rules values (rules.ride v) ≡ true → IsOutdoneRidden rules t found i v
+  outdone_by_bounds v admits bettered =
+      let by = some_betters rules values (rules.ride v) bettered in
+      outdone_worse rules laws t found found_admitted (i + 1) by.0 (rules.ride v) (bounds.admitted by.0 by.1) (laws.ride_admits v admits) by.2
+      (bounds.outdone by.0 by.1)
 
 -- with more points found, and fewer connections to come
 pub bounds_on : {V : Type 0} (rules : Rules V) (laws : Laws rules) (t : TimetableValue) (old new : List (Point V))

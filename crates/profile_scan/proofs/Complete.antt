@@ -13,11 +13,13 @@ use Rattle.profile_scan.specs.Values.{walked, ridden, started, journey_value}
 use Rattle.profile_scan.specs.Points.{Covers}
 use Rattle.profile_scan.specs.Continuations.{Onward, Aboard, IsOnward, IsAboard, CountsFrom, onward_value, aboard_value}
 use Rattle.profile_scan.specs.Matching.{IsOutdone}
-use Rattle.profile_scan.specs.Steps.{Leaving, ends, ends_after, changes, MayLeave, leaving_value, AreUnpruned, Boarding, MayBoard, SettingOut, MaySetOut}
+use Rattle.profile_scan.specs.Steps.{Leaving, ends, ends_after, changes, MayLeave, leaving_value, MayNotChange, IsOutdoneRidden, Boarding, MayBoard}
+use Rattle.profile_scan.specs.Steps.{SettingOut, MaySetOut}
 use Rattle.profile_scan.specs.LawStatements.{CanScan}
 use Rattle.profile_scan.proofs.Chains.{step_admits, step_monotone, walked_admits, walked_worsens, started_admits}
 use Rattle.profile_scan.proofs.Chains.{started_monotone, started_worsens, chain_gives_way}
 use Rattle.profile_scan.proofs.Outdone.{outdone_worse, outdone_ride, outdone_down}
+use Rattle.profile_scan.proofs.Offers.{sure}
 use Rattle.profile_scan.proofs.Listed.{cases_listed}
 use Rattle.profile_scan.proofs.Times.{together_never_continue}
 use Rattle.profile_scan.proofs.Ends.{until_matters_at_source}
@@ -25,14 +27,15 @@ use Rattle.profile_scan.proofs.Admitted.{AreAdmitted, aboard_admits, covers_weak
 
 module _ {V : Type 0} (rules : Rules V) (laws : Laws rules) (t : TimetableValue) (q : SetQueryValue) (can : CanScan t q) (i : ℕ) where
   -- leaving the trip at place i and ending after a walk of any length
-  ending_covered : (bag labels : List (Point V)) (admitted : AreAdmitted rules labels)
-      (open_covered : (way : Leaving V) → MayLeave t q i bag way → Covers rules labels 0 (leaving_value rules t i way))
+  ending_covered : (Excused : V → Type 0) (bag labels : List (Point V)) (admitted : AreAdmitted rules labels)
+      (open_covered : (way : Leaving V) → MayLeave t q i bag way → Covers rules labels 0 (leaving_value rules t i way)
+      ⊎ MayNotChange Excused way)
       (walk : List Footpath) → IsWalk t (connection_at t i).to walk → Contains q.targets (walk_end (connection_at t i).to walk)
       → (connection_at t i).arr + walk_secs walk ≤ q.by
       → Covers rules labels 0 (walked rules walk (rules.arrive ((connection_at t i).arr + walk_secs walk)))
-  ending_covered bag labels admitted open_covered [] is at le =
-      subst (λ (n : ℕ). Covers rules labels 0 (rules.arrive n)) (sym (add-zero (connection_at t i).arr)) (open_covered ends (at, omega arith))
-  ending_covered bag labels admitted open_covered (f ∷ fs) is at le =
+  ending_covered Excused bag labels admitted open_covered [] is at le =
+      subst (λ (n : ℕ). Covers rules labels 0 (rules.arrive n)) (sym (add-zero (connection_at t i).arr)) (sure (open_covered ends (at, omega arith)))
+  ending_covered Excused bag labels admitted open_covered (f ∷ fs) is at le =
       let c = connection_at t i in
       let small = can.in_time in
       let final : ℕ = c.arr + walk_secs (f ∷ fs) in
@@ -46,7 +49,7 @@ module _ {V : Type 0} (rules : Rules V) (laws : Laws rules) (t : TimetableValue)
             (laws.transitive (rules.arrive c.arr) (rules.arrive final) v here there v_admitted
             (laws.arrive_monotone c.arr final (omega arith) (omega arith) (omega arith))
             (walked_worsens rules laws t can.limits c.to (f ∷ fs) (rules.arrive final) is there))
-            (open_covered ends (e, omega arith))
+            (sure (open_covered ends (e, omega arith)))
         | inr other ↦
             let way = chain_gives_way rules laws t can.limits can.legal c.to f fs is in
             let h = way.0 in
@@ -62,7 +65,7 @@ module _ {V : Type 0} (rules : Rules V) (laws : Laws rules) (t : TimetableValue)
             (step_monotone rules laws t can.limits h (rules.arrive soon) (rules.arrive final) instead.is_footpath
             soon_there there (laws.arrive_monotone soon final (omega arith) (omega arith) (omega arith)))
             (instead.no_worse (rules.arrive final) there))
-            (open_covered (ends_after h) (instead.is_footpath, instead.leaves, subst (Contains q.targets) (sym instead.leads) at, other, omega arith))
+            (sure (open_covered (ends_after h) (instead.is_footpath, instead.leaves, subst (Contains q.targets) (sym instead.leads) at, other, omega arith)))
       ]
 
   -- leaving it there and riding on later
@@ -92,25 +95,26 @@ module _ {V : Type 0} (rules : Rules V) (laws : Laws rules) (t : TimetableValue)
   InLabels found labels v = Covers rules labels 0 v ⊎ IsOutdone rules t found (i + 1) (rules.ride v)
 
   -- leaving it there, in whatever way
-  leaving_covered : (found bag survivors labels : List (Point V)) (found_admitted : AreAdmitted rules found)
+  leaving_covered : (found bag labels : List (Point V)) (found_admitted : AreAdmitted rules found)
       (admitted : AreAdmitted rules labels) (bag_admitted : AreAdmitted rules bag)
-      (carries : AreUnpruned rules t found i bag survivors)
-      (open_covered : (way : Leaving V) → MayLeave t q i survivors way → Covers rules labels 0 (leaving_value rules t i way))
+      (open_covered : (way : Leaving V) → MayLeave t q i bag way → Covers rules labels 0 (leaving_value rules t i way)
+      ⊎ MayNotChange (IsOutdoneRidden rules t found i) way)
       (onward : (time : ℕ) (x : Onward) → IsOnward t q (i + 1) (connection_at t i).to time x
       → Covers rules bag time (onward_value rules t x) ⊎ IsOutdone rules t found (i + 1) (onward_value rules t x))
       (walk : List Footpath) (rides : List RideValue) → i < length t.connections
       → IsAboard t q i (connection_at t i).trip (record { last = i; walk = walk; rides = rides })
       → InLabels found labels (aboard_value rules t (record { last = i; walk = walk; rides = rides }))
-  leaving_covered found bag survivors labels found_admitted admitted bag_admitted carries open_covered onward walk [] in_i
-      a = inl (ending_covered survivors labels admitted open_covered walk a.is_walk (subst (Contains q.targets) (sym a.leads) a.is_goal) a.arrives)
-  leaving_covered found bag survivors labels found_admitted admitted bag_admitted carries open_covered onward walk (ride ∷ rides) in_i a =
+  leaving_covered found bag labels found_admitted admitted bag_admitted open_covered onward walk [] in_i
+      a = inl (ending_covered (IsOutdoneRidden rules t found i) bag labels admitted open_covered walk a.is_walk
+      (subst (Contains q.targets) (sym a.leads) a.is_goal) a.arrives)
+  leaving_covered found bag labels found_admitted admitted bag_admitted open_covered onward walk (ride ∷ rides) in_i a =
       let x : Aboard = record { last = i; walk = walk; rides = ride ∷ rides } in
       let v : V = aboard_value rules t x in
       let value_admitted : Admits rules v = aboard_admits rules laws t q can i (connection_at t i).trip x a in
       elim (onward (connection_at t i).arr (record { walk = walk; rides = ride ∷ rides }) (changing_onward x ride rides in_i a)) [
-        | inl p ↦ elim (carries.all p.0 p.1) [
+        | inl p ↦ elim (open_covered (changes p.0) (p.1, p.2)) [
           | inl is ↦ inl (covers_weaker rules laws labels admitted 0 0 p.0.value v (bag_admitted p.0 p.1) value_admitted
-              (omega arith) p.3 (open_covered (changes p.0) (is, p.2)))
+              (omega arith) p.3 is)
           | inr o ↦ inr (outdone_worse rules laws t found found_admitted (i + 1) (rules.ride p.0.value) (rules.ride v)
               (laws.ride_admits p.0.value (bag_admitted p.0 p.1)) (laws.ride_admits v value_admitted)
               (laws.ride_monotone p.0.value v (bag_admitted p.0 p.1) value_admitted p.3) o)
@@ -119,16 +123,15 @@ module _ {V : Type 0} (rules : Rules V) (laws : Laws rules) (t : TimetableValue)
       ]
 
   -- labels that cover what follows in the trip later, and each open way to leave it at place i, cover all that follows from place i on, but for what is outdone
-  pub labels_cover : (found bag survivors labels : List (Point V)) (found_admitted : AreAdmitted rules found)
+  pub labels_cover : (found bag labels : List (Point V)) (found_admitted : AreAdmitted rules found)
       (admitted : AreAdmitted rules labels) (bag_admitted : AreAdmitted rules bag)
-      (carries : AreUnpruned rules t found i bag survivors)
       (later : (x : Aboard) → IsAboard t q (i + 1) (connection_at t i).trip x → InLabels found labels (aboard_value rules t x))
-      (open_covered : (way : Leaving V) → (connection_at t i).alight ≡ true → MayLeave t q i survivors way
-      → Covers rules labels 0 (leaving_value rules t i way))
+      (open_covered : (way : Leaving V) → (connection_at t i).alight ≡ true → MayLeave t q i bag way
+      → Covers rules labels 0 (leaving_value rules t i way) ⊎ MayNotChange (IsOutdoneRidden rules t found i) way)
       (onward : (time : ℕ) (x : Onward) → IsOnward t q (i + 1) (connection_at t i).to time x
       → Covers rules bag time (onward_value rules t x) ⊎ IsOutdone rules t found (i + 1) (onward_value rules t x))
       (x : Aboard) → i < length t.connections → IsAboard t q i (connection_at t i).trip x → InLabels found labels (aboard_value rules t x)
-  labels_cover found bag survivors labels found_admitted admitted bag_admitted carries later open_covered onward x in_i a =
+  labels_cover found bag labels found_admitted admitted bag_admitted later open_covered onward x in_i a =
       elim (cases_lt i x.last) [
         | inl lt ↦ later x (record {
           later = omega arith;
@@ -156,8 +159,8 @@ module _ {V : Type 0} (rules : Rules V) (laws : Laws rules) (t : TimetableValue)
               rides =
                   x.rides;
             })) in
-            let here : P i = λ at_i. leaving_covered found bag survivors labels found_admitted admitted bag_admitted
-            carries (λ way may. open_covered way at_i.alights may) onward x.walk x.rides in_i at_i in
+            let here : P i = λ at_i. leaving_covered found bag labels found_admitted admitted bag_admitted
+            (λ way may. open_covered way at_i.alights may) onward x.walk x.rides in_i at_i in
             subst P same here a
       ]
 
@@ -207,20 +210,19 @@ module _ {V : Type 0} (rules : Rules V) (laws : Laws rules) (t : TimetableValue)
       }
 
   -- rides that are boarded at place i after a chain
-  boarding_covered : (found : List (Point V)) (stop : ℕ) (labels survivors new : List (Point V))
+  boarding_covered : (found : List (Point V)) (stop : ℕ) (labels new : List (Point V))
       (found_admitted : AreAdmitted rules found) (labels_admitted : AreAdmitted rules labels)
-      (admitted : AreAdmitted rules new) (carries : AreUnpruned rules t found i labels survivors)
+      (admitted : AreAdmitted rules new)
       (aboard : (x : Aboard) → IsAboard t q i (connection_at t i).trip x → InLabels found labels (aboard_value rules t x))
-      (open_covered : (way : Boarding V) → MayBoard t i stop survivors way
+      (open_covered : (way : Boarding V) → MayBoard t i stop labels way
       → Covers rules new ((connection_at t i).dep - way.walk.secs)
-      (rules.walk way.walk.secs (rules.ride way.label.value)))
+      (rules.walk way.walk.secs (rules.ride way.label.value)) ⊎ IsOutdoneRidden rules t found i way.label.value)
       (time : ℕ) (walk : List Footpath) (ride : RideValue) (rides : List RideValue)
       → IsOnward t q i stop time (record { walk = walk; rides = ride ∷ rides }) → i ≡ ride.leg.first
       → Covers rules new time (onward_value rules t (record { walk = walk; rides = ride ∷ rides }))
       ⊎ IsOutdone rules t found i (onward_value rules t (record { walk = walk; rides = ride ∷ rides }))
-  boarding_covered found stop labels survivors new found_admitted labels_admitted admitted carries aboard open_covered
-      time [] ride rides on e = absurd (on.walks refl)
-  boarding_covered found stop labels survivors new found_admitted labels_admitted admitted carries aboard open_covered time (f ∷ fs) ride rides on e =
+  boarding_covered found stop labels new found_admitted labels_admitted admitted aboard open_covered time [] ride rides on e = absurd (on.walks refl)
+  boarding_covered found stop labels new found_admitted labels_admitted admitted aboard open_covered time (f ∷ fs) ride rides on e =
       let here = boarded_here found (walk_end stop (f ∷ fs)) (time + walk_secs (f ∷ fs)) labels aboard ride rides on.goal on.is_goal on.leads on.arrives e in
       let way = chain_gives_way rules laws t can.limits can.legal stop f fs on.is_walk in
       let h = way.0 in
@@ -242,42 +244,39 @@ module _ {V : Type 0} (rules : Rules V) (laws : Laws rules) (t : TimetableValue)
             let ride_l = laws.ride_admits l.value l_admitted in
             let better = laws.ride_monotone l.value v l_admitted here.admits label.no_worse in
             let candidate = step_admits rules laws t can.limits h (rules.ride l.value) instead.is_footpath ride_l in
-            elim (carries.all l label.is_label) [
+            elim (open_covered (record { walk = h; label = l }) (record {
+              boards = here.boards;
+              is_footpath = instead.is_footpath;
+              leaves = instead.leaves;
+              leads = instead.leads ∙ sym here.stands;
+              fits = omega arith;
+              is_label = label.is_label;
+            })) [
               | inr o ↦ inr (outdone (outdone_worse rules laws t found found_admitted (i + 1) (rules.ride l.value) (rules.ride v) ride_l ride_v better o))
               | inl is ↦ inl (covers_weaker rules laws new admitted ((connection_at t i).dep - h.secs) time
                   (rules.walk h.secs (rules.ride l.value)) w candidate whole (omega arith)
                   (laws.transitive (rules.walk h.secs (rules.ride l.value)) (rules.walk h.secs (rules.ride v)) w
                   candidate (step_admits rules laws t can.limits h (rules.ride v) instead.is_footpath ride_v) whole
                   (step_monotone rules laws t can.limits h (rules.ride l.value) (rules.ride v) instead.is_footpath ride_l ride_v better)
-                  (instead.no_worse (rules.ride v) ride_v))
-                  (open_covered (record { walk = h; label = l }) (record {
-                    boards = here.boards;
-                    is_footpath =
-                        instead.is_footpath;
-                    leaves = instead.leaves;
-                    leads = instead.leads ∙ sym here.stands;
-                    fits =
-                        omega arith;
-                    is_label = is;
-                  })))
+                  (instead.no_worse (rules.ride v) ride_v)) is)
             ])
       ]
 
   -- a bag that covers what follows later, and each boarding of place i, covers all that follows from place i on, but for what is outdone
-  pub bag_covers : (found : List (Point V)) (stop : ℕ) (labels survivors new : List (Point V))
+  pub bag_covers : (found : List (Point V)) (stop : ℕ) (labels new : List (Point V))
       (found_admitted : AreAdmitted rules found) (labels_admitted : AreAdmitted rules labels)
-      (admitted : AreAdmitted rules new) (carries : AreUnpruned rules t found i labels survivors)
+      (admitted : AreAdmitted rules new)
       (aboard : (x : Aboard) → IsAboard t q i (connection_at t i).trip x → InLabels found labels (aboard_value rules t x))
       (later : (time : ℕ) (x : Onward) → IsOnward t q (i + 1) stop time x
       → Covers rules new time (onward_value rules t x) ⊎ IsOutdone rules t found i (onward_value rules t x))
-      (open_covered : (way : Boarding V) → MayBoard t i stop survivors way
+      (open_covered : (way : Boarding V) → MayBoard t i stop labels way
       → Covers rules new ((connection_at t i).dep - way.walk.secs)
-      (rules.walk way.walk.secs (rules.ride way.label.value)))
+      (rules.walk way.walk.secs (rules.ride way.label.value)) ⊎ IsOutdoneRidden rules t found i way.label.value)
       (time : ℕ) (walk : List Footpath) (rides : List RideValue) → IsOnward t q i stop time (record { walk = walk; rides = rides })
       → Covers rules new time (onward_value rules t (record { walk = walk; rides = rides }))
       ⊎ IsOutdone rules t found i (onward_value rules t (record { walk = walk; rides = rides }))
-  bag_covers found stop labels survivors new found_admitted labels_admitted admitted carries aboard later open_covered time walk [] on = absurd on.boards
-  bag_covers found stop labels survivors new found_admitted labels_admitted admitted carries aboard later open_covered time walk (ride ∷ rides) on =
+  bag_covers found stop labels new found_admitted labels_admitted admitted aboard later open_covered time walk [] on = absurd on.boards
+  bag_covers found stop labels new found_admitted labels_admitted admitted aboard later open_covered time walk (ride ∷ rides) on =
       elim (cases_lt i ride.leg.first) [
         | inl lt ↦ later time (record { walk = walk; rides = ride ∷ rides }) (record {
           walks = on.walks;
@@ -289,7 +288,7 @@ module _ {V : Type 0} (rules : Rules V) (laws : Laws rules) (t : TimetableValue)
           leads = on.leads;
           arrives = on.arrives;
         })
-        | inr ge ↦ boarding_covered found stop labels survivors new found_admitted labels_admitted admitted carries aboard
+        | inr ge ↦ boarding_covered found stop labels new found_admitted labels_admitted admitted aboard
             open_covered time walk ride rides on (let from = on.boards in omega arith)
       ]
 

@@ -116,10 +116,6 @@ unfolding label_spells
 spelled_end walks s zero label x is e = absurd cc
 spelled_end walks s (suc n) label x is e = ended_by walks s.steps (label_spells walks s n) (slice_get s.exits label) x is e
 
-pub not_spelled : (walks : List Footpath) (s : ScanRecords) (label : ℕ) (x : Aboard) → label_spells walks s 0 label ≡ Some x → ⊥
-unfolding label_spells
-not_spelled walks s label x e = cc
-
 -- a node that ends says what is spelled
 pub says_end : (walks : List Footpath) (s : ScanRecords) (label : ℕ) (e : LastAlighting) (old new : List Node) → change s label ≡ None
     → ending s label ≡ Some e → new ≡ old ++ Ends e.last e.walk ∷ [] → SaysLabel walks s label new (length old)

@@ -12,13 +12,13 @@ use Rattle.timetable.proofs.LegalLemmas.{walk_limit}
 use Rattle.profile_scan.specs.SetQuery.{SetQueryValue}
 use Rattle.profile_scan.specs.Points.{Covers}
 use Rattle.profile_scan.specs.Matching.{Spellings}
-use Rattle.profile_scan.specs.Steps.{Offer, TakesIn, Leaving, ends, ends_after, changes, MayLeave, leaving_value, leavings}
+use Rattle.profile_scan.specs.Steps.{Offer, TakesInBut, Leaving, ends, ends_after, changes, MayLeave, MayNotChange, leaving_value, leavings}
 use Rattle.profile_scan.specs.LawStatements.{CanScan}
-use Rattle.profile_scan.specs.Adding.{only_if, endings_and_changes, value_in, departure_in, endings, changes_from}
+use Rattle.profile_scan.specs.Adding.{NoChange, only_if, endings_and_changes, value_in, departure_in, endings, changes_from}
 use Rattle.profile_scan.specs.ScanState.{IsNearest, IsFinalWalk}
 use Rattle.profile_scan.specs.declared.final_walks.FinalWalk.{FinalWalk}
 use Rattle.profile_scan.proofs.Chains.{step_admits}
-use Rattle.profile_scan.proofs.Offers.{takes_as, IsPart}
+use Rattle.profile_scan.proofs.Offers.{but_as, sure, IsPart}
 
 -- the seconds of a way are those of a footpath
 pub way_within : (t : TimetableValue) → IsWithinLimits t → (targets : List ℕ) (stop : ℕ) (way : Option FinalWalk) → IsFinalWalk t targets stop way
@@ -27,7 +27,7 @@ way_within t limits targets stop None is = tt
 way_within t limits targets stop (Some way) is = walk_limit t limits (record { from = stop; to = way.to; secs = way.secs }) is.is_footpath
 
 module _ {V : Type 0} (rules : Rules V) (laws : Laws rules) (t : TimetableValue) (q : SetQueryValue) (can : CanScan t q) (tags : Spellings) (i : ℕ)
-    (bag : List (Point V)) where
+    (bag : List (Point V)) (Excused : V → Type 0) where
   -- the ends and changes that code takes in where a connection ends
   abbrev Taken : Option FinalWalk → Offer (Option Footpath ⊎ Point V) V
   Taken way = only_if ((connection_at t i).alight ≡ true) (endings_and_changes rules tags i (connection_at t i) q way bag)
@@ -74,7 +74,8 @@ module _ {V : Type 0} (rules : Rules V) (laws : Laws rules) (t : TimetableValue)
   way_covers : (way : FinalWalk) → IsNearest t q.targets (connection_at t i).to way → (new : List (Point V))
       → ((p : Point V) → Contains new p → Admits rules p.value)
       → ((w : Option Footpath ⊎ Point V) → (Taken (Some way)).is_open w
-      → Covers rules new 0 (value_in (endings rules tags i (connection_at t i) q (Some way)) (changes_from tags i (connection_at t i).arr bag) w))
+      → Covers rules new 0 (value_in (endings rules tags i (connection_at t i) q (Some way)) (changes_from tags i (connection_at t i).arr bag) w)
+      ⊎ NoChange Excused w)
       → (connection_at t i).alight ≡ true → (f : Footpath) → MayLeave t q i bag (ends_after f)
       → Covers rules new 0 (leaving_value rules t i (ends_after f))
   way_covers way is new admitted takes alights f may =
@@ -89,7 +90,7 @@ module _ {V : Type 0} (rules : Rules V) (laws : Laws rules) (t : TimetableValue)
       let near : Footpath = record { from = (connection_at t i).to; to = way.to; secs = way.secs } in
       let is_target : Contains q.targets way.to = contains_at q.targets is.index way.to is.leads in
       let other : way.to ≡ (connection_at t i).to → ⊥ = λ e. may.3 (subst (Contains q.targets) e is_target) in
-      let c = takes (inl (Some near)) (alights, (other, refl, omega (arith, no_longer, by))) in
+      let c = sure (takes (inl (Some near)) (alights, (other, refl, omega (arith, no_longer, by)))) in
       let soon = laws.arrive_admits (arr + way.secs) (omega (arith, no_longer, by, small)) in
       let late = laws.arrive_admits (arr + f.secs) (omega (arith, by, small)) in
       let near_admits = step_admits rules laws t can.limits near (rules.arrive (arr + way.secs)) is.is_footpath soon in
@@ -109,17 +110,18 @@ module _ {V : Type 0} (rules : Rules V) (laws : Laws rules) (t : TimetableValue)
       → ((p : Point V) → Contains new p → Admits rules p.value)
       → ((w : Option Footpath ⊎ Point V) → (Taken way).is_open w
       → Covers rules new (departure_in (endings rules tags i (connection_at t i) q way) (changes_from tags i (connection_at t i).arr bag) w)
-      (value_in (endings rules tags i (connection_at t i) q way) (changes_from tags i (connection_at t i).arr bag) w))
-      → (l : Leaving V) → (leavings rules t q tags i bag).is_open l → Covers rules new 0 (leaving_value rules t i l)
+      (value_in (endings rules tags i (connection_at t i) q way) (changes_from tags i (connection_at t i).arr bag) w) ⊎ NoChange Excused w)
+      → (l : Leaving V) → (leavings rules t q tags i bag).is_open l → Covers rules new 0 (leaving_value rules t i l) ⊎ MayNotChange Excused l
   covered None is new admitted takes ends opened = absurd (is.0 opened.1.0)
   covered (Some way) is new admitted takes ends opened =
-      subst (Covers rules new 0) (ap rules.arrive (add-zero (connection_at t i).arr))
-      (takes (inl None) (opened.0, (is.own opened.1.0, opened.1.1)))
+      inl (subst (Covers rules new 0) (ap rules.arrive (add-zero (connection_at t i).arr))
+      (sure (takes (inl None) (opened.0, (is.own opened.1.0, opened.1.1)))))
   covered None is new admitted takes (ends_after f) opened = absurd (is.1 f opened.1.0 opened.1.1 opened.1.2)
-  covered (Some way) is new admitted takes (ends_after f) opened = way_covers way is new admitted ends_by opened.0 f opened.1
+  covered (Some way) is new admitted takes (ends_after f) opened = inl (way_covers way is new admitted ends_by opened.0 f opened.1)
     where
       ends_by : (w : Option Footpath ⊎ Point V) → (Taken (Some way)).is_open w
           → Covers rules new 0 (value_in (endings rules tags i (connection_at t i) q (Some way)) (changes_from tags i (connection_at t i).arr bag) w)
+          ⊎ NoChange Excused w
       ends_by (inl w) o = takes (inl w) o
       ends_by (inr p) o = takes (inr p) o
   covered way is new admitted takes (changes p) opened = takes (inr p) (opened.0, (opened.1.0, opened.1.1))
@@ -127,13 +129,14 @@ module _ {V : Type 0} (rules : Rules V) (laws : Laws rules) (t : TimetableValue)
 -- the nearest target is enough: labels that take in these have taken in every way to leave, to any target
 pub leavings_taken : {V : Type 0} (rules : Rules V) → Laws rules → (t : TimetableValue) (q : SetQueryValue) → CanScan t q
     → (tags : Spellings) (i : ℕ) (c : Connection) → c ≡ connection_at t i → (way : Option FinalWalk) → IsFinalWalk t q.targets c.to way
-    → (bag old new : List (Point V)) → ((p : Point V) → Contains new p → Admits rules p.value)
-    → TakesIn rules (only_if (c.alight ≡ true) (endings_and_changes rules tags i c q way bag)) old new
-    → TakesIn rules (leavings rules t q tags i bag) old new
-leavings_taken {V} rules laws t q can tags i c is way is_way bag old new admitted takes =
+    → (bag : List (Point V)) (Excused : V → Type 0) (old new : List (Point V)) → ((p : Point V) → Contains new p → Admits rules p.value)
+    → TakesInBut rules (NoChange Excused) (only_if (c.alight ≡ true) (endings_and_changes rules tags i c q way bag)) old new
+    → TakesInBut rules (MayNotChange Excused) (leavings rules t q tags i bag) old new
+leavings_taken {V} rules laws t q can tags i c is way is_way bag Excused old new admitted takes =
     let way_there : IsFinalWalk t q.targets (connection_at t i).to way = subst (λ (x : Connection). IsFinalWalk t q.targets x.to way) is is_way in
-    let here : TakesIn rules (Taken rules laws t q can tags i bag way) old new =
-    subst (λ (x : Connection). TakesIn rules (only_if (x.alight ≡ true) (endings_and_changes rules tags i x q way bag)) old new) is takes in
-    takes_as rules (Taken rules laws t q can tags i bag way) (leavings rules t q tags i bag) old new
-    (part rules laws t q can tags i bag way way_there)
-    (covered rules laws t q can tags i bag way way_there new admitted here.covered) here
+    let here : TakesInBut rules (NoChange Excused) (Taken rules laws t q can tags i bag Excused way) old new =
+    subst (λ (x : Connection). TakesInBut rules (NoChange Excused) (only_if (x.alight ≡ true) (endings_and_changes rules tags i x q way bag)) old new)
+    is takes in
+    but_as rules (NoChange Excused) (MayNotChange Excused) (Taken rules laws t q can tags i bag Excused way) (leavings rules t q tags i bag) old new
+    (part rules laws t q can tags i bag Excused way way_there)
+    (covered rules laws t q can tags i bag Excused way way_there new admitted here.covered) here

@@ -18,6 +18,7 @@ pub mod StepFacts
 pub mod LogLemmas
 mod OriginLemmas
 mod TakeLemmas
+mod TakenInLists
 mod EverywhereLemmas
 pub mod OrderLemmas
 pub mod Chains
@@ -33,3 +34,13 @@ pub mod Listed
 pub mod Single
 pub mod AnsweredLemmas
 pub mod Windows
+pub mod LaneExits
+pub mod LaneOffers
+pub mod LanesLeft
+pub mod LanesBoarded
+pub mod TripLaws
+pub mod Together
+pub mod BeyondLemmas
+pub mod ByTripsLeft
+pub mod ByTripsBoarded
+pub mod ByTripsTaken

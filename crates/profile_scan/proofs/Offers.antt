@@ -1,6 +1,6 @@
 -- Offers taken in, one after another.
 use Rattle.std.proofs.Common.{◌≡◌, ◌⊎◌, ℕ, ◌+◌, ◌≤◌, Bool, true, false, nat_le, List, length, Contains, slice_get}
-use Rattle.std.proofs.Common.{Option, Some, None, IfSome, Result, Ok, Err, OnOk, refl, sym, ◌∙◌, ap, subst, inl, inr}
+use Rattle.std.proofs.Common.{Option, Some, None, IfSome, Result, Ok, Err, IfOk, OnOk, refl, sym, ◌∙◌, ap, subst, inl, inr}
 use Rattle.std.proofs.Common.{arith}
 use Rattle.std.proofs.lemmas.Bool.{cases_Bool, cases_lt, leb-true, and_parts, true≢false}
 use Rattle.std.proofs.lemmas.Option.{slice_get_within, same_Some}
@@ -11,8 +11,13 @@ use Rattle.profile_scan.specs.Values.{started}
 use Rattle.bags.specs.Dominance.{IsBag, Inserted, Stands, dominates, Dominates}
 use Rattle.bags.specs.declared.point.Point.{Point}
 use Rattle.profile_scan.specs.Points.{Covers}
-use Rattle.profile_scan.specs.Steps.{Offer, TakesIn}
+use Rattle.profile_scan.specs.Steps.{Offer, IsOffered, TakesIn, TakesInBut}
 use Rattle.profile_scan.specs.Adding.{one_way, each_of, StandsBefore, only_if, either, open_in, departure_in, value_in}
+
+-- what can't be otherwise
+pub sure : {P : Type 0} → P ⊎ ⊥ → P
+sure (inl is) = is
+sure (inr none) = absurd none
 
 -- a bag under an equal criterion
 pub bag_under : {K V : Type 0} (rules : K → Rules V) (a b : K) (xs : List (Point V)) → a ≡ b → IsBag (rules a) xs → IsBag (rules b) xs
@@ -95,27 +100,88 @@ module _ {V : Type 0} (rules : Rules V) where
     pub worth : a.value way ≡ b.value there
     pub fits : (tag : ℕ) → a.fits_tag way tag → b.fits_tag there tag
 
+  offered_as : {A B : Type 0} (a : Offer A V) (b : Offer B V) → ((way : A) → a.is_open way → IsPart a b way) → (p : Point V)
+      → IsOffered a p → IsOffered b p
+  offered_as a b part p o =
+      let same = part o.way o.is_open in
+      record {
+        way = same.there;
+        is_open = same.is_open;
+        departs = o.departs ∙ same.departs;
+        worth = o.worth ∙ same.worth;
+        fits = same.fits p.tag o.fits;
+      }
+
   -- what is taken in, seen as another offer
   pub takes_as : {A B : Type 0} (a : Offer A V) (b : Offer B V) (old new : List (Point V))
       → ((way : A) → a.is_open way → IsPart a b way)
       → ((way : B) → b.is_open way → Covers rules new (b.departure way) (b.value way)) → TakesIn rules a old new
       → TakesIn rules b old new
   takes_as a b old new part covered takes = record {
-    only = λ p h. elim (takes.only p h) [
-      | inl was ↦ inl was
-      | inr o ↦
-          let same = part o.way o.is_open in
-          inr (record {
-            way = same.there;
-            is_open = same.is_open;
-            departs = o.departs ∙ same.departs;
-            worth =
-                o.worth ∙ same.worth;
-            fits = same.fits p.tag o.fits;
-          })
-    ];
+    only = λ p h. elim (takes.only p h) [ inl was ↦ inl was | inr o ↦ inr (offered_as a b part p o) ];
     kept = takes.kept;
     covered = covered;
+  }
+
+  -- nothing need be excused
+  pub takes_but : {A : Type 0} (Excused : A → Type 0) (offer : Offer A V) (old new : List (Point V)) → TakesIn rules offer old new
+      → TakesInBut rules Excused offer old new
+  takes_but Excused offer old new takes = record {
+    only = takes.only;
+    kept = takes.kept;
+    covered = λ way opened. inl (takes.covered way opened);
+  }
+
+  -- what is taken in, seen as another offer with other excuses
+  pub but_as : {A B : Type 0} (Was : A → Type 0) (Excused : B → Type 0) (a : Offer A V) (b : Offer B V) (old new : List (Point V))
+      → ((way : A) → a.is_open way → IsPart a b way)
+      → ((way : B) → b.is_open way → Covers rules new (b.departure way) (b.value way) ⊎ Excused way) → TakesInBut rules Was a old new
+      → TakesInBut rules Excused b old new
+  but_as Was Excused a b old new part covered takes = record {
+    only = λ p h. elim (takes.only p h) [ inl was ↦ inl was | inr o ↦ inr (offered_as a b part p o) ];
+    kept = takes.kept;
+    covered = covered;
+  }
+
+  -- nothing is taken of an offer with no open way, whatever is excused
+  pub but_none : {A : Type 0} (Excused : A → Type 0) (offer : Offer A V) (points : List (Point V)) → ((way : A) → offer.is_open way → ⊥)
+      → TakesInBut rules Excused offer points points
+  but_none Excused offer points none = takes_but Excused offer points points (takes_none offer points none)
+
+  -- one element more, of which the same is excused
+  pub but_more : {X A : Type 0} (Was There : X → Type 0) (offer : X → Offer A V) (Excused : A → Type 0) (x : X) (old mid new : List (Point V))
+      → ((y : X) → Was y → There y) → There x → ((y : X) → There y → Was y ⊎ (y ≡ x))
+      → ((y : X) (way : A) → Was y → (offer y).is_open way → Admits rules ((offer y).value way))
+      → TakesInBut rules (λ way. Excused way.1) (each_of Was offer) old mid → TakesInBut rules Excused (offer x) mid new
+      → TakesInBut rules (λ way. Excused way.1) (each_of There offer) old new
+  but_more {X} {A} Was There offer Excused x old mid new was_there there_x split admits before here = record {
+    only = λ p h. elim (here.only p h) [
+      | inl in_mid ↦ elim (before.only p in_mid) [
+        | inl in_old ↦ inl in_old
+        | inr o ↦ inr (record { way = o.way; is_open = (was_there o.way.0 o.is_open.0, o.is_open.1); departs = o.departs; worth = o.worth; fits = o.fits })
+      ]
+      | inr o ↦ inr (record { way = (x, o.way); is_open = (there_x, o.is_open); departs = o.departs; worth = o.worth; fits = o.fits })
+    ];
+    kept = λ d v a c. here.kept d v a (before.kept d v a c);
+    covered = λ way opened. elim (split way.0 opened.0) [
+      | inl was ↦ elim (before.covered way (was, opened.1)) [
+        | inl c ↦ inl (here.kept ((offer way.0).departure way.1) ((offer way.0).value way.1) (admits way.0 way.1 was opened.1) c)
+        | inr excused ↦ inr excused
+      ]
+      | inr same ↦ elim (here.covered way.1 (subst (λ (y : X). (offer y).is_open way.1) same opened.1)) [
+        | inl c ↦ inl (subst (λ (y : X). Covers rules new ((offer y).departure way.1) ((offer y).value way.1)) (sym same) c)
+        | inr excused ↦ inr excused
+      ]
+    ];
+  }
+
+  -- with weaker excuses
+  pub excused_as : {A : Type 0} (Was Excused : A → Type 0) (offer : Offer A V) (old new : List (Point V))
+      → ((way : A) → offer.is_open way → Was way → Excused way) → TakesInBut rules Was offer old new → TakesInBut rules Excused offer old new
+  excused_as Was Excused offer old new weaker takes = record {
+    only = takes.only;
+    kept = takes.kept;
+    covered = λ way opened. elim (takes.covered way opened) [ inl c ↦ inl c | inr was ↦ inr (weaker way opened was) ];
   }
 
 -- a point inserted under an equal criterion
@@ -237,3 +303,7 @@ module _ {V : Type 0} (rules : Rules V) where
 pub on_ok_more : {T E : Type 0} (r : Result T E) (P Q : Type 0) → (P → Q) → OnOk r P → OnOk r Q
 on_ok_more (Ok x) P Q f h = f h
 on_ok_more (Err e) P Q f h = h
+
+pub if_ok_both : {T E : Type 0} (r : Result T E) (P Q R : T → Type 0) → ((x : T) → P x → Q x → R x) → IfOk r P → IfOk r Q → IfOk r R
+if_ok_both (Ok x) P Q R f p q = f x p q
+if_ok_both (Err e) P Q R f p q = p

@@ -1,11 +1,10 @@
--- What stays outdone: a value that is no better, a value after a ride, and any value as more points are found. And the points carried on.
-use Rattle.std.proofs.Common.{ℕ, ◌+◌, ◌≤◌, List, arith, inl}
+-- What stays outdone: a value that is no better, a value after a ride, and any value as more points are found.
+use Rattle.std.proofs.Common.{ℕ, ◌+◌, ◌≤◌, List, arith}
 use Rattle.criteria.specs.Laws.{Rules, Laws, Admits, NoWorse}
 use Rattle.bags.specs.declared.point.Point.{Point}
 use Rattle.timetable.specs.TimetableValue.{TimetableValue}
 use Rattle.profile_scan.specs.Points.{Covers}
 use Rattle.profile_scan.specs.Matching.{IsOutdone}
-use Rattle.profile_scan.specs.Steps.{AreUnpruned}
 use Rattle.profile_scan.proofs.Admitted.{AreAdmitted}
 
 -- what a list covers, another does
@@ -43,8 +42,3 @@ module _ {V : Type 0} (rules : Rules V) (laws : Laws rules) (t : TimetableValue)
 
   pub outdone_down : (found : List (Point V)) (i : ℕ) (v : V) → Admits rules v → IsOutdone rules t found (i + 1) v → IsOutdone rules t found i v
   outdone_down found i v a o = outdone_on found found (i + 1) i v a (omega arith) (λ d w b c. c) o
-
--- all may be carried on
-pub all_unpruned : {V : Type 0} (rules : Rules V) (t : TimetableValue) (found : List (Point V)) (i : ℕ)
-    (points : List (Point V)) → AreUnpruned rules t found i points points
-all_unpruned rules t found i points = record { only = λ p h. h; all = λ p h. inl h }

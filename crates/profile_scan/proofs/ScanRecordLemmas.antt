@@ -75,7 +75,7 @@ exit_more less more tells (Some (Changes last step)) f there x spelled_x =
     ap (exit_spells more) (there (Changes last step) refl)
     ∙ changed_more last (less step) (more step) (tells step) x spelled_x
 
-step_more : (walks : List Footpath) (less more : ℕ → Option Aboard) → TellsMore less more → (s r : Option Step)
+pub step_more : (walks : List Footpath) (less more : ℕ → Option Aboard) → TellsMore less more → (s r : Option Step)
     → ((z : Step) → s ≡ Some z → r ≡ Some z) → (x : Onward) → step_spells walks less s ≡ Some x
     → step_spells walks more r ≡ Some x
 step_more walks less more tells None r there x spelled_x = absurd cc

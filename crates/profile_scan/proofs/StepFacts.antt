@@ -15,8 +15,7 @@ use Rattle.profile_scan.specs.Matching.{Spelling, from_to, ScanValue, Matches, M
 use Rattle.profile_scan.specs.Steps.{Leaving, ends, ends_after, changes, MayLeave, leavings, boardings, settings_out, IsIdle, IsStep}
 use Rattle.profile_scan.specs.ScanState.{IsFinalWalk}
 use Rattle.profile_scan.specs.declared.final_walks.FinalWalk.{FinalWalk}
-use Rattle.profile_scan.proofs.Offers.{takes_none}
-use Rattle.profile_scan.proofs.Outdone.{all_unpruned}
+use Rattle.profile_scan.proofs.Offers.{takes_but, takes_none}
 use Rattle.profile_scan.proofs.StepLemmas.{keeps_none}
 
 -- what is kept alike matches alike
@@ -64,15 +63,13 @@ step_idle rules t q a i scan way is idle =
       between = a;
       kept_first = keeps_none a;
       kept_then = keeps_none a;
-      changing = scan.bag stop;
-      changing_are = all_unpruned rules t scan.found i (scan.bag stop);
-      boarding = scan.labels trip;
-      boarding_are = all_unpruned rules t scan.found i (scan.labels trip);
-      leaves = takes_none rules (leavings rules t q (from_to a a) i (scan.bag stop)) (scan.labels trip)
-          (λ leaving opened. no_leave t q i (scan.bag stop) way is (idle.leads_nowhere opened.0) leaving opened.1);
+      leaves = takes_but rules _ (leavings rules t q (from_to a a) i (scan.bag stop)) (scan.labels trip) (scan.labels trip)
+          (takes_none rules (leavings rules t q (from_to a a) i (scan.bag stop)) (scan.labels trip)
+          (λ leaving opened. no_leave t q i (scan.bag stop) way is (idle.leads_nowhere opened.0) leaving opened.1));
       other_trips = λ k other. refl;
-      boards = λ k lt. takes_none rules (boardings rules t (from_to a a) i k (scan.labels trip)) (scan.bag k)
-          (λ boarding opened. none_in (scan.labels trip) idle.no_labels boarding.label opened.is_label);
+      boards = λ k lt. takes_but rules _ (boardings rules t (from_to a a) i k (scan.labels trip)) (scan.bag k) (scan.bag k)
+          (takes_none rules (boardings rules t (from_to a a) i k (scan.labels trip)) (scan.bag k)
+          (λ boarding opened. none_in (scan.labels trip) idle.no_labels boarding.label opened.is_label));
       sets_out = takes_none rules (settings_out rules t q (from_to a a) i (scan.labels trip)) scan.found
           (λ out opened. none_in (scan.labels trip) idle.no_labels out.label opened.is_label);
     }

@@ -12,7 +12,7 @@ use Rattle.profile_scan.specs.Points.{Covers}
 use Rattle.profile_scan.specs.Continuations.{Aboard, IsOnward, IsAboard, CountsFrom, onward_value, aboard_value}
 use Rattle.profile_scan.specs.Plain.{IsPlainOnward, IsPlainAboard, IsPlainOf}
 use Rattle.profile_scan.specs.Matching.{Spelling, Spellings, Keeps, from_to, IsAttained, IsLabelled, IsOutdone, Matches, MatchesBut}
-use Rattle.profile_scan.specs.Steps.{TakesIn, leavings, boardings, settings_out, AreUnpruned, IsStep}
+use Rattle.profile_scan.specs.Steps.{TakesIn, TakesInBut, MayNotChange, IsOutdoneRidden, leavings, boardings, settings_out, IsStep}
 use Rattle.profile_scan.specs.LawStatements.{CanScan, OneIndexDown, TagsMayCome}
 use Rattle.profile_scan.proofs.Admitted.{AreAdmitted, attained_admits, onward_admits, aboard_admits, journey_admits}
 use Rattle.profile_scan.proofs.Sound.{onward_more, aboard_more, counts_more, leaving_attained, boarding_attained, setting_out_attained}
@@ -85,24 +85,24 @@ module _ {V : Type 0} (rules : Rules V) (laws : Laws rules) (t : TimetableValue)
   aboard_ride_admits from trip x a = laws.ride_admits (aboard_value rules t x) (aboard_admits rules laws t q can from trip x a)
 
   -- the labels of the connection's trip
-  pub labels_down : (tags : Spellings) → Keeps tags.earlier tags.later → (found bag survivors old new : List (Point V))
-      → i < length t.connections → AreAdmitted rules found → AreUnpruned rules t found i bag survivors
+  pub labels_down : (tags : Spellings) → Keeps tags.earlier tags.later → (found bag old new : List (Point V))
+      → i < length t.connections → AreAdmitted rules found
       → BagMatches tags.earlier found (i + 1) (connection_at t i).to bag
       → LabelsMatch tags.earlier found (i + 1) (i + 1) (connection_at t i).trip old
-      → TakesIn rules (leavings rules t q tags i survivors) old new
+      → TakesInBut rules (MayNotChange (IsOutdoneRidden rules t found i)) (leavings rules t q tags i bag) old new
       → LabelsMatch tags.later found i (i + 1) (connection_at t i).trip new
-  labels_down tags keeps found bag survivors old new in_i found_adm carries bag_is old_is takes =
+  labels_down tags keeps found bag old new in_i found_adm bag_is old_is takes =
       let trip = (connection_at t i).trip in
       let sound : (p : Point V) → Contains new p → InLabels tags.later i trip p = λ p is. elim (takes.only p is) [
         | inl was ↦ label_stays tags.earlier tags.later trip keeps p (old_is.sound p was)
-        | inr offered ↦ leaving_attained rules t q tags i survivors in_i (λ b h. bag_is.sound b (carries.only b h)) p offered
+        | inr offered ↦ leaving_attained rules t q tags i bag in_i bag_is.sound p offered
       ] in
       let admitted = labels_admitted tags.later i trip new sound in
       let bag_adm = bag_admitted tags.earlier (i + 1) (connection_at t i).to bag bag_is.sound in
       record {
         sound = sound;
         complete = λ departure x l.
-            let covered = labels_cover rules laws t q can i found bag survivors new found_adm admitted bag_adm carries
+            let covered = labels_cover rules laws t q can i found bag new found_adm admitted bag_adm
             (λ y a. elim (old_is.complete 0 y (record { departed = refl; aboard = a })) [
               | inl c ↦ inl (takes.kept 0 (aboard_value rules t y) (aboard_admits rules laws t q can (i + 1) trip y a) c)
               | inr o ↦ inr o
@@ -159,24 +159,24 @@ module _ {V : Type 0} (rules : Rules V) (laws : Laws rules) (t : TimetableValue)
 
   -- the bag of a stop, its points having been spelled earlier still, when fewer points were found
   pub bag_down : (first : Spelling) (tags : Spellings) (found now : List (Point V)) (stop : ℕ)
-      (labels survivors old new : List (Point V)) → Keeps first tags.earlier → Keeps tags.earlier tags.later
-      → KeepsCovers rules found now → AreAdmitted rules now → AreUnpruned rules t now i labels survivors
+      (labels old new : List (Point V)) → Keeps first tags.earlier → Keeps tags.earlier tags.later
+      → KeepsCovers rules found now → AreAdmitted rules now
       → LabelsMatch tags.earlier now i (i + 1) (connection_at t i).trip labels → BagMatches first found (i + 1) stop old
-      → TakesIn rules (boardings rules t tags i stop survivors) old new → BagMatches tags.later now i stop new
-  bag_down first tags found now stop labels survivors old new kept_first kept_then kept now_adm carries labels_are old_is takes =
+      → TakesInBut rules (λ way. IsOutdoneRidden rules t now i way.label.value) (boardings rules t tags i stop labels) old new
+      → BagMatches tags.later now i stop new
+  bag_down first tags found now stop labels old new kept_first kept_then kept now_adm labels_are old_is takes =
       let trip = (connection_at t i).trip in
       let sound : (p : Point V) → Contains new p → InBag tags.later i stop p = λ p is. elim (takes.only p is) [
         | inl was ↦ attained_more first.onward tags.later.onward (IsOnward t q (i + 1) stop) (IsOnward t q i stop)
             (IsPlainOnward t (Contains q.targets)) (onward_value rules t) (onward_more t q i stop) p
             (λ x e. kept_then.onward p.tag x (kept_first.onward p.tag x e)) (old_is.sound p was)
-        | inr offered ↦ boarding_attained rules t q tags i stop survivors (λ l h. labels_are.sound l (carries.only l h)) p offered
+        | inr offered ↦ boarding_attained rules t q tags i stop labels labels_are.sound p offered
       ] in
       record {
         sound = sound;
         complete = λ time x on.
-            bag_covers rules laws t q can i now stop labels survivors new now_adm
+            bag_covers rules laws t q can i now stop labels new now_adm
             (labels_admitted tags.earlier i trip labels labels_are.sound) (bag_admitted tags.later i stop new sound)
-            carries
             (λ y a. labels_are.complete 0 y (record { departed = refl; aboard = a }))
             (λ d y on_y.
             let admits = onward_admits rules laws t q can (i + 1) stop d y on_y in
@@ -229,8 +229,8 @@ one_index_down rules laws t q can tags i in_i old new matched step =
     let second = from_to step.between tags.later in
     let found_adm = found_admitted rules laws t q can i tags.earlier (i + 1) old.found matched.at_source.sound in
     let kept = step.sets_out.kept in
-    let later = labels_down rules laws t q can i first step.kept_first old.found (old.bag c.to) step.changing
-    (old.labels c.trip) (new.labels c.trip) in_i found_adm step.changing_are (matched.at_stops c.to ends_at)
+    let later = labels_down rules laws t q can i first step.kept_first old.found (old.bag c.to)
+    (old.labels c.trip) (new.labels c.trip) in_i found_adm (matched.at_stops c.to ends_at)
     (matched.in_trips c.trip on_trip) step.leaves in
     let labels = labels_kept rules laws t q can i step.between step.between old.found new.found (i + 1) (i + 1) c.trip
     (new.labels c.trip) (keeps_none step.between) kept (omega arith) later in
@@ -239,8 +239,8 @@ one_index_down rules laws t q can tags i in_i old new matched step =
     let now_adm = found_admitted rules laws t q can i tags.later i new.found at_source.sound in
     record {
       at_stops = λ stop in_stops. bag_down rules laws t q can i tags.earlier second old.found new.found stop
-          (new.labels c.trip) step.boarding (old.bag stop) (new.bag stop) step.kept_first step.kept_then kept now_adm
-          step.boarding_are labels (matched.at_stops stop in_stops) (step.boards stop in_stops);
+          (new.labels c.trip) (old.bag stop) (new.bag stop) step.kept_first step.kept_then kept now_adm
+          labels (matched.at_stops stop in_stops) (step.boards stop in_stops);
       in_trips = λ trip in_trips. elim (cases_eq trip c.trip) [
         | inl same ↦ subst (λ (k : ℕ). MatchesBut rules tags.later.aboard (IsLabelled t q i k)
             (IsPlainAboard t (Contains q.targets)) (aboard_value rules t) (λ v. IsOutdone rules t new.found i (rules.ride v))

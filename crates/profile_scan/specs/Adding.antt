@@ -161,6 +161,11 @@ abbrev pub endings_and_changes : {V : Type 0} → Rules V → Spellings → ℕ 
     → List (Point V) → Offer (Option Footpath ⊎ Point V) V
 endings_and_changes rules tags i c q way bag = either (endings rules tags i c q way) (changes_from tags i c.arr bag)
 
+-- of these only a change to a point whose value is excused is
+abbrev pub NoChange : {V : Type 0} → (V → Type 0) → Option Footpath ⊎ Point V → Type 0
+NoChange Excused (inl walk) = ⊥
+NoChange Excused (inr p) = Excused p.value
+
 -- how one starts at a source: on no footpath, if the connection begins there; or on one from a source to another stop, possibly a source as well
 abbrev pub StartsFrom : SetQueryValue → Connection → Option Footpath → Type 0
 StartsFrom q c None = Contains q.sources c.from

@@ -16,6 +16,14 @@ any_no_worse rules values v = list_any (λ b. rules.no_worse b v) values
 abbrev pub survivors : {V : Type 0} → Rules V → List V → List (Point V) → List (Point V)
 survivors rules values points = filter (λ p. not (any_no_worse rules values (rules.ride p.value))) points
 
+-- one of these values is no worse than v with the ride
+abbrev pub Excludes : {V : Type 0} → Rules V → List V → V → Type 0
+Excludes rules values v = any_no_worse rules values (rules.ride v) ≡ true
+
+-- if one of some values is no worse than v, so is one of others
+abbrev pub ExcludesMore : {V : Type 0} → Rules V → List V → List V → Type 0
+ExcludesMore {V} rules old new = (v : V) → Admits rules v → any_no_worse rules old v ≡ true → any_no_worse rules new v ≡ true
+
 -- each of these values is outdone by a point found
 pub record AreBounds {V : Type 0} (rules : Rules V) (t : TimetableValue) (found : List (Point V)) (i : ℕ)
     (values : List V) : Type 0 where
@@ -34,7 +42,7 @@ pub record IsLateValue {V : Type 0} (rules : Rules V) (found : List (Point V)) (
 pub record IsRenewed {V : Type 0} (rules : Rules V) (found : List (Point V)) (time : ℕ) (old new : List V)
     : Type 0 where
   pub only : (b : V) → Contains new b → Contains old b ⊎ IsLateValue rules found time b
-  pub kept : (v : V) → Admits rules v → any_no_worse rules old v ≡ true → any_no_worse rules new v ≡ true
+  pub kept : ExcludesMore rules old new
 
 -- from index `begin` on, exactly the points before `until` depart at a time or later
 pub record AreLateUntil {V : Type 0} (points : List (Point V)) (begin time until : ℕ) : Type 0 where
@@ -47,7 +55,7 @@ pub record AreLateUntil {V : Type 0} (points : List (Point V)) (begin time until
 -- value
 pub record TakesValue {V : Type 0} (rules : Rules V) (value : V) (old new : List V) : Type 0 where
   pub only : (b : V) → Contains new b → Contains old b ⊎ (value ≡ b)
-  pub kept : (v : V) → Admits rules v → any_no_worse rules old v ≡ true → any_no_worse rules new v ≡ true
+  pub kept : ExcludesMore rules old new
   pub taken : any_no_worse rules new value ≡ true
 
 -- the same for the values of the points from index `from` on, before `until`
@@ -55,7 +63,7 @@ pub record TakesPoints {V : Type 0} (rules : Rules V) (points : List (Point V)) 
     (old new : List V) : Type 0 where
   pub only : (b : V) → Contains new b → Contains old b
       ⊎ ((k : ℕ) × (p : Point V) × (from ≤ k) × (k < until) × (slice_get points k ≡ Some p) × (p.value ≡ b))
-  pub kept : (v : V) → Admits rules v → any_no_worse rules old v ≡ true → any_no_worse rules new v ≡ true
+  pub kept : ExcludesMore rules old new
   pub each : (k : ℕ) (p : Point V) → from ≤ k → k < until → slice_get points k ≡ Some p
       → any_no_worse rules new p.value ≡ true
 

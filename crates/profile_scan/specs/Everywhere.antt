@@ -14,6 +14,7 @@ use Rattle.profile_scan.specs.Plain.{IsPlain, IsPlainOf}
 use Rattle.profile_scan.specs.Points.{AreInOrder, IsAnswer}
 use Rattle.profile_scan.specs.Matching.{IsAttained}
 use Rattle.profile_scan.specs.ScanRecords.{ScanRecords, spelling_of}
+use Rattle.profile_scan.specs.InLists.{value_in}
 use Rattle.profile_scan.specs.ScanState.{IsDirectSecs, scan_records_of, walk_by, final_walks_of}
 use Rattle.profile_scan.specs.Destinations.{query_from, question_to}
 use Rattle.profile_scan.specs.Origins.{AreOrigins, found_from, from_stop, scan_value_from}
@@ -24,7 +25,7 @@ use Rattle.profile_scan.specs.declared.to_any.ProfilesToAny.{ProfilesToAny}
 
 -- what is written down, as one source sees it
 abbrev pub scan_records_from : {K V : Type 0} {c : _} → ProfilesToAny K V c → ℕ → ScanRecords
-scan_records_from profiles = scan_records_of scan_value_from profiles.state
+scan_records_from profiles = scan_records_of value_in scan_value_from profiles.state
 
 abbrev pub points_in : {V : Type 0} → Option (Vec (Point V)) → List (Point V)
 points_in None = []

@@ -15,6 +15,11 @@ pub mod Adding
 pub mod Starts
 pub mod Hops
 pub mod ScanState
+pub mod Keeping
+pub mod InLists
+pub mod InLanes
+pub mod ByTrips
+pub mod TakenByTrips
 pub mod Nearest
 pub mod JourneyNodes
 pub mod Answered

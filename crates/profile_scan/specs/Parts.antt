@@ -14,13 +14,13 @@ use Rattle.profile_scan.specs.Matching.{Spellings}
 use Rattle.timetable.specs.TimetableValue.{TimetableValue}
 use Rattle.timetable.specs.declared.network.Connection.{Connection}
 use Rattle.profile_scan.specs.Bound.{AreBounds, survivors}
-use Rattle.profile_scan.specs.Steps.{Offer, boardings, settings_out}
+use Rattle.profile_scan.specs.Steps.{MaySetOut, Offer, SettingOut, boardings, settings_out}
 use Rattle.profile_scan.specs.Adding.{Takes, IsRelabelled, AreRidden, AreWalksInto, StandsBetween, each_of, boardings_by}
 use Rattle.profile_scan.specs.Adding.{label_points, trip_points}
-use Rattle.profile_scan.specs.ScanRecords.{SourceValue, scan_records}
+use Rattle.profile_scan.specs.ScanRecords.{KeptValue, SourceValue, scan_records}
 use Rattle.profile_scan.specs.Hops.{IsAsked, IsHop, IsHopOf, KnowsSources, StandsAt}
 use Rattle.profile_scan.specs.Origins.{AreUnder, ChangesOrigins, kept_of, scan_value_from}
-use Rattle.profile_scan.specs.ScanState.{AreSteps, AreStops, HasFound, HasStop, IsScan, IsState, points_at, scan_records_of}
+use Rattle.profile_scan.specs.ScanState.{AreSteps, AreStops, HasFound, HasStop, points_at, scan_records_of}
 use Rattle.profile_scan.specs.SetQuery.{SetQueryValue, asked_from, question}
 use Rattle.profile_scan.specs.declared.hop.Hop.{Hop}
 use Rattle.profile_scan.specs.declared.hop.ScanQuery.{ScanQuery}
@@ -28,7 +28,6 @@ use Rattle.profile_scan.specs.declared.origin.Origin.{Origin}
 use Rattle.profile_scan.specs.declared.origins.Origins.{Origins}
 use Rattle.profile_scan.specs.declared.stops.Stops.{Stops}
 use Rattle.profile_scan.specs.declared.scan.Scan.{Scan}
-use Rattle.profile_scan.specs.declared.scan.State.{State}
 use Rattle.profile_scan.specs.declared.scan_records.Exit.{Exit}
 use Rattle.profile_scan.specs.declared.scan_records.SetOut.{SetOut}
 use Rattle.profile_scan.specs.declared.trips.Trips.{Trips}
@@ -124,6 +123,13 @@ pub record CanSetOutAt {K V O : Type 0} (rules_of : K → Rules V) (IsUnder : K 
   pub under : IsUnder query.criterion t.stops kept
   pub labels : AdmitsLabels (rules_of query.criterion) of_trip
 
+-- nobody sets out at a hop for any question, in whatever timetable it is
+abbrev pub NobodySetsOut : {K V : Type 0} → (K → Rules V) → (List ℕ → ℕ → List ℕ) → ScanQuery K → Hop V → Type 0
+NobodySetsOut {V = V} rules_of sources query here =
+    (t : TimetableValue) → IsHopOf (rules_of query.criterion) t (question query.query) query.starts here
+    → (index : ℕ) (labels : List (Point V)) (way : SettingOut V)
+    → MaySetOut t (asked_from sources (question query.query) index) here.place labels way → ⊥
+
 -- and it takes them in, for each question
 pub record SetsOut {K V O : Type 0} (rules_of : K → Rules V) (IsUnder : K → ℕ → O → Type 0) (sources : List ℕ → ℕ → List ℕ)
     (kept : O → ℕ → SourceValue V) (t : TimetableValue) (query : ScanQuery K) (here : Hop V) (of_trip : List (Label V))
@@ -210,35 +216,32 @@ pub record Boards {K V : Type 0} (rules_of : K → Rules V) (criterion : K) (t :
       (λ tags. boardings (rules_of criterion) t tags hop.place stop (survivors (rules_of criterion) hop.bound.now (label_points labels)))
       old new
 
--- a state may take a hop in: its bound is of points found
-pub record CanTake {K V O : Type 0} (rules_of : K → Rules V) (IsUnder : K → ℕ → O → Type 0) (kept : O → ℕ → SourceValue V)
-    (t : TimetableValue) (query : ScanQuery K) (here : Hop V) (old : State K O V) : Type 0 where
-  pub hop : IsHopOf (rules_of query.criterion) t (question query.query) query.starts here
-  pub bound : (index : ℕ) → AreBounds (rules_of query.criterion) t (kept old.origin index).found (here.place + 1) here.bound.now
-  pub state : IsState rules_of IsUnder query.criterion t.stops t.trips old
-
--- and it takes in the connection at an index, for each question
-pub record TakesConnection {K V O : Type 0} (rules_of : K → Rules V) (IsUnder : K → ℕ → O → Type 0) (sources : List ℕ → ℕ → List ℕ)
-    (kept : O → ℕ → SourceValue V) (t : TimetableValue) (query : ScanQuery K) (place : ℕ) (old new : State K O V) : Type 0 where
-  pub state : IsState rules_of IsUnder query.criterion t.stops t.trips new
-  pub step : AreSteps (rules_of query.criterion) t sources kept (question query.query) place old new
+-- the shape of a scan that has read the connections of a timetable from an index on: sizes, criterion, and a bound that the points found for each question
+-- outdo. Which points were found, `MatchesFrom` says; the loop of scan_window carries it
+pub record IsScan {K L O V : Type 0} (rules_of : K → Rules V) (IsUnder : K → ℕ → ℕ → List V → L → Type 0) (IsSource : K → ℕ → O → Type 0)
+    (kept : O → ℕ → SourceValue V) (criterion : K) (t : TimetableValue) (place : ℕ) (scan : Scan K L O V) : Type 0 where
+  pub keeping : IsUnder criterion t.stops t.trips scan.bound.values.items scan.state.keeping
+  pub source : IsSource criterion t.stops scan.state.origin
+  pub bound : (index : ℕ) → AreBounds (rules_of criterion) t (kept scan.state.origin index).found place scan.bound.values.items
 
 -- a scan may make the step of the connection at an index
-pub record CanStep {K V O : Type 0} (rules_of : K → Rules V) (IsUnder : K → ℕ → O → Type 0) (kept : O → ℕ → SourceValue V)
-    (t : TimetableValue) (query : ScanQuery K) (place : ℕ) (c : Connection) (old : Scan K O V) : Type 0 where
+pub record CanStep {K L V O : Type 0} (rules_of : K → Rules V) (IsUnder : K → ℕ → ℕ → List V → L → Type 0) (IsSource : K → ℕ → O → Type 0)
+    (kept : O → ℕ → SourceValue V) (t : TimetableValue) (query : ScanQuery K) (place : ℕ) (c : Connection) (old : Scan K L O V) : Type 0 where
   pub asked : IsAsked t query
   pub stands : StandsAt t place c
-  pub scan : IsScan rules_of IsUnder kept query.criterion t (place + 1) old
+  pub scan : IsScan rules_of IsUnder IsSource kept query.criterion t (place + 1) old
 
 -- and it makes that step, for each question
-pub record MakesStep {K V O : Type 0} (rules_of : K → Rules V) (IsUnder : K → ℕ → O → Type 0) (sources : List ℕ → ℕ → List ℕ)
-    (kept : O → ℕ → SourceValue V) (t : TimetableValue) (query : ScanQuery K) (place : ℕ) (old new : Scan K O V) : Type 0 where
-  pub scan : IsScan rules_of IsUnder kept query.criterion t place new
-  pub step : AreSteps (rules_of query.criterion) t sources kept (question query.query) place old.state new.state
+pub record MakesStep {K L V O : Type 0} (rules_of : K → Rules V) (IsUnder : K → ℕ → ℕ → List V → L → Type 0) (value : L → KeptValue V)
+    (IsSource : K → ℕ → O → Type 0) (sources : List ℕ → ℕ → List ℕ) (kept : O → ℕ → SourceValue V) (t : TimetableValue) (query : ScanQuery K)
+    (place : ℕ) (old new : Scan K L O V) : Type 0 where
+  pub scan : IsScan rules_of IsUnder IsSource kept query.criterion t place new
+  pub step : AreSteps (rules_of query.criterion) t value sources kept (question query.query) place old.state new.state
 
 -- a scan has read the connections from an index on: for each question the points found match
-pub record HasScanned {K V O : Type 0} (rules_of : K → Rules V) (IsUnder : K → ℕ → O → Type 0) (sources : List ℕ → ℕ → List ℕ)
-    (kept : O → ℕ → SourceValue V) (t : TimetableValue) (query : ScanQuery K) (start : ℕ) (scan : Scan K O V) : Type 0 where
-  pub under : IsUnder query.criterion t.stops scan.state.origin
+pub record HasScanned {K L V O : Type 0} (rules_of : K → Rules V) (value : L → KeptValue V) (IsSource : K → ℕ → O → Type 0)
+    (sources : List ℕ → ℕ → List ℕ) (kept : O → ℕ → SourceValue V) (t : TimetableValue) (query : ScanQuery K) (start : ℕ) (scan : Scan K L O V)
+    : Type 0 where
+  pub under : IsSource query.criterion t.stops scan.state.origin
   pub found : (index : ℕ) → HasFound (rules_of query.criterion) t (asked_from sources (question query.query) index) start
-      (scan_records_of kept scan.state index) (kept scan.state.origin index).found
+      (scan_records_of value kept scan.state index) (kept scan.state.origin index).found

@@ -27,6 +27,13 @@ pub record SourceValue (V : Type 0) : Type 0 where
   pub found : List (Point V)
   pub set_outs : List SetOut
 
+-- what is kept of trips and stops: the points of each stop, the labels of each trip as points, how trips are left, and the steps that board
+pub record KeptValue (V : Type 0) : Type 0 where
+  pub bag : ℕ → List (Point V)
+  pub labels : ℕ → List (Point V)
+  pub exits : List Exit
+  pub steps : List Step
+
 -- records, and the same with more written down after it
 pub record Grows (old new : ScanRecords) : Type 0 where
   pub exits : Extends old.exits new.exits
@@ -66,6 +73,10 @@ spelling_of walks s = record {
   aboard = label_spells walks s (length s.exits);
   journey = λ tag. set_out_spells (label_spells walks s (length s.exits)) (slice_get s.set_outs tag);
 }
+
+-- the same of what is kept, with ways to set out
+abbrev pub spelled_by : {V : Type 0} → List Footpath → KeptValue V → List SetOut → Spelling
+spelled_by walks kept set_outs = spelling_of walks (scan_records kept.exits kept.steps set_outs)
 
 -- in `tags.later` the tag spells what the exit means, with earlier tags read by `tags.earlier`
 abbrev pub IsExit : Spellings → Exit → ℕ → Type 0

@@ -1,5 +1,5 @@
 -- What the vectors of a scan keep for each stop and each trip.
-use Rattle.std.specs.Prelude.{◌≡◌, ◌⊎◌, ℕ, ◌<◌, ◌≤◌, List, [], length, vec_len, Contains, slice_get, slice_index, slice_index_or}
+use Rattle.std.specs.Prelude.{◌≡◌, ◌⊎◌, ℕ, ◌<◌, ◌≤◌, List, length, vec_len, Contains, slice_get, slice_index, slice_index_or}
 use Rattle.std.specs.Prelude.{Option, Some, None, Bool, true, false, nat_le, map}
 use Rattle.bags.specs.declared.point.Point.{Point}
 use Rattle.timetable.specs.declared.network.Footpath.{Footpath}
@@ -7,21 +7,16 @@ use Rattle.timetable.specs.declared.limits.TheConstants.{MAX_WALK_SECS}
 use Rattle.timetable.specs.TimetableValue.{TimetableValue}
 use Rattle.bags.specs.Dominance.{IsCovered}
 use Rattle.criteria.specs.Laws.{Rules, Admits}
-use Rattle.fronts.specs.Lists.{IsSound, lists_criterion, entries_of, steps_of, list_points}
-use Rattle.fronts.specs.Labels.{AreLabels, HasTrip, trips_of}
-use Rattle.profile_scan.specs.Adding.{trip_points}
+use Rattle.fronts.specs.Lists.{IsSound, lists_criterion, entries_of, list_points}
 use Rattle.profile_scan.specs.SetQuery.{SetQueryValue, asked_from}
 use Rattle.profile_scan.specs.Values.{journey_value}
 use Rattle.profile_scan.specs.Continuations.{CountsFrom}
 use Rattle.profile_scan.specs.Plain.{IsPlainOf}
 use Rattle.profile_scan.specs.Matching.{Matches, ScanValue, from_to}
 use Rattle.profile_scan.specs.Steps.{IsStep}
-use Rattle.profile_scan.specs.ScanRecords.{SourceValue, ScanRecords, scan_records, spelling_of}
+use Rattle.profile_scan.specs.ScanRecords.{KeptValue, SourceValue, ScanRecords, scan_records, spelling_of}
 use Rattle.profile_scan.specs.declared.last_offers.LastOffer.{LastOffer}
 use Rattle.profile_scan.specs.declared.stops.Stops.{Stops}
-use Rattle.profile_scan.specs.declared.trips.Trips.{Trips}
-use Rattle.profile_scan.specs.Bound.{AreBounds}
-use Rattle.profile_scan.specs.declared.scan.Scan.{Scan}
 use Rattle.profile_scan.specs.declared.scan.State.{State}
 use Rattle.profile_scan.specs.declared.final_walks.FinalWalk.{FinalWalk}
 use Rattle.profile_scan.specs.declared.final_walks.FinalWalks.{FinalWalks}
@@ -50,18 +45,6 @@ pub record AreStops {K V : Type 0} (rules_of : K → Rules V) (criterion : K) (c
   pub many : length stops.offers.items ≡ count
   pub offered : (stop : ℕ) (offered : LastOffer V) → slice_get stops.offers.items stop ≡ Some offered
       → IsLastOffer (rules_of criterion) (points_at stops stop) offered
-
--- the same before any connection is read
-pub record AreNewStops {K V : Type 0} (rules_of : K → Rules V) (criterion : K) (count : ℕ)
-    (kept : Stops K V) : Type 0 where
-  pub stops : AreStops rules_of criterion count kept
-  pub none : (stop : ℕ) → points_at kept stop ≡ []
-
--- `count` trips without labels
-pub record AreNewTrips {K V : Type 0} (rules : Rules V) (count : ℕ) (trips : Trips K V) : Type 0 where
-  pub long : trips_of trips.labels ≡ count
-  pub labels : AreLabels rules trips.labels
-  pub none : (trip : ℕ) → trip_points trips.labels trip ≡ []
 
 -- the seconds of the footpath from a stop to the target, if there is one
 abbrev pub IsDirectSecs : TimetableValue → ℕ → ℕ → Option ℕ → Type 0
@@ -111,54 +94,26 @@ pub record HasStop {K V : Type 0} (rules_of : K → Rules V) (criterion : K) (st
   pub there : stop < vec_len kept.heads
   pub stops : AreStops rules_of criterion (vec_len kept.heads) kept
 
--- what a scan keeps for the question at an index, from its parts
-abbrev pub scan_value_of : {K V O : Type 0} → (O → ℕ → SourceValue V) → State K O V → ℕ → ScanValue V
-scan_value_of kept state index = record {
-  bag = points_at state.stops;
-  labels = trip_points state.trips.labels;
+-- what a scan keeps for the question at an index
+abbrev pub scan_value_of : {L O V : Type 0} → (L → KeptValue V) → (O → ℕ → SourceValue V) → State L O → ℕ → ScanValue V
+scan_value_of value kept state index = record {
+  bag = (value state.keeping).bag;
+  labels = (value state.keeping).labels;
   found = (kept state.origin index).found;
 }
 
 -- what it has written down for that question
-abbrev pub scan_records_of : {K V O : Type 0} → (O → ℕ → SourceValue V) → State K O V → ℕ → ScanRecords
-scan_records_of kept state index =
-    scan_records state.trips.exits.items (steps_of state.stops.lists) (kept state.origin index).set_outs
+abbrev pub scan_records_of : {L O V : Type 0} → (L → KeptValue V) → (O → ℕ → SourceValue V) → State L O → ℕ → ScanRecords
+scan_records_of value kept state index =
+    scan_records (value state.keeping).exits (value state.keeping).steps (kept state.origin index).set_outs
 
 -- the step of the connection at an index, for each question
-abbrev pub AreSteps : {K V O : Type 0} → Rules V → TimetableValue → (List ℕ → ℕ → List ℕ) → (O → ℕ → SourceValue V) → SetQueryValue → ℕ
-    → State K O V → State K O V → Type 0
-AreSteps rules t sources kept q place old new =
+abbrev pub AreSteps : {L O V : Type 0} → Rules V → TimetableValue → (L → KeptValue V) → (List ℕ → ℕ → List ℕ) → (O → ℕ → SourceValue V)
+    → SetQueryValue → ℕ → State L O → State L O → Type 0
+AreSteps rules t value sources kept q place old new =
     (index : ℕ) → IsStep rules t (asked_from sources q index)
-    (from_to (spelling_of t.footpaths (scan_records_of kept old index)) (spelling_of t.footpaths (scan_records_of kept new index)))
-    place (scan_value_of kept old index) (scan_value_of kept new index)
-
--- a state has this trip and this stop
-pub record HasTripAndStop {K V O : Type 0} (rules_of : K → Rules V) (criterion : K) (of_trip of_stop : ℕ) (state : State K O V) : Type 0 where
-  pub trip : HasTrip (rules_of criterion) state.trips.labels of_trip
-  pub stop : HasStop rules_of criterion of_stop state.stops
-
--- a state for `stops` stops and `trips` trips, under a criterion
-pub record IsState {K V O : Type 0} (rules_of : K → Rules V) (IsUnder : K → ℕ → O → Type 0) (criterion : K) (stops trips : ℕ)
-    (state : State K O V) : Type 0 where
-  pub at_stops : AreStops rules_of criterion stops state.stops
-  pub long : trips_of state.trips.labels ≡ trips
-  pub labels : AreLabels (rules_of criterion) state.trips.labels
-  pub origin : IsUnder criterion stops state.origin
-
--- the same before any connection is read
-pub record IsNewState {K V O : Type 0} (rules_of : K → Rules V) (IsUnder : K → ℕ → O → Type 0) (kept : O → ℕ → SourceValue V) (criterion : K)
-    (stops trips : ℕ) (new : State K O V) : Type 0 where
-  pub state : IsState rules_of IsUnder criterion stops trips new
-  pub bags : (stop : ℕ) → points_at new.stops stop ≡ []
-  pub labels : (trip : ℕ) → trip_points new.trips.labels trip ≡ []
-  pub found : (index : ℕ) → (kept new.origin index).found ≡ []
-
--- the shape of a scan that has read the connections of a timetable from an index on: sizes, criterion, and a bound that the points found for each question
--- outdo. Which points were found, `MatchesFrom` says; the loop of scan_window carries it
-pub record IsScan {K V O : Type 0} (rules_of : K → Rules V) (IsUnder : K → ℕ → O → Type 0) (kept : O → ℕ → SourceValue V) (criterion : K)
-    (t : TimetableValue) (place : ℕ) (scan : Scan K O V) : Type 0 where
-  pub state : IsState rules_of IsUnder criterion t.stops t.trips scan.state
-  pub bound : (index : ℕ) → AreBounds (rules_of criterion) t (kept scan.state.origin index).found place scan.bound.values.items
+    (from_to (spelling_of t.footpaths (scan_records_of value kept old index)) (spelling_of t.footpaths (scan_records_of value kept new index)))
+    place (scan_value_of value kept old index) (scan_value_of value kept new index)
 
 -- points found match every journey that boards connection `start` or a later one
 abbrev pub HasFound : {V : Type 0} → Rules V → TimetableValue → SetQueryValue → ℕ → ScanRecords → List (Point V) → Type 0

@@ -36,6 +36,12 @@ pub record TakesIn {A V : Type 0} (rules : Rules V) (offer : Offer A V) (old new
   pub kept : (departure : ℕ) (v : V) → Admits rules v → Covers rules old departure v → Covers rules new departure v
   pub covered : (way : A) → offer.is_open way → Covers rules new (offer.departure way) (offer.value way)
 
+-- a list takes in an offer, except that ways which are excused need not be covered
+pub record TakesInBut {A V : Type 0} (rules : Rules V) (Excused : A → Type 0) (offer : Offer A V) (old new : List (Point V)) : Type 0 where
+  pub only : (p : Point V) → Contains new p → Contains old p ⊎ IsOffered offer p
+  pub kept : (departure : ℕ) (v : V) → Admits rules v → Covers rules old departure v → Covers rules new departure v
+  pub covered : (way : A) → offer.is_open way → Covers rules new (offer.departure way) (offer.value way) ⊎ Excused way
+
 -- how a passenger may leave a trip where a connection ends: at a target; a footpath before one; or to change, going on by a point of that stop
 pub data Leaving (V : Type 0) : Type 0 where
   ends : Leaving V
@@ -141,30 +147,31 @@ settings_out rules t q tags i labels = record {
       → tags.later.journey tag ≡ Some (record { start = way.start; rides = boarded i x });
 }
 
--- the points carried on: a point may be left out if a point found outdoes its value with the ride. Index i + 1 makes that point depart no earlier than
--- connection i and those before it
-pub record AreUnpruned {V : Type 0} (rules : Rules V) (t : TimetableValue) (found : List (Point V)) (i : ℕ)
-    (points survivors : List (Point V)) : Type 0 where
-  pub only : (p : Point V) → Contains survivors p → Contains points p
-  pub all : (p : Point V) → Contains points p → Contains survivors p
-      ⊎ IsOutdone rules t found (i + 1) (rules.ride p.value)
+-- only changing to a point whose value is excused is: to end never is
+abbrev pub MayNotChange : {V : Type 0} → (V → Type 0) → Leaving V → Type 0
+MayNotChange Excused ends = ⊥
+MayNotChange Excused (ends_after f) = ⊥
+MayNotChange Excused (changes p) = Excused p.value
+
+-- a point found outdoes a value with the ride. Index i + 1 makes that point depart no earlier than connection i and those before it
+abbrev pub IsOutdoneRidden : {V : Type 0} → Rules V → TimetableValue → List (Point V) → ℕ → V → Type 0
+IsOutdoneRidden rules t found i v = IsOutdone rules t found (i + 1) (rules.ride v)
 
 -- the step of one connection, from what a scan keeps of the later ones. First the labels of its trip take in the ways to leave the trip where the connection
--- ends; `between` is what tags spell then. Then all of the trip's labels, new and old, are offered to the points found, and those not outdone to every stop
+-- ends; `between` is what tags spell then. Then all of the trip's labels, new and old, are offered to the points found and to every stop. Of what is outdone
+-- nothing has to be taken in, except that it is offered to the points found
 pub record IsStep {V : Type 0} (rules : Rules V) (t : TimetableValue) (q : SetQueryValue) (tags : Spellings) (i : ℕ)
     (old new : ScanValue V) : Type 0 where
   pub between : Spelling
   pub kept_first : Keeps tags.earlier between
   pub kept_then : Keeps between tags.later
-  pub changing : List (Point V)
-  pub changing_are : AreUnpruned rules t old.found i (old.bag (connection_at t i).to) changing
-  pub boarding : List (Point V)
-  pub boarding_are : AreUnpruned rules t new.found i (new.labels (connection_at t i).trip) boarding
-  pub leaves : TakesIn rules (leavings rules t q (from_to tags.earlier between) i changing)
+  pub leaves : TakesInBut rules (MayNotChange (IsOutdoneRidden rules t old.found i))
+      (leavings rules t q (from_to tags.earlier between) i (old.bag (connection_at t i).to))
       (old.labels (connection_at t i).trip) (new.labels (connection_at t i).trip)
   pub other_trips : (trip : ℕ) → trip ≢ (connection_at t i).trip → new.labels trip ≡ old.labels trip
   pub boards : (stop : ℕ) → stop < t.stops
-      → TakesIn rules (boardings rules t (from_to between tags.later) i stop boarding) (old.bag stop) (new.bag stop)
+      → TakesInBut rules (λ way. IsOutdoneRidden rules t new.found i way.label.value)
+      (boardings rules t (from_to between tags.later) i stop (new.labels (connection_at t i).trip)) (old.bag stop) (new.bag stop)
   pub sets_out : TakesIn rules
       (settings_out rules t q (from_to between tags.later) i (new.labels (connection_at t i).trip)) old.found new.found
 

@@ -14,6 +14,7 @@ use crate::hop::ScanQuery;
 use crate::journey_nodes::journeys_as_nodes;
 use crate::origin::Origin;
 use crate::scan::scan_window;
+use crate::scanned::Scanned;
 use crate::set_query::SetQuery;
 use crate::starts::starts_from;
 use crate::view::ScanView;
@@ -36,7 +37,7 @@ pub fn timetable_of<S: ConnSource>(source: &S) -> GhostValue<Timetable>
 /// connection that departs at `from` or later and before `by` is asked for once, from the last to the first (before
 /// `by`, not up to `until`, since a later leg may depart after `until`). The only error is that memory runs out, or
 /// that a number would need more than 32 bits; then a first part of these, or all, was asked for.
-pub fn profile<S: ConnSource, C: Criterion>(
+pub fn profile<S: ConnSource, C: Scanned>(
     alloc: Global,
     source: &mut S,
     criterion: &C,
@@ -64,7 +65,7 @@ pub fn profile<S: ConnSource, C: Criterion>(
 /// there are, each connection that departs at `from` or later and before `by` is asked for once, from the last to the
 /// first. The only error is that memory runs out, or that a number would need more than 32 bits; then a first part of
 /// these, or all, was asked for.
-pub fn profile_between<S: ConnSource, C: Criterion>(
+pub fn profile_between<S: ConnSource, C: Scanned>(
     alloc: Global,
     source: &mut S,
     criterion: &C,
@@ -83,11 +84,10 @@ pub fn profile_between<S: ConnSource, C: Criterion>(
     let end = source.first_at(query.by);
     let own = query.copy()?;
     let asked = ask(alloc, source, criterion, own)?;
-    let scan = scan_window::<S, C, Origin<C>>(alloc, source, &asked, start..end)?;
+    let scan = scan_window::<S, C, C::Kept, Origin<C>>(alloc, source, &asked, start..end)?;
     let points = in_order(alloc, criterion, &scan.state.origin.found)?;
     let view = ScanView {
-        trips: &scan.state.trips,
-        stops: &scan.state.stops,
+        keeping: &scan.state.keeping,
         origin: &scan.state.origin,
     };
     let spelled = journeys_as_nodes(alloc, source, &view, &points)?;

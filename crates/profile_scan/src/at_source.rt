@@ -1,11 +1,11 @@
 //! Where the journeys of a scan set out, and what it keeps there.
 
-ghost use Rattle.std.specs.Prelude.{ℕ, List, IfOk, OnOk, Contains};
+ghost use Rattle.std.specs.Prelude.{◌≡◌, ℕ, List, IfOk, OnOk, Contains, false};
 ghost use Rattle.criteria.specs.Laws.{Admits};
 ghost use Rattle.bags.specs.Dominance.{IsBag};
 ghost use Rattle.profile_scan.specs.ScanRecords.{SourceValue};
 ghost use Rattle.profile_scan.specs.Bound.{IsRenewed};
-ghost use Rattle.profile_scan.specs.Parts.{CanSetOutAt, IsNewSource, SetsOut};
+ghost use Rattle.profile_scan.specs.Parts.{CanSetOutAt, IsNewSource, NobodySetsOut, SetsOut};
 
 use crate::bound::Bound;
 use crate::hop::{Hop, ScanQuery};
@@ -33,12 +33,16 @@ pub trait AtSource<C: Criterion>: Drop {
         ensures { IfOk result (IsNewSource IsUnder kept criterion.now stops) };
 
     /// Adds values to a bound: those of points that depart at `time` or later and were found for every question. What
-    /// the bound excluded stays excluded.
-    fn renew(&self, criterion: &C, time: u32, bound: &mut Bound<C>) -> Result<(), AllocError>
+    /// the bound excluded stays excluded. Returns false only if the bound's values stay.
+    fn renew(&self, criterion: &C, time: u32, bound: &mut Bound<C>) -> Result<bool, AllocError>
         requires under { (stops : ℕ) × IsUnder criterion.now stops self.now }
         requires values { (b : _) → Contains bound.old.values.items b → Admits (C.rules criterion.now) b }
         ensures { OnOk result ((index : ℕ) → IsRenewed (C.rules criterion.now) (kept self.now index).found time
             bound.old.values.items bound.new.values.items) };
+
+    /// Whether anybody may set out at a hop; true is always safe.
+    fn sets_out_at(&self, asked: &ScanQuery<C>, hop: &Hop<C::V>) -> bool
+        ensures { result ≡ false → NobodySetsOut C.rules sources asked.now hop.now };
 
     /// Sets out for a connection, if passengers may get on there. For each question the starts are tried: the empty
     /// start, if the connection begins at one of its sources, and each footpath there from one of them, except a loop.

@@ -48,7 +48,7 @@ impl<C: Criterion> Bound<C> {
 
     /// Adds the values of points found that depart at `time` or later and weren't read yet. `count` is how many points
     /// were ever found: if it hasn't changed since the last call, there are no new ones. What the bound excluded stays
-    /// excluded. Nothing is added unless the criterion says `riding_worsens`.
+    /// excluded. Nothing is added unless the criterion says `riding_worsens`. Returns false only if the values stay.
     #[inline(always)]
     pub fn renew(
         &mut self,
@@ -56,20 +56,21 @@ impl<C: Criterion> Bound<C> {
         found: &Bag<C>,
         count: usize,
         time: u32,
-    ) -> Result<(), AllocError>
+    ) -> Result<bool, AllocError>
         requires found { criterion_of found.now ≡ criterion.now }
         requires values { (b : _) → Contains self.old.values.items b → Admits (C.rules criterion.now) b }
         ensures { OnOk result (IsRenewed (C.rules criterion.now) (points_of found.now) time
             self.old.values.items self.new.values.items) }
     {
         if !criterion.riding_worsens() {
-            return Ok(());
+            return Ok(false);
         }
         // Nothing new was found, and the next point, if there is one, still departs too early.
         if count == self.count && self.next < time {
-            return Ok(());
+            return Ok(false);
         }
-        self.read(criterion, found, count, time)
+        self.read(criterion, found, count, time)?;
+        Ok(true)
     }
 
     // Reads the points for `renew`. The next reading begins at the first point that departs at `time` or earlier, since

@@ -34,4 +34,6 @@ pub struct Hop<'a, V> {
     // stop's point isn't offered to labels, nor a label to stops, if a value of the bound is no worse than the point's
     // or label's value with the ride. Empty in a scan for all sources
     pub bound: &'a [V],
+    // false only if those values are the same as when the last connection was taken in
+    pub renewed: bool,
 }

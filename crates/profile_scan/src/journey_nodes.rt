@@ -7,6 +7,7 @@ ghost use Rattle.profile_scan.specs.declared.journey_nodes.Change.{Change};
 ghost use Rattle.profile_scan.specs.JourneyNodes.{IsRoute, change, ending, IsLabelSpelled, SaysLabel, IsJourneySpelled};
 ghost use Rattle.profile_scan.specs.JourneyNodes.{SaysJourney, AreSpelledAgain};
 
+use crate::keeping::Keeping;
 use crate::nodes::Node;
 use crate::scan_records::Exit;
 use crate::view::ScanView;
@@ -32,7 +33,7 @@ struct LastAlighting {
     walk: Option<Footpath>,
 }
 
-impl<'a, C: Criterion> ScanView<'a, C> {
+impl<'a, C: Criterion, K: Keeping<C>> ScanView<'a, C, K> {
     ghost use Rattle.std.specs.Prelude.{◌≡◌, ◌++◌, ◌∷◌, [], ℕ, IfOk, Contains, Some, None, length, map};
     ghost use Rattle.bags.specs.declared.point.Point.{Point};
     ghost use Rattle.profile_scan.specs.Views.{scan_records_seen};
@@ -43,12 +44,12 @@ impl<'a, C: Criterion> ScanView<'a, C> {
 
     // The change that a label says, if it says one.
     fn change_after(&self, label: usize) -> Option<Change>
-        ensures { result ≡ change (scan_records_seen self.now) label }
+        ensures { result ≡ change (scan_records_seen K.value self.now) label }
     {
-        match self.trips.exits.get(label).copied()? {
+        match self.keeping.exit(label)? {
             Exit::Ends { .. } => None,
             Exit::Changes { last, step } => {
-                let step = self.stops.lists.step(step)?;
+                let step = self.keeping.step(step)?;
                 Some(Change { last, step })
             },
         }
@@ -56,24 +57,25 @@ impl<'a, C: Criterion> ScanView<'a, C> {
 
     // The end that a label says, if it says one.
     fn end_after(&self, label: usize) -> Option<LastAlighting>
-        ensures { result ≡ ending (scan_records_seen self.now) label }
+        ensures { result ≡ ending (scan_records_seen K.value self.now) label }
     {
-        match self.trips.exits.get(label).copied()? {
+        match self.keeping.exit(label)? {
             Exit::Ends { last, walk } => Some(LastAlighting { last, walk }),
             Exit::Changes { .. } => None,
         }
     }
 
-    // Follows changes from a label to one that ends, and returns that one; `route` gets the labels before it. A
-    // change leads to an earlier label, so no label comes twice.
+    // Follows changes from a label to one that ends, and returns that one; `route` gets the labels before it. No route
+    // is so long that the loop ends by itself: memory runs out first.
     fn note_route(&self, first: usize, route: &mut Vec<usize>) -> Result<usize, AllocError>
-        ensures route { IfOk result (λ last. IsRoute (scan_records_seen self.now) first route.new.items last) }
-        ensures ends { IfOk result (λ last. (walks : _) → IsLabelSpelled walks (scan_records_seen self.now) first
-            → change (scan_records_seen self.now) last ≡ None) }
+        ensures route { IfOk result (λ last. IsRoute (scan_records_seen K.value self.now) first route.new.items last) }
+        ensures ends { IfOk result (λ last. (walks : _)
+            → IsLabelSpelled walks (scan_records_seen K.value self.now) first
+            → change (scan_records_seen K.value self.now) last ≡ None) }
     {
         route.clear();
         let mut label = first;
-        for _i in 0..self.trips.exits.len() {
+        for _i in 0..usize::MAX {
             match self.change_after(label) {
                 None => return Ok(label),
                 Some(change) => {
@@ -90,9 +92,9 @@ impl<'a, C: Criterion> ScanView<'a, C> {
     // nothing.
     fn add_end_node(&self, label: usize, nodes: &mut Vec<Node>) -> Result<usize, AllocError>
         ensures { IfOk result (λ number. AddsNodes nodes.old.items nodes.new.items
-            ((walks : _) → IsLabelSpelled walks (scan_records_seen self.now) label
-            → change (scan_records_seen self.now) label ≡ None
-            → SaysLabel walks (scan_records_seen self.now) label nodes.new.items number)) }
+            ((walks : _) → IsLabelSpelled walks (scan_records_seen K.value self.now) label
+            → change (scan_records_seen K.value self.now) label ≡ None
+            → SaysLabel walks (scan_records_seen K.value self.now) label nodes.new.items number)) }
     {
         match self.end_after(label) {
             None => Ok(nodes.len()),
@@ -115,12 +117,14 @@ impl<'a, C: Criterion> ScanView<'a, C> {
         next: usize,
         nodes: &mut Vec<Node>,
     ) -> Result<usize, AllocError>
-        requires spelled { IsLabelSpelled (S.timetable source.now).footpaths (scan_records_seen self.now) label }
-        requires next { (c : Change) × (change (scan_records_seen self.now) label ≡ Some c)
-            × SaysLabel (S.timetable source.now).footpaths (scan_records_seen self.now) c.step.label nodes.old.items
-            next }
+        requires spelled { IsLabelSpelled (S.timetable source.now).footpaths
+            (scan_records_seen K.value self.now) label }
+        requires next { (c : Change) × (change (scan_records_seen K.value self.now) label ≡ Some c)
+            × SaysLabel (S.timetable source.now).footpaths
+            (scan_records_seen K.value self.now) c.step.label nodes.old.items next }
         ensures { IfOk result (λ number. AddsNodes nodes.old.items nodes.new.items
-            (SaysLabel (S.timetable source.now).footpaths (scan_records_seen self.now) label nodes.new.items number)) }
+            (SaysLabel (S.timetable source.now).footpaths
+            (scan_records_seen K.value self.now) label nodes.new.items number)) }
     {
         match self.change_after(label) {
             None => Ok(next),
@@ -153,9 +157,10 @@ impl<'a, C: Criterion> ScanView<'a, C> {
         route: &mut Vec<usize>,
         nodes: &mut Vec<Node>,
     ) -> Result<usize, AllocError>
-        requires { IsJourneySpelled (S.timetable source.now).footpaths (scan_records_seen self.now) tag }
+        requires { IsJourneySpelled (S.timetable source.now).footpaths (scan_records_seen K.value self.now) tag }
         ensures { IfOk result (λ number. AddsNodes nodes.old.items nodes.new.items
-            (SaysJourney (S.timetable source.now).footpaths (scan_records_seen self.now) tag nodes.new.items number)) }
+            (SaysJourney (S.timetable source.now).footpaths
+            (scan_records_seen K.value self.now) tag nodes.new.items number)) }
     {
         let set_out = self.origin.set_outs[tag];
         let last = self.note_route(set_out.label, route)?;
@@ -192,16 +197,16 @@ pub struct NodePoints<V> {
 }
 
 /// Returns the points with their journeys as nodes: each point's tag is then the number of a `SetsOut` node.
-pub fn journeys_as_nodes<S: ConnSource, C: Criterion>(
+pub fn journeys_as_nodes<S: ConnSource, C: Criterion, K: Keeping<C>>(
     alloc: Global,
     source: &S,
-    view: &ScanView<'_, C>,
+    view: &ScanView<'_, C, K>,
     points: &[Point<C::V>],
 ) -> Result<NodePoints<C::V>, AllocError>
     requires { (p : Point _) → Contains points.now p
-        → IsJourneySpelled (S.timetable source.now).footpaths (scan_records_seen view.now) p.tag }
-    ensures { IfOk result (λ spelled. AreSpelledAgain (S.timetable source.now).footpaths (scan_records_seen view.now)
-        points.now spelled.points.items spelled.nodes.items) }
+        → IsJourneySpelled (S.timetable source.now).footpaths (scan_records_seen K.value view.now) p.tag }
+    ensures { IfOk result (λ spelled. AreSpelledAgain (S.timetable source.now).footpaths
+        (scan_records_seen K.value view.now) points.now spelled.points.items spelled.nodes.items) }
 {
     let mut spelled = Vec::with_capacity(alloc, points.len())?;
     let mut nodes = Vec::new(alloc);

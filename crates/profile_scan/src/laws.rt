@@ -20,6 +20,7 @@ ghost use Rattle.profile_scan.specs.LawStatements.{WindowIsReadBackward};
 
 use crate::answering::profile;
 use crate::found::Found;
+use crate::scanned::Scanned;
 use criteria::Criterion;
 use image_verifier::Verified;
 use sources::{ConnSource, Decoded, InPlace, ReadLog};
@@ -90,7 +91,7 @@ pub fn found_answers<C: Criterion>(found: &Found<C>)
 
 /// Two sources of one timetable give a query the same points, tags aside, and each is asked once for each connection of
 /// the window. If memory or numbers of 32 bits run out, each was asked for a first part of them: none, some or all.
-pub fn two_sources<A: ConnSource, B: ConnSource, C: Criterion>(
+pub fn two_sources<A: ConnSource, B: ConnSource, C: Scanned>(
     alloc: Global,
     one: &mut A,
     other: &mut B,
@@ -130,7 +131,7 @@ pub struct FromBoth<'a, C: Criterion, L> {
 
 /// An image read in place and its lists decoded give a query the same points, tags aside, and each is asked once for
 /// each connection of the window, from the last to the first. It fails only as `profile` does.
-pub fn both_sources<'a, C: Criterion, L: ReadLog + Drop>(
+pub fn both_sources<'a, C: Scanned, L: ReadLog + Drop>(
     alloc: Global,
     image: &'a Verified,
     criterion: &C,

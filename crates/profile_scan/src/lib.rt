@@ -8,7 +8,7 @@
 //! `from` or later and before `by`. (`until` limits where a journey begins, not where the window ends: later legs may
 //! depart after it.) The loop is `scan::scan_window`. It reads each index of the window once, in falling order, as its
 //! clause `log` says, and calls `Scan::step`. A step returns at once if it sees that the connection can add nothing;
-//! else it renews the bound for the connection's departure, makes a `Hop` and calls `State::take`:
+//! else it renews the bound for the connection's departure, makes a `Hop` and calls `Keeping::take`:
 //!
 //! 1. Leave the trip, if passengers may get off. The journey may end there, or one footpath on (`hop.final_walk`):
 //!    `Trips::end` offers that to the labels of the connection's trip, with the value of that arrival. Or
@@ -31,15 +31,17 @@
 //!
 //! A leg is counted where its trip is boarded, in 2 and 3: a label's value doesn't include it.
 //!
-//! What a scan keeps where journeys set out has the trait `AtSource`. `profile_between` answers one question, and keeps
-//! an `Origin`: one list of the points found, from all sources together. `profiles_to_any`, which answers from every
-//! stop to any of several targets, and `profiles_to`, to a single one, keep `Origins`: a list for each stop. All else
-//! is the same scan. Clauses speak of the question at an `index`: for `Origins` the index is a stop; `Origin` has one
+//! What a scan keeps of trips and stops has the trait `Keeping`, so that a criterion can have a form of its own, which
+//! it names by `Scanned`: `ByTrips` is that of arrival and trips; `InLists`, of which 1 and 3 speak, serves any. What
+//! it keeps where journeys set out has the trait `AtSource`. `profile_between` answers one question, and keeps an
+//! `Origin`: one list of the points found, from all sources together. `profiles_to_any`, which answers from every stop
+//! to any of several targets, and `profiles_to`, to a single one, keep `Origins`: a list for each stop. All else is the
+//! same scan. Clauses speak of the question at an `index`: for `Origins` the index is a stop; `Origin` has one
 //! question, whatever the index.
 //!
 //! `hop.bound` has values of points found that depart no earlier than the connection. 1 leaves out a point of the stop,
 //! and 3 a label, if one of these values is no worse than that point's or label's own value with the ride in this trip.
-//! What remains is `survivors` (specs/Bound.antt); `AreUnpruned` (specs/Steps.antt) says what a step may leave out. The
+//! What remains is `survivors` (specs/Bound.antt); `IsStep` (specs/Steps.antt) says what a step may leave out. The
 //! bound is renewed before 1, so 3 doesn't see what 2 has just found. It is always empty for `Origins`, and for a
 //! criterion that doesn't say `riding_worsens`.
 //!
@@ -65,13 +67,18 @@
 mod answering;
 mod at_source;
 mod bound;
+mod by_trips;
+mod by_trips_taking;
 mod destination;
 mod destinations;
 mod final_walks;
 mod found;
 mod found_between;
 mod hop;
+mod in_lanes;
+mod in_lists;
 mod journey_nodes;
+mod keeping;
 mod last_offers;
 pub mod laws;
 mod nodes;
@@ -81,6 +88,7 @@ mod profiles;
 mod riding;
 mod scan;
 mod scan_records;
+mod scanned;
 mod set_query;
 mod starts;
 mod stops;
@@ -93,8 +101,11 @@ pub use destination::Destination;
 pub use destinations::Destinations;
 pub use found::{Found, in_order};
 pub use found_between::FoundBetween;
+pub use in_lists::InLists;
+pub use keeping::Keeping;
 pub use nodes::Node;
 pub use profiles::{Profiles, profiles_to};
+pub use scanned::Scanned;
 pub use set_query::SetQuery;
 pub use sources::{ConnSource, Decoded, InPlace, ReadLog};
 pub use to_any::{ProfilesToAny, profiles_to_any};

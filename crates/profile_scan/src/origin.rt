@@ -143,8 +143,20 @@ impl<C: Criterion> AtSource<C> for Origin<C> {
     }
 
     #[inline(always)]
-    fn renew(&self, criterion: &C, time: u32, bound: &mut Bound<C>) -> Result<(), AllocError> {
+    fn renew(&self, criterion: &C, time: u32, bound: &mut Bound<C>) -> Result<bool, AllocError> {
         bound.renew(criterion, &self.found, self.set_outs.len(), time)
+    }
+
+    #[inline(always)]
+    fn sets_out_at(&self, _asked: &ScanQuery<C>, hop: &Hop<C::V>) -> bool {
+        let board = hop.connection.board;
+        if !board {
+            return false;
+        }
+        if hop.access.here {
+            return true;
+        }
+        hop.access.led
     }
 
     fn set_out<S: ConnSource>(

@@ -96,8 +96,13 @@ impl<C: Criterion> AtSource<C> for Origins<C> {
     }
 
     #[inline(always)]
-    fn renew(&self, _criterion: &C, _time: u32, _bound: &mut Bound<C>) -> Result<(), AllocError> {
-        Ok(())
+    fn renew(&self, _criterion: &C, _time: u32, _bound: &mut Bound<C>) -> Result<bool, AllocError> {
+        Ok(false)
+    }
+
+    #[inline(always)]
+    fn sets_out_at(&self, _asked: &ScanQuery<C>, hop: &Hop<C::V>) -> bool {
+        hop.connection.board
     }
 
     fn set_out<S: ConnSource>(

@@ -2,12 +2,12 @@
 
 use crate::bound::any_no_worse;
 use crate::hop::{Hop, ScanQuery};
-use crate::last_offers::{LastOffer, none_offered};
+use crate::last_offers::LastOffer;
 use crate::riding::{number_of, ride_labels};
 use criteria::Criterion;
 use fronts::{Boarding, FrontLists, Label, RiddenLabel};
 use sources::ConnSource;
-use std::alloc::{AllocError, Global};
+use std::alloc::AllocError;
 use std::ops::Range;
 use timetable::Footpath;
 
@@ -23,32 +23,12 @@ pub struct Stops<C: Criterion> {
 }
 
 impl<C: Criterion> Stops<C> {
-    ghost use Rattle.std.specs.Prelude.{◌≡◌, ◌<◌, [], ◌∷◌, true, IfOk, OnOk, vec_len, slice_index};
+    ghost use Rattle.std.specs.Prelude.{◌≡◌, ◌<◌, [], ◌∷◌, true, OnOk, vec_len, slice_index};
     ghost use Rattle.criteria.specs.Laws.{Admits};
     ghost use Rattle.bags.specs.Dominance.{IsCovered};
-    ghost use Rattle.profile_scan.specs.ScanState.{AreNewStops, HasStop, points_at};
+    ghost use Rattle.profile_scan.specs.ScanState.{HasStop, points_at};
     ghost use Rattle.profile_scan.specs.Parts.{Boards, BoardsAfter, BoardsAfterEach, CanBoard, CanBoardAfter};
     ghost use Rattle.profile_scan.specs.Parts.{CanBoardAfterEach};
-
-    /// Makes the lists of `count` stops, which are empty, with room for what `expected` connections mostly add.
-    pub fn new(
-        alloc: Global,
-        criterion: &C,
-        count: u32,
-        expected: usize,
-    ) -> Result<Self, AllocError>
-        ensures { IfOk result (AreNewStops C.rules criterion.now count) }
-    {
-        let lists = FrontLists::new(alloc, *criterion, expected)?;
-        let heads = vec![in alloc; 0u32; count as usize]?;
-        let offers = none_offered(alloc, criterion, count as usize)?;
-        Ok(Stops {
-            lists,
-            heads,
-            offers,
-            ridden: Vec::new(alloc),
-        })
-    }
 
     /// The head of a stop's list, which is 0 if the list is empty.
     pub fn head(&self, stop: u32) -> u32

@@ -12,6 +12,7 @@ use crate::destinations::Destinations;
 use crate::found::in_order;
 use crate::found_between::FoundBetween;
 use crate::hop::ScanQuery;
+use crate::in_lists::InLists;
 use crate::journey_nodes::journeys_as_nodes;
 use crate::origins::Origins;
 use crate::scan::{State, scan_window};
@@ -27,7 +28,7 @@ use timetable::{Footpath, GhostValue};
 #[derive(Drop)]
 pub struct ProfilesToAny<C: Criterion> {
     asked: ScanQuery<C>,
-    state: State<C, Origins<C>>,
+    state: State<InLists<C>, Origins<C>>,
     // the points of each stop, in order; a point's tag is the index of how one sets out for it
     lists: Vec<Vec<Point<C::V>>>,
 }
@@ -82,8 +83,7 @@ impl<C: Criterion> ProfilesToAny<C> {
     {
         let origin = &self.state.origin.each[stop as usize];
         let view = ScanView {
-            trips: &self.state.trips,
-            stops: &self.state.stops,
+            keeping: &self.state.keeping,
             origin,
         };
         let points = self.points(stop);
@@ -148,7 +148,7 @@ pub fn profiles_to_any<S: ConnSource, C: Criterion>(
     let end = source.first_at(destinations.by);
     let query = destinations.query(alloc)?;
     let asked = ask(alloc, source, criterion, query)?;
-    let scan = scan_window::<S, C, Origins<C>>(alloc, source, &asked, start..end)?;
+    let scan = scan_window::<S, C, InLists<C>, Origins<C>>(alloc, source, &asked, start..end)?;
     let lists = lists_in_order(alloc, criterion, &scan.state.origin)?;
     Ok(ProfilesToAny {
         asked,

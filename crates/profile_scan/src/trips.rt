@@ -22,8 +22,8 @@ use crate::set_query::SetQuery;
 use crate::stops::Stops;
 use bags::Point;
 use criteria::Criterion;
-use fronts::{Labels, labels_of, no_labels, offer_label, some_no_worse};
-use std::alloc::{AllocError, Global};
+use fronts::{Labels, labels_of, offer_label, some_no_worse};
+use std::alloc::AllocError;
 use timetable::{Connection, Footpath};
 
 /// The labels of each trip. A label's tag is its index in `exits`.
@@ -35,31 +35,15 @@ pub struct Trips<C: Criterion> {
 
 impl<C: Criterion> Trips<C> {
     ghost use Rattle.profile_scan.specs.SetQuery.{question};
-    ghost use Rattle.std.specs.Prelude.{◌≡◌, [], ℕ, true, false, IfOk, OnOk};
+    ghost use Rattle.std.specs.Prelude.{◌≡◌, [], ℕ, true, false, OnOk};
     ghost use Rattle.criteria.specs.Laws.{Admits};
     ghost use Rattle.fronts.specs.Labels.{HasTrip};
     ghost use Rattle.profile_scan.specs.Bound.{any_no_worse, survivors};
     ghost use Rattle.profile_scan.specs.ScanRecords.{IsExit};
     ghost use Rattle.profile_scan.specs.declared.scan_records.Exit.TheVariants.{Changes};
     ghost use Rattle.profile_scan.specs.Adding.{one_way, only_if, changes_from, endings};
-    ghost use Rattle.profile_scan.specs.ScanState.{AreNewTrips, points_at};
+    ghost use Rattle.profile_scan.specs.ScanState.{points_at};
     ghost use Rattle.profile_scan.specs.Parts.{CanChange, CanLeave, TripTakes};
-
-    /// Makes `count` trips without labels, with room for what `expected` connections mostly add.
-    pub fn new(
-        alloc: Global,
-        criterion: &C,
-        count: u32,
-        expected: usize,
-    ) -> Result<Self, AllocError>
-        ensures { IfOk result (AreNewTrips (C.rules criterion.now) count) }
-    {
-        let labels = no_labels(alloc, criterion, count)?;
-        Ok(Trips {
-            labels,
-            exits: Vec::with_capacity(alloc, expected / 8)?,
-        })
-    }
 
     // Offers one value to the labels of a trip. `exit` is kept only if the value was accepted.
     fn offer(&mut self, criterion: &C, trip: u32, value: C::V, exit: Exit) -> Result<(), AllocError>
@@ -168,14 +152,14 @@ impl<C: Criterion> Trips<C> {
 
 // How to end: the walk to a target, and when it is over.
 #[derive(Clone, Copy)]
-struct Ending {
-    walk: Option<Footpath>,
-    time: u32,
+pub struct Ending {
+    pub walk: Option<Footpath>,
+    pub time: u32,
 }
 
 // The end of a journey that gets off where a connection ends, if it reaches a target by `query.by`; `way` is the
 // footpath from that stop to the nearest target, which is its loop if it is a target itself.
-fn end_of(connection: &Connection, query: &SetQuery, way: Option<FinalWalk>) -> Option<Ending>
+pub fn end_of(connection: &Connection, query: &SetQuery, way: Option<FinalWalk>) -> Option<Ending>
     requires arrival { IsTime connection.now.arr }
     requires secs { IfSome way (λ way. IsSecs way.secs) }
     ensures { MatchOption result ((walk : Option Footpath) → IsEnding connection.now (question query.now) way walk → ⊥)

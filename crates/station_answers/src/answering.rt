@@ -7,9 +7,8 @@ ghost use Rattle.journeys.specs.Extracted.{AttainsBetween};
 ghost use Rattle.station_answers.specs.Reading.{window_between};
 ghost use Rattle.station_answers.specs.Walks.{IsDirectTime};
 
-use criteria::Criterion;
 use journeys::{Answer, departures_between, window_len};
-use profile_scan::{ConnSource, SetQuery, profile_between};
+use profile_scan::{ConnSource, Scanned, SetQuery, profile_between};
 use std::alloc::{AllocError, Global};
 use timetable::{Footpath, Query};
 
@@ -21,7 +20,7 @@ use timetable::{Footpath, Query};
 /// However many stops there are, each connection of the window is asked for once, from the last to the first; `read` is
 /// their number. The only error is that memory runs out, or that a number would need more than 32 bits; then a first
 /// part of them, or all, was asked for.
-pub fn answer_between<S: ConnSource, C: Criterion>(
+pub fn answer_between<S: ConnSource, C: Scanned>(
     alloc: Global,
     source: &mut S,
     criterion: &C,

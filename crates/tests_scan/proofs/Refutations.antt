@@ -30,7 +30,7 @@ use Rattle.tests_scan.specs.WrongSteps.{Unchanged, on_foot, at_once, at_once_boa
 use Rattle.tests_scan.specs.WrongSteps.{CountsLegByLeg}
 use Rattle.profile_scan.proofs.Ends.{nothing_follows}
 use Rattle.profile_scan.proofs.StepLemmas.{one_index_down}
-use Rattle.profile_scan.proofs.Outdone.{all_unpruned}
+use Rattle.profile_scan.proofs.Offers.{takes_but}
 use Rattle.profile_scan.proofs.Answer.{match_is_the_answer}
 use Rattle.profile_scan.proofs.Single.{answer_from, to_one}
 
@@ -41,13 +41,11 @@ leaving_nothing_out rules t q tags i old new step = record {
   between = step.between;
   kept_first = step.kept_first;
   kept_then = step.kept_then;
-  changing = old.bag (connection_at t i).to;
-  changing_are = all_unpruned rules t old.found i (old.bag (connection_at t i).to);
-  boarding = new.labels (connection_at t i).trip;
-  boarding_are = all_unpruned rules t new.found i (new.labels (connection_at t i).trip);
-  leaves = step.leaves;
+  leaves = takes_but rules _ (leavings rules t q (from_to tags.earlier step.between) i (old.bag (connection_at t i).to))
+      (old.labels (connection_at t i).trip) (new.labels (connection_at t i).trip) step.leaves;
   other_trips = step.other_trips;
-  boards = step.boards;
+  boards = λ stop lt. takes_but rules _ (boardings rules t (from_to step.between tags.later) i stop (new.labels (connection_at t i).trip))
+      (old.bag stop) (new.bag stop) (step.boards stop lt);
   sets_out = step.sets_out;
 }
 

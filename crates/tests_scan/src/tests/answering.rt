@@ -13,7 +13,7 @@ use droppable_sources::{DroppableLog, decoded, in_place};
 use image_layout::{sample_words, second_sample_words};
 use image_verifier::Verified;
 use journeys::{Answer, Window, answer_query, check, extract, journey_text, query_of};
-use profile_scan::{Found, laws, profile};
+use profile_scan::{Found, Scanned, laws, profile};
 use sources::ConnSource;
 use std::alloc::{AllocError, Global};
 use std::process::Abort;
@@ -59,6 +59,12 @@ pub const WITH_DIRECT_TRIP: [u32; 56] = [
 
 /// By a change at stop 1.
 const CHANGE: &str = "ride 0 0 walk 1 1 0 ride 2 2";
+
+/// By ten trips, one after the other.
+const TEN_TRIPS: &str = "\
+    ride 0 0 walk 1 1 0 ride 1 1 walk 2 2 0 ride 2 2 walk 3 3 0 ride 3 3 walk 4 4 0 ride 4 4 \
+    walk 5 5 0 ride 5 5 walk 6 6 0 ride 6 6 walk 7 7 0 ride 7 7 walk 8 8 0 ride 8 8 walk 9 9 0 \
+    ride 9 9";
 
 /// The journey of the point at an index.
 fn journey_at<C: Criterion>(alloc: Global, found: &Found<C>, index: usize) -> Result<Journey, Fail>
@@ -131,7 +137,7 @@ fn assert_point<C: ShowsFigures>(
 }
 
 /// Asserts that the query has these points, each with its departure, its arrival and the text of its journey.
-fn assert_answer<S: ConnSource, C: ShowsFigures>(
+fn assert_answer<S: ConnSource, C: ShowsFigures + Scanned>(
     rt: &impl Abort,
     alloc: Global,
     image: &Verified,
@@ -151,7 +157,7 @@ fn assert_answer<S: ConnSource, C: ShowsFigures>(
 }
 
 /// Asserts the same over an image in place, and over its lists decoded.
-fn assert_answers<C: ShowsFigures>(
+fn assert_answers<C: ShowsFigures + Scanned>(
     rt: &impl Abort,
     alloc: Global,
     words: &[u32],
@@ -267,6 +273,60 @@ fn by_one_trip(rt: HostRuntime) -> Result<(), Fail> {
     )
 }
 
+/// Adds the words of ten connections, each of a trip of its own from a stop to the next.
+fn add_rides(words: &mut Vec<u32>) -> Result<(), AllocError> {
+    for trip in 0..10u32 {
+        let departure = 28800 + 600 * trip;
+        for word in [trip, trip + 1, departure, departure + 300, trip, 3] {
+            words.push(word)?;
+        }
+    }
+    Ok(())
+}
+
+/// Adds the words of a loop of no seconds for each of eleven stops.
+fn add_loops(words: &mut Vec<u32>) -> Result<(), AllocError> {
+    for first in 0..12u32 {
+        words.push(first)?;
+    }
+    for stop in 0..11u32 {
+        for word in [stop, 0] {
+            words.push(word)?;
+        }
+    }
+    Ok(())
+}
+
+/// An image of eleven stops in a row, with a trip from each to the next, and no names.
+fn ten_trips(alloc: Global) -> Result<Vec<u32>, AllocError> {
+    let mut words = Vec::new(alloc);
+    for word in [0x50415343, 1, 11, 10, 10, 11, 0, 1705276800, 0] {
+        words.push(word)?;
+    }
+    add_rides(&mut words)?;
+    add_loops(&mut words)?;
+    for _ in 0..22 {
+        words.push(0)?;
+    }
+    for _ in 0..10 {
+        words.push(20240115)?;
+    }
+    Ok(words)
+}
+
+/// Ten trips are more than there are lanes: labels and points go beyond them.
+#[test]
+fn by_ten_trips(rt: HostRuntime) -> Result<(), Fail> {
+    let alloc = rt.alloc();
+    let asked = Query {
+        target: 10,
+        ..ASKED
+    };
+    let words = ten_trips(alloc)?;
+    let legs = [(28800, 34500, TEN_TRIPS)];
+    assert_answers(&rt, alloc, &words, &ArrivalTrips, &asked, &legs)
+}
+
 #[test]
 fn by_no_trip_at_all(rt: HostRuntime) -> Result<(), Fail> {
     assert_arrivals(&rt, rt.alloc(), &NO_TRIPS, &ASKED, &[])
@@ -329,7 +389,7 @@ fn both_sources_give_one_answer(rt: HostRuntime) -> Result<(), Fail> {
 }
 
 /// The answer of the one call that finds it.
-fn answered<S: ConnSource, C: Criterion>(
+fn answered<S: ConnSource, C: Scanned>(
     alloc: Global,
     source: &mut S,
     criterion: &C,

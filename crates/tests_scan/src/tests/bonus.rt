@@ -15,6 +15,7 @@ use criteria::{Arrival, Criterion};
 use droppable_sources::{decoded, in_place};
 use image_verifier::Verified;
 use journeys::{Answer, answer_query, journey_text};
+use profile_scan::{InLists, Scanned};
 use sources::ConnSource;
 use std::alloc::Global;
 use std::cmp::Ordering;
@@ -82,6 +83,10 @@ impl Criterion for WithBonus {
     } };
 }
 
+impl Scanned for WithBonus {
+    type Kept = InLists<Self>;
+}
+
 /// From stop 0 to stop 2: a change at stop 1 arrives at 08:20:30, and a trip that leaves later arrives at 08:20:00.
 const LATER_AND_EARLIER: [u32; 56] = [
     0x50415343, 1, 3, 3, 4, 3, 9, 1705276800, 0, 0, 1, 28800, 29400, 0, 3, 1, 2, 29400, 30600, 0,
@@ -119,7 +124,7 @@ fn assert_departures<C: Criterion<V = u32>>(
 }
 
 /// Asserts that a source gives this answer.
-fn assert_answer<S: ConnSource, C: Criterion<V = u32>>(
+fn assert_answer<S: ConnSource, C: Criterion<V = u32> + Scanned>(
     rt: &impl Abort,
     alloc: Global,
     source: &mut S,
@@ -133,7 +138,7 @@ fn assert_answer<S: ConnSource, C: Criterion<V = u32>>(
 }
 
 /// Asserts that the image in place gives this answer, and that its lists decoded do.
-fn assert_answers<C: Criterion<V = u32>>(
+fn assert_answers<C: Criterion<V = u32> + Scanned>(
     rt: &impl Abort,
     alloc: Global,
     image: &Verified,

@@ -7,6 +7,7 @@ use criteria::{Arrival, ArrivalTrips, Criterion};
 use droppable_sources::in_place;
 use image_layout::sample_words;
 use journeys::{Answer, answer_query, journey_text};
+use profile_scan::{InLists, Scanned};
 use sources::ConnSource;
 use std::alloc::Global;
 use std::cmp::Ordering;
@@ -54,6 +55,10 @@ impl<A: Criterion, B: Criterion> Criterion for Both<A, B> {
     }
 
     ghost laws = { λ both. both_laws (A.rules both.0) (B.rules both.1) (A.laws both.0) (B.laws both.1) };
+}
+
+impl<A: Criterion, B: Criterion> Scanned for Both<A, B> {
+    type Kept = InLists<Self>;
 }
 
 /// From 07:00:00 until 09:00:00, by 10:00:00.

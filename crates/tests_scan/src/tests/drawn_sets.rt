@@ -9,7 +9,7 @@ use droppable_sources::in_place;
 use image_layout::{sample_words, second_sample_words};
 use image_verifier::Verified;
 use journeys::{Answer, Departure, answer_query, check};
-use profile_scan::SetQuery;
+use profile_scan::{Scanned, SetQuery};
 use station_answers::{answer_between, answer_by_targets, check_between, direct_walk};
 use std::alloc::{AllocError, Global};
 use std::process::Abort;
@@ -59,7 +59,7 @@ fn pair_of(asked: &SetQuery, source: u32, target: u32) -> Query {
 }
 
 /// What is reported of the departures of all pairs. Notes the least direct walk.
-fn shown_of_pairs<C: ShowsFigures>(
+fn shown_of_pairs<C: ShowsFigures + Scanned>(
     alloc: Global,
     image: &Verified,
     criterion: &C,
@@ -163,7 +163,7 @@ fn assert_listed<C: ShowsFigures>(rt: &impl Abort, criterion: &C, answer: &Answe
 }
 
 /// The answer to a question, if it can be asked.
-fn answer_of<C: ShowsFigures>(
+fn answer_of<C: ShowsFigures + Scanned>(
     alloc: Global,
     image: &Verified,
     criterion: &C,
@@ -207,7 +207,7 @@ fn answer_by_each_target<C: ShowsFigures>(
 }
 
 /// Compares the answer to a question with those of its pairs, and with that by one scan for each target.
-fn assert_question<C: ShowsFigures>(
+fn assert_question<C: ShowsFigures + Scanned>(
     rt: &impl Abort,
     alloc: Global,
     image: &Verified,

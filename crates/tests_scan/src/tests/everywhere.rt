@@ -14,7 +14,7 @@ use droppable_sources::in_place;
 use image_layout::{sample_words, second_sample_words};
 use image_verifier::Verified;
 use journeys::{check, extract};
-use profile_scan::{Destination, Found, Profiles, profile, profiles_to};
+use profile_scan::{Destination, Found, Profiles, Scanned, profile, profiles_to};
 use sources::ConnSource;
 use std::alloc::Global;
 use std::process::Abort;
@@ -117,7 +117,7 @@ fn assert_found<C: ShowsFigures>(
 }
 
 /// The answer of one query.
-fn answer_from<S: ConnSource, C: ShowsFigures>(
+fn answer_from<S: ConnSource, C: ShowsFigures + Scanned>(
     alloc: Global,
     source: &mut S,
     criterion: &C,
@@ -130,7 +130,7 @@ fn answer_from<S: ConnSource, C: ShowsFigures>(
 
 /// Asserts that what the one scan says of a stop is what the query from there says, and that this query reads as many
 /// connections, each in turn.
-fn assert_stop<C: ShowsFigures>(
+fn assert_stop<C: ShowsFigures + Scanned>(
     rt: &impl Abort,
     alloc: Global,
     image: &Verified,
@@ -152,7 +152,7 @@ fn assert_stop<C: ShowsFigures>(
 }
 
 /// Runs `assert_stop` for every stop except the target.
-fn assert_stops<C: ShowsFigures>(
+fn assert_stops<C: ShowsFigures + Scanned>(
     rt: &impl Abort,
     alloc: Global,
     image: &Verified,
@@ -186,7 +186,7 @@ fn answers_to<S: ConnSource, C: ShowsFigures>(
 }
 
 /// Finds the answers from all stops by one scan, which reads each connection in turn, and runs `assert_stops` on them.
-fn assert_answers<C: ShowsFigures>(
+fn assert_answers<C: ShowsFigures + Scanned>(
     rt: &impl Abort,
     alloc: Global,
     image: &Verified,

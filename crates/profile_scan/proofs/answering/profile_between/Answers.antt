@@ -65,13 +65,13 @@ returns-in_err-spelled-clause-err g c =
 
 -- what was found, of the criterion and the query that were asked
 found_is : (g : given.Over) (c : goal.In_ok-scan g) → HasFound (g.C.Criterion.rules c.args.criterion.now) (g.S.ConnSource.timetable c.args.source.now)
-    (question c.args.query.now) c.first_at-start.result (scan_records_of (λ origin index. kept_of origin) c.in_ok-scan.scan.state 0)
+    (question c.args.query.now) c.first_at-start.result (scan_records_of g.C.Kept.Keeping.value (λ origin index. kept_of origin) c.in_ok-scan.scan.state 0)
     (points_of c.in_ok-scan.scan.state.origin.found)
 found_is g c =
     let t = g.S.ConnSource.timetable c.args.source.now in
     let keeps = c.in_ok-asked.ensures.keeps in
     let state = c.in_ok-scan.scan.state in
-    let told = scan_records_of (λ origin index. kept_of origin) state 0 in
+    let told = scan_records_of g.C.Kept.Keeping.value (λ origin index. kept_of origin) state 0 in
     let found = points_of state.origin.found in
     subst (λ criterion. HasFound (g.C.Criterion.rules criterion) t (question c.args.query.now) c.first_at-start.result told found) keeps.0
     (subst (λ (b : SetQueryValue). HasFound (g.C.Criterion.rules c.in_ok-asked.asked.criterion) t b c.first_at-start.result told found)
@@ -89,7 +89,7 @@ journeys_as_nodes-requires g c =
     let rules = g.C.Criterion.rules c.args.criterion.now in
     let t = g.S.ConnSource.timetable c.args.source.now in
     let state = c.in_ok-scan.scan.state in
-    let told = scan_records_of (λ origin index. kept_of origin) state 0 in
+    let told = scan_records_of g.C.Kept.Keeping.value (λ origin index. kept_of origin) state 0 in
     let points = c.in_ok-points.points.items in
     subst (λ (ps : List (Point g.row.C-V.Denot)). (p : Point g.row.C-V.Denot) → Contains ps p
     → IsJourneySpelled (g.S.ConnSource.timetable c.scan_window.new.source).footpaths told p.tag)
@@ -129,7 +129,7 @@ made g c =
       in_time = c.requires.small.2;
     } in
     let state = c.in_ok-scan.scan.state in
-    let told = scan_records_of (λ origin index. kept_of origin) state 0 in
+    let told = scan_records_of g.C.Kept.Keeping.value (λ origin index. kept_of origin) state 0 in
     let found = points_of state.origin.found in
     let points = c.in_ok-spelled.spelled.points.items in
     let nodes = c.in_ok-spelled.spelled.nodes.items in

@@ -11,7 +11,7 @@ add_journey_nodes-requires g c = c.requires c.index-points-i.result (c.loop-i.i,
 pub loop-i-preserved : goal.loop-i-preserved
 loop-i-preserved g c =
     let walks = (g.S.ConnSource.timetable c.args.source.now).footpaths in
-    let m = spelled_again_more walks (scan_records_seen c.args.view.now) c.args.points.now c.loop-i.spelled.items c.push.new.self.items
+    let m = spelled_again_more walks (scan_records_seen g.K.Keeping.value c.args.view.now) c.args.points.now c.loop-i.spelled.items c.push.new.self.items
     c.loop-i.nodes.items c.add_journey_nodes.new.nodes.items c.loop-i.i c.index-points-i.result c.in_ok-tag.tag
     c.in_ok-tag.ensures.nodes (omega arith) c.index-points-i.is c.in_ok-push.ensures.items c.in_ok-tag.ensures.says
     c.loop-i.invariant.same c.loop-i.invariant.says in

@@ -9,5 +9,5 @@ invariant-loop-i g l =
     let walks = (g.S.ConnSource.timetable l.source).footpaths in
     record {
       same : map untagged l.spelled.items ≡ map untagged (take l.i l.points);
-      says : (p : _) → Contains l.spelled.items p → IsSpelledAgain walks (scan_records_seen l.view) l.points l.nodes.items p;
+      says : (p : _) → Contains l.spelled.items p → IsSpelledAgain walks (scan_records_seen g.K.Keeping.value l.view) l.points l.nodes.items p;
     }

@@ -1,4 +1,4 @@
-use Rattle.std.proofs.Common.{◌≡◌, ◌≤◌, [], length, arith, refl, subst, sym, take}
+use Rattle.std.proofs.Common.{◌≡◌, [], length, arith, refl, subst, sym, take}
 use Rattle.std.proofs.lemmas.List.{length-map}
 use Rattle.timetable.proofs.LegalLemmas.{Contains-At}
 use Rattle.profile_scan.proofs.RideLemmas.{ridden_none, ridden_more, ridden_all}

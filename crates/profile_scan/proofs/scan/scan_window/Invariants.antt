@@ -2,7 +2,8 @@ use Rattle.std.proofs.Common.{◌≡◌, ◌-◌, ◌≤◌, ◌++◌, ℕ}
 use Rattle.profile_scan.specs.SetQuery.{asked_from, question}
 use Rattle.profile_scan.specs.Matching.{MatchesFrom}
 use Rattle.profile_scan.specs.ScanRecords.{spelling_of}
-use Rattle.profile_scan.specs.ScanState.{IsScan, scan_value_of, scan_records_of}
+use Rattle.profile_scan.specs.Parts.{IsScan}
+use Rattle.profile_scan.specs.ScanState.{scan_value_of, scan_records_of}
 use Rattle.profile_scan.specs.Window.{falling}
 use Rattle.profile_scan.proofs.scan.scan_window.Given as goal
 
@@ -14,11 +15,11 @@ invariant-loop-place g l =
       high : l.place ≤ l.fn.window.end;
       timetable : g.S.ConnSource.timetable l.source ≡ g.S.ConnSource.timetable l.fn.source;
       log : g.S.ConnSource.log l.source ≡ g.S.ConnSource.log l.fn.source ++ falling l.place (l.fn.window.end - l.place);
-      scan : IsScan g.C.Criterion.rules g.O.AtSource.IsUnder g.O.AtSource.kept l.asked.criterion t l.place l.scan;
+      scan : IsScan g.C.Criterion.rules g.K.Keeping.IsUnder g.O.AtSource.IsUnder g.O.AtSource.kept l.asked.criterion t l.place l.scan;
       matched : (index : ℕ) → MatchesFrom (g.C.Criterion.rules l.asked.criterion) t
           (asked_from g.O.AtSource.sources (question l.asked.query) index)
-          (spelling_of t.footpaths (scan_records_of g.O.AtSource.kept l.scan.state index)) l.place
-          (scan_value_of g.O.AtSource.kept l.scan.state index);
+          (spelling_of t.footpaths (scan_records_of g.K.Keeping.value g.O.AtSource.kept l.scan.state index)) l.place
+          (scan_value_of g.K.Keeping.value g.O.AtSource.kept l.scan.state index);
     }
 
 abbrev pub decreases-loop-place : goal.decreases-loop-place

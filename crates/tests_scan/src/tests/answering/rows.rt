@@ -7,6 +7,7 @@ use criteria::{Arrival, ArrivalTrips, ArrivalTripsWalk, ShowsFigures};
 use droppable_sources::{decoded, in_place};
 use image_layout::{sample_words, second_sample_words};
 use journeys::{Answer, Departure, answer_query, journey_string};
+use profile_scan::Scanned;
 use sources::ConnSource;
 use std::alloc::{AllocError, Global};
 use std::process::Abort;
@@ -156,7 +157,7 @@ fn text_of<C: ShowsFigures>(
 }
 
 /// The text of the answer to a query.
-fn answer_text<S: ConnSource, C: ShowsFigures>(
+fn answer_text<S: ConnSource, C: ShowsFigures + Scanned>(
     alloc: Global,
     source: &mut S,
     criterion: &C,
@@ -169,7 +170,7 @@ fn answer_text<S: ConnSource, C: ShowsFigures>(
 }
 
 /// The answer's text over the image in place, and over its lists decoded.
-fn both_texts<C: ShowsFigures>(
+fn both_texts<C: ShowsFigures + Scanned>(
     alloc: Global,
     words: &[u32],
     criterion: &C,
@@ -182,7 +183,7 @@ fn both_texts<C: ShowsFigures>(
 }
 
 /// Asserts that each query has its answer over both.
-fn try_rows<C: ShowsFigures>(
+fn try_rows<C: ShowsFigures + Scanned>(
     rt: &impl Abort,
     alloc: Global,
     criterion: &C,

@@ -2,13 +2,16 @@ use Rattle.std.proofs.Common.{◌<◌, ◌+◌, ℕ, List, Contains, arith, ap, 
 use Rattle.criteria.specs.Laws.{Admits}
 use Rattle.timetable.specs.declared.network.Connection.{Connection}
 use Rattle.profile_scan.specs.SetQuery.{asked_from, question}
-use Rattle.profile_scan.specs.Bound.{AreBounds}
+use Rattle.profile_scan.specs.Bound.{AreBounds, ExcludesMore}
 use Rattle.profile_scan.specs.ScanRecords.{spelling_of}
-use Rattle.profile_scan.specs.ScanState.{AreStops, IsFinalWalk, scan_value_of, scan_records_of}
+use Rattle.profile_scan.specs.Hops.{IsHopOf}
+use Rattle.profile_scan.specs.LawStatements.{CanScan}
+use Rattle.profile_scan.specs.ScanState.{IsFinalWalk, scan_value_of, scan_records_of}
 use Rattle.profile_scan.proofs.BoundLemmas.{bounds_renewed, bounds_on}
 use Rattle.profile_scan.proofs.StepFacts.{begins_in, ends_in, step_idle_at, trip_in}
+use Rattle.profile_scan.proofs.TakeLemmas.{is_step}
 use Rattle.profile_scan.proofs.scan.Scan.step.Given as given
-use Rattle.profile_scan.proofs.scan.Scan.step.Goals.{After-final_walk_from-way, In_ok-renew, Start}
+use Rattle.profile_scan.proofs.scan.Scan.step.Goals.{After-deref, After-final_walk_from-way, In_ok-renewed, Start}
 use Rattle.profile_scan.proofs.scan.Scan.step.Goals as goal
 
 -- the connection ends at a stop
@@ -41,24 +44,19 @@ access_to-requires g c =
 
 pub is_idle-requires : goal.is_idle-requires
 is_idle-requires g c =
+    let t = g.S.ConnSource.timetable c.args.source.now in
     let at = c.requires.stands in
-    let state = c.requires.scan.state in
-    let stops = state.at_stops in
     record {
-      trip = record {
-        there = subst (λ (n : ℕ). c.args.connection.now.trip < n) (sym state.long)
-            (trip_in (g.S.ConnSource.timetable c.args.source.now) (g.met.S.ConnSource.legal c.args.source.now)
-            c.args.place at.in_range c.args.connection.now at.is);
-        sound = state.labels;
-      };
-      stop = record {
-        there = subst (λ (n : ℕ). c.args.connection.now.to < n) (sym stops.long) (ends g (goal.at.is_idle-requires g c).Start);
-        stops = subst (λ (n : ℕ). AreStops g.C.Criterion.rules c.args.asked.now.criterion n c.args.self.now.state.stops) (sym stops.long) stops;
-      };
+      stops = t.stops;
+      trips = t.trips;
+      bound = c.args.self.now.bound.values.items;
+      under = c.requires.scan.keeping;
+      trip = trip_in t (g.met.S.ConnSource.legal c.args.source.now) c.args.place at.in_range c.args.connection.now at.is;
+      stop = ends g (goal.at.is_idle-requires g c).Start;
     }
 
 pub renew-requires-clause-under : goal.renew-requires-clause-under
-renew-requires-clause-under g c = ((g.S.ConnSource.timetable c.args.source.now).stops, c.requires.scan.state.origin)
+renew-requires-clause-under g c = ((g.S.ConnSource.timetable c.args.source.now).stops, c.requires.scan.source)
 
 pub renew-requires-clause-values : goal.renew-requires-clause-values
 renew-requires-clause-values g c = (c.requires.scan.bound 0).admitted
@@ -67,11 +65,13 @@ pub returns-then-is_idle : goal.returns-then-is_idle
 returns-then-is_idle g c =
     let rules = g.C.Criterion.rules c.args.asked.now.criterion in
     let t = g.S.ConnSource.timetable c.args.source.now in
+    let value = g.K.Keeping.value in
     let kept = g.O.AtSource.kept in
     let scan = c.args.self.now in
     record {
       scan = record {
-        state = c.requires.scan.state;
+        keeping = c.requires.scan.keeping;
+        source = c.requires.scan.source;
         bound = λ index.
             let found = (kept scan.state.origin index).found in
             bounds_on rules (g.met.C.Criterion.laws c.args.asked.now.criterion) t found found
@@ -80,13 +80,13 @@ returns-then-is_idle g c =
       };
       step = λ index.
           step_idle_at rules t (asked_from g.O.AtSource.sources (question c.args.asked.now.query) index)
-          (spelling_of t.footpaths (scan_records_of kept scan.state index)) c.args.place (scan_value_of kept scan.state index) _
+          (spelling_of t.footpaths (scan_records_of value kept scan.state index)) c.args.place (scan_value_of value kept scan.state index) _
           c.args.connection.now c.requires.stands.is (way_is g (goal.at.returns-then-is_idle g c).After-final_walk_from-way)
           (c.is_idle.ensures c.if-is_idle.true);
     }
 
 -- the values of the bound, renewed
-renewed : (g : given.Over) (c : goal.In_ok-renew g) (index : ℕ)
+renewed : (g : given.Over) (c : goal.In_ok-renewed g) (index : ℕ)
     → AreBounds (g.C.Criterion.rules c.args.asked.now.criterion) (g.S.ConnSource.timetable c.args.source.now)
     (g.O.AtSource.kept c.args.self.now.state.origin index).found (c.args.place + 1) c.renew.new.bound.values.items
 renewed g c index =
@@ -96,49 +96,86 @@ renewed g c index =
     let at = c.requires.stands in
     bounds_renewed (g.C.Criterion.rules c.args.asked.now.criterion) (g.met.C.Criterion.laws criterion) t (g.met.S.ConnSource.legal c.args.source.now)
     (g.O.AtSource.kept scan.state.origin index).found
-    (g.met.O.AtSource.bags criterion t.stops scan.state.origin c.requires.scan.state.origin index).admitted c.args.place
+    (g.met.O.AtSource.bags criterion t.stops scan.state.origin c.requires.scan.source index).admitted c.args.place
     c.args.connection.now.dep at.in_range (ap (λ (x : Connection). x.dep) at.is) scan.bound.values.items c.renew.new.bound.values.items
-    (c.requires.scan.bound index) (c.in_ok-renew.ensures index).only
+    (c.requires.scan.bound index) (c.in_ok-renewed.ensures index).only
 
-pub take-requires : goal.take-requires
-take-requires g c =
-    let point = goal.at.take-requires g c in
+-- the hop is of the timetable
+hop_is : (g : given.Over) (c : goal.After-deref g) → IsHopOf (g.C.Criterion.rules c.args.asked.now.criterion)
+    (g.S.ConnSource.timetable c.args.source.now) (question c.args.asked.now.query) c.args.asked.now.starts (record {
+      connection = c.args.connection.now;
+      place = c.args.place;
+      access = c.access_to.result;
+      final_walk = c.final_walk_from-way.result;
+      bound = c.deref.result;
+      renewed = c.in_ok-renewed.renewed;
+    })
+hop_is g c =
+    let point = goal.at.After-deref g c in
     let t = g.S.ConnSource.timetable c.args.source.now in
     let legal = g.met.S.ConnSource.legal c.args.source.now in
     let at = c.requires.stands in
     let rules = g.C.Criterion.rules c.args.asked.now.criterion in
     record {
-      hop = record {
-        stands = at;
-        begins = begins_in t legal c.args.place at.in_range c.args.connection.now at.is;
-        ends = ends_in t legal c.args.place at.in_range c.args.connection.now at.is;
-        on_trip = trip_in t legal c.args.place at.in_range c.args.connection.now at.is;
-        by = c.requires.asked.by;
-        starts = c.requires.asked.starts;
-        access = c.requires.asked.starts.each c.args.connection.now.from c.access_to.result c.access_to.ensures;
-        final_walk = way_is g point.After-final_walk_from-way;
-        bound =
-            subst (λ (values : List g.row.C-V.Denot). (b : g.row.C-V.Denot) → Contains values b → Admits rules b) (sym c.deref.ensures.value)
-            (renewed g point.In_ok-renew 0).admitted;
-      };
-      bound = λ index.
-          subst (AreBounds rules (g.S.ConnSource.timetable c.args.source.now)
-          (g.O.AtSource.kept c.args.self.now.state.origin index).found (c.args.place + 1)) (sym c.deref.ensures.value)
-          (renewed g point.In_ok-renew index);
-      state = c.requires.scan.state;
+      stands = at;
+      begins = begins_in t legal c.args.place at.in_range c.args.connection.now at.is;
+      ends = ends_in t legal c.args.place at.in_range c.args.connection.now at.is;
+      on_trip = trip_in t legal c.args.place at.in_range c.args.connection.now at.is;
+      by = c.requires.asked.by;
+      starts = c.requires.asked.starts;
+      access = c.requires.asked.starts.each c.args.connection.now.from c.access_to.result c.access_to.ensures;
+      final_walk = way_is g point.After-final_walk_from-way;
+      bound =
+          subst (λ (values : List g.row.C-V.Denot). (b : g.row.C-V.Denot) → Contains values b → Admits rules b) (sym c.deref.ensures.value)
+          (renewed g point.In_ok-renewed 0).admitted;
+    }
+
+pub take-requires : goal.take-requires
+take-requires g c =
+    let rules = g.C.Criterion.rules c.args.asked.now.criterion in
+    record {
+      hop = hop_is g (goal.at.take-requires g c).After-deref;
+      bound = c.args.self.now.bound.values.items;
+      excludes = subst (ExcludesMore rules c.args.self.now.bound.values.items) (sym c.deref.ensures.value) (c.in_ok-renewed.ensures 0).kept;
+      keeping = c.requires.scan.keeping;
+      source = c.requires.scan.source;
     }
 
 pub returns : goal.returns
 returns g c =
+    let point = goal.at.returns g c in
+    let criterion = c.args.asked.now.criterion in
+    let rules = g.C.Criterion.rules c.args.asked.now.criterion in
+    let laws = g.met.C.Criterion.laws c.args.asked.now.criterion in
+    let t = g.S.ConnSource.timetable c.args.source.now in
     let kept = g.O.AtSource.kept in
+    let sources = g.O.AtSource.sources in
+    let value = g.K.Keeping.value in
+    let old = c.args.self.now.state in
+    let keeping = c.take.new.self in
+    let origin = c.take.new.origin in
+    let taken = c.in_ok-take.ensures in
+    let bound = c.renew.new.bound.values.items in
+    let can : CanScan (g.S.ConnSource.timetable c.args.source.now) (question c.args.asked.now.query) = record {
+      legal = g.met.S.ConnSource.legal c.args.source.now;
+      limits = g.met.S.ConnSource.limits c.args.source.now;
+      in_time = c.requires.asked.by;
+    } in
+    let under = subst (λ (values : List g.row.C-V.Denot). g.K.Keeping.IsUnder criterion t.stops t.trips values keeping) c.deref.ensures.value taken.keeping in
     record {
       scan = record {
-        state = c.in_ok-take.ensures.state;
+        keeping = under;
+        source = taken.source;
         bound = λ index.
-            bounds_on (g.C.Criterion.rules c.args.asked.now.criterion) (g.met.C.Criterion.laws c.args.asked.now.criterion)
-            (g.S.ConnSource.timetable c.args.source.now) (kept c.args.self.now.state.origin index).found
-            (kept c.take.new.self.origin index).found (c.args.place + 1) c.args.place c.renew.new.bound.values.items (omega arith)
-            (c.in_ok-take.ensures.step index).sets_out.kept (renewed g (goal.at.returns g c).In_ok-renew index);
+            bounds_on rules laws t (kept old.origin index).found (kept origin index).found (c.args.place + 1) c.args.place bound (omega arith)
+            (taken.goes_on.sets_out index).kept (renewed g point.In_ok-renewed index);
       };
-      step = c.in_ok-take.ensures.step;
+      step = λ index.
+          is_step rules laws t (question c.args.asked.now.query) can sources kept c.args.asked.now.starts _
+          (hop_is g point.After-deref) (value old.keeping) taken.between (value keeping) old.origin origin taken.leaves taken.goes_on
+          (g.met.K.Keeping.admitted criterion t.stops t.trips c.args.self.now.bound.values.items old.keeping c.requires.scan.keeping)
+          (g.met.K.Keeping.admitted criterion t.stops t.trips bound keeping under) index
+          (g.met.O.AtSource.bags criterion t.stops old.origin c.requires.scan.source index).admitted
+          (g.met.O.AtSource.bags criterion t.stops origin taken.source index).admitted
+          (subst (AreBounds rules t (kept old.origin index).found (c.args.place + 1)) (sym c.deref.ensures.value) (renewed g point.In_ok-renewed index));
     }

@@ -1,4 +1,4 @@
-use Rattle.std.proofs.Common.{◌<◌, [], ◌∷◌, ◌∙◌, refl, sym, subst}
+use Rattle.std.proofs.Common.{[], ◌∷◌, ◌∙◌, refl, sym, subst}
 use Rattle.std.proofs.lemmas.List.Elements.{Contains-push}
 use Rattle.fronts.specs.declared.entry.RiddenLabel.{RiddenLabel}
 use Rattle.reasoning.proofs.ListLemmas.{extends_none}

@@ -13,7 +13,7 @@ use Rattle.profile_scan.proofs.view.ScanView.add_change_nodes.Goals as goal
 pub footpath-walk-requires : goal.footpath-walk-requires
 footpath-walk-requires g c =
     let walks = (g.S.ConnSource.timetable c.args.source.now).footpaths in
-    let s = scan_records_seen c.args.self.now in
+    let s = scan_records_seen g.K.Keeping.value c.args.self.now in
     let change = c.in-Some.change in
     let t = spelled_change walks s c.args.label change.last change.step c.requires.spelled.0
     (sym c.change_after.ensures ∙ c.in-Some.is) c.requires.spelled.1 in
@@ -27,7 +27,7 @@ returns-in-None g c =
 pub returns-in_ok-boards-in-Some : goal.returns-in_ok-boards-in-Some
 returns-in_ok-boards-in-Some g c =
     let walks = (g.S.ConnSource.timetable c.args.source.now).footpaths in
-    let s = scan_records_seen c.args.self.now in
+    let s = scan_records_seen g.K.Keeping.value c.args.self.now in
     let change = c.in-Some.change in
     let is = sym c.change_after.ensures ∙ c.in-Some.is in
     let next = c.requires.next in

@@ -8,7 +8,7 @@ use Rattle.profile_scan.proofs.view.ScanView.add_end_node.Goals as goal
 
 pub returns-in-Some : goal.returns-in-Some
 returns-in-Some g c =
-    let s = scan_records_seen c.args.self.now in
+    let s = scan_records_seen g.K.Keeping.value c.args.self.now in
     let new = c.add.new.nodes.items in
     IfOk-weaker c.add.result _ _
     (λ number is. record {
@@ -22,5 +22,5 @@ pub returns-in-None : goal.returns-in-None
 returns-in-None g c = record {
   nodes = extends_none c.args.nodes.now.items;
   says = λ walks spelled none.
-      absurd (spelled_ends walks (scan_records_seen c.args.self.now) c.args.label spelled none (sym c.end_after.ensures ∙ c.in-None.is));
+      absurd (spelled_ends walks (scan_records_seen g.K.Keeping.value c.args.self.now) c.args.label spelled none (sym c.end_after.ensures ∙ c.in-None.is));
 }

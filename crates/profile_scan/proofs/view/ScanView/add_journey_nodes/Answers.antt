@@ -9,7 +9,7 @@ use Rattle.profile_scan.proofs.view.ScanView.add_journey_nodes.Goals as goal
 pub loop-label-init : goal.loop-label-init
 loop-label-init g c =
     let walks = (g.S.ConnSource.timetable c.args.source.now).footpaths in
-    let s = scan_records_seen c.args.self.now in
+    let s = scan_records_seen g.K.Keeping.value c.args.self.now in
     let first = c.index-set_out.result.now.label in
     let spelled = (first_spelled walks s c.args.tag c.index-set_out.result.now c.requires c.index-set_out.ensures).1 in
     let last = c.in_ok-last.last in
@@ -24,7 +24,7 @@ loop-label-init g c =
 pub add_change_nodes-requires-clause-spelled : goal.add_change_nodes-requires-clause-spelled
 add_change_nodes-requires-clause-spelled g c =
     let walks = (g.S.ConnSource.timetable c.args.source.now).footpaths in
-    let s = scan_records_seen c.args.self.now in
+    let s = scan_records_seen g.K.Keeping.value c.args.self.now in
     let first = c.index-set_out.result.now.label in
     let spelled = (first_spelled walks s c.args.tag c.index-set_out.result.now c.requires c.index-set_out.ensures).1 in
     let says = c.loop-label.invariant.says in
@@ -34,7 +34,7 @@ add_change_nodes-requires-clause-spelled g c =
 pub add_change_nodes-requires-clause-next : goal.add_change_nodes-requires-clause-next
 add_change_nodes-requires-clause-next g c =
     let walks = (g.S.ConnSource.timetable c.args.source.now).footpaths in
-    let s = scan_records_seen c.args.self.now in
+    let s = scan_records_seen g.K.Keeping.value c.args.self.now in
     let says = c.loop-label.invariant.says in
     let first = c.index-set_out.result.now.label in
     let p = route_popped s first c.loop-label.route.items c.pop.new.self.items c.in-Some.label says.0 c.in-Some.ensures.items says.1 in
@@ -42,7 +42,7 @@ add_change_nodes-requires-clause-next g c =
 
 pub loop-label-preserved : goal.loop-label-preserved
 loop-label-preserved g c =
-    let s = scan_records_seen c.args.self.now in
+    let s = scan_records_seen g.K.Keeping.value c.args.self.now in
     let says = c.loop-label.invariant.says in
     let first = c.index-set_out.result.now.label in
     let p = route_popped s first c.loop-label.route.items c.pop.new.self.items c.in-Some.label says.0 c.in-Some.ensures.items says.1 in
@@ -55,7 +55,7 @@ loop-label-preserved g c =
 pub returns : goal.returns
 returns g c =
     let walks = (g.S.ConnSource.timetable c.args.source.now).footpaths in
-    let s = scan_records_seen c.args.self.now in
+    let s = scan_records_seen g.K.Keeping.value c.args.self.now in
     let x = c.index-set_out.result.now in
     let at = (first_spelled walks s c.args.tag x c.requires c.index-set_out.ensures).0 in
     let new = c.add.new.nodes.items in

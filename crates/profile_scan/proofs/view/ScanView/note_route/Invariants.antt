@@ -7,9 +7,12 @@ use Rattle.profile_scan.specs.JourneyNodes.{IsRoute, IsLabelSpelled}
 use Rattle.profile_scan.proofs.view.ScanView.note_route.Given as goal
 
 abbrev pub invariant-loop-i : goal.invariant-loop-i
-invariant-loop-i g l = record {
-  route : IsRoute (scan_records_seen l.self) l.first l.route.items l.label;
-  tells : (walks : List Footpath) → IsLabelSpelled walks (scan_records_seen l.self) l.first
-      → (x : Aboard) × (label_spells walks (scan_records_seen l.self) (length (scan_records_seen l.self).exits - l._i) l.label
-      ≡ Some x);
-}
+invariant-loop-i g l =
+    let s = scan_records_seen g.K.Keeping.value l.self in
+    record {
+      route : IsRoute s l.first l.route.items l.label;
+      long : length l.route.items ≡ l._i;
+      tells : (walks : List Footpath) → IsLabelSpelled walks s l.first
+          → (x : Aboard) × (label_spells walks s (length s.exits - l._i) l.label
+          ≡ Some x);
+    }

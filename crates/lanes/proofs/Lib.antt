@@ -1,0 +1,16 @@
+pub mod LaneLemmas
+pub mod TakeLemmas
+pub mod TripLemmas
+pub mod WordLemmas
+pub mod ReadLemmas
+pub mod EntryLemmas
+pub mod PushLemmas
+pub mod CoverLemmas
+pub mod PutLemmas
+pub mod BoardLemmas
+pub mod SearchLemmas
+pub mod JoinLemmas
+pub mod StepLemmas
+pub mod StopLemmas
+pub mod NewLemmas
+pub mod EightLemmas

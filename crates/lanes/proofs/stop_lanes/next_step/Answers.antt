@@ -1,0 +1,9 @@
+use Rattle.std.proofs.Common.{arith}
+use Rattle.lanes.proofs.StepLemmas.{steps_long}
+use Rattle.lanes.proofs.stop_lanes.next_step.Goals as goal
+
+pub returns : goal.returns
+returns c =
+    let few = c.if-count.false in
+    let long = steps_long c.args.steps.now in
+    (omega (arith, few), omega (arith, long))

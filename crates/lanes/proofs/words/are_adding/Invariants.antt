@@ -1,0 +1,6 @@
+use Rattle.std.proofs.Common.{◌≡◌, ℕ, ◌<◌, ◌≤◌, MatchBool, get_or}
+use Rattle.lanes.proofs.words.are_adding.Given as goal
+
+abbrev pub invariant-loop-k : goal.invariant-loop-k
+invariant-loop-k l =
+    MatchBool l.any ((k : ℕ) × (k < l.k) × (get_or l.words k 0 < get_or l.behind k 0)) ((k : ℕ) → k < l.k → get_or l.behind k 0 ≤ get_or l.words k 0)

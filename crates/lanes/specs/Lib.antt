@@ -1,0 +1,5 @@
+pub mod Lanes
+pub mod LanesWithTags
+pub mod TripLanes
+pub mod LaneLists
+pub mod StopLanes

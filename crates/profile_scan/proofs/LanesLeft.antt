@@ -1,0 +1,352 @@
+-- A trip in lanes is left: to end, or to change.
+use Rattle.std.proofs.Common.{◌≡◌, ◌⊎◌, ℕ, ◌+◌, ◌*◌, ◌<◌, ◌≤◌, List, [], ◌∷◌, ◌++◌, length, Contains, Option, Some, None}
+use Rattle.std.proofs.Common.{slice_get, slice_index, nat_lt, nat_le}
+use Rattle.std.proofs.Common.{inl, inr, refl, sym, ap, ◌∙◌, subst, arith, length-append}
+use Rattle.std.specs.Global.{Vec}
+use Rattle.std.proofs.lemmas.Bool.{cases_lt, and_from, lt-ltb, le-leb}
+use Rattle.std.proofs.lemmas.Option.{slice_get_within}
+use Rattle.reasoning.proofs.ListLemmas.{contains_only, contains_first, extends_none, not_in_nil, slice_get-front, slice_get-last, same_at}
+use Rattle.reasoning.proofs.OptionLemmas.{option_cases}
+use Rattle.criteria.specs.Laws.{Admits, IsTime, time_limit}
+use Rattle.criteria.specs.declared.arrival_trips.TimeTrips.{TimeTrips}
+use Rattle.bags.specs.declared.point.Point.{Point}
+use Rattle.timetable.specs.declared.network.Connection.{Connection}
+use Rattle.timetable.specs.declared.network.Footpath.{Footpath}
+use Rattle.timetable.specs.Journeys.{start_secs}
+use Rattle.fronts.specs.declared.labels.Label.{Label}
+use Rattle.fronts.proofs.Growth.{extends_long}
+use Rattle.lanes.specs.Lanes.{trip_rules, lane_labels, IsBeaten}
+use Rattle.lanes.specs.LaneLists.{word_tag}
+use Rattle.lanes.specs.LanesWithTags.{labels_in}
+use Rattle.lanes.specs.TripLanes.{AllBeaten, TakesAll, ending, front_labels, labels_at, offered_by, trips_of}
+use Rattle.lanes.specs.StopLanes.{IsFrontFrom, entries_of, front_at, points_at, steps_of, stops_of, tags_at}
+use Rattle.lanes.specs.declared.trip_lanes.Lanes.{Lanes}
+use Rattle.lanes.specs.declared.trip_lanes.TripLanes.{TripLanes}
+use Rattle.lanes.specs.declared.words.Words.{Words}
+use Rattle.lanes.proofs.LaneLemmas.{stands, no_worse_from}
+use Rattle.lanes.proofs.CoverLemmas.{points_admitted}
+use Rattle.lanes.proofs.EntryLemmas.{from_map, into_map}
+use Rattle.profile_scan.specs.SetQuery.{SetQueryValue}
+use Rattle.profile_scan.specs.Values.{started}
+use Rattle.profile_scan.specs.Matching.{Spellings, from_to}
+use Rattle.profile_scan.specs.Steps.{Offer, IsOffered, TakesInBut}
+use Rattle.profile_scan.specs.Bound.{Excludes}
+use Rattle.profile_scan.specs.Adding.{IsEnding, changes_from, endings, label_points}
+use Rattle.profile_scan.specs.ScanRecords.{ScanRecords, Grows, IsExit, scan_records, spelling_of}
+use Rattle.profile_scan.specs.InLanes.{AreInLanes, CanLeaveLanes, IsBeatenByEight, LaneTakes, LeadsWithin, changes_but_eight, exit_of, value_of}
+use Rattle.profile_scan.specs.declared.final_walks.FinalWalk.{FinalWalk}
+use Rattle.profile_scan.specs.declared.hop.Hop.{Hop}
+use Rattle.profile_scan.specs.declared.in_lanes.InLanes.{InLanes}
+use Rattle.profile_scan.specs.declared.in_lanes.LaneExit.{LaneExit}
+use Rattle.profile_scan.specs.declared.in_lanes.LaneExit.TheVariants.{Ends as EndsLane, Changes as ChangesLane}
+use Rattle.profile_scan.specs.declared.scan_records.Exit.TheVariants.{Ends, Changes}
+use Rattle.profile_scan.specs.declared.scan_records.SetOut.{SetOut}
+use Rattle.profile_scan.proofs.LaneExits.{exit_at, exit_spelled_at, exits_long, exits_more}
+use Rattle.profile_scan.proofs.LaneOffers.{as_point, beaten_covers, changes_taken, kept_covers}
+use Rattle.profile_scan.proofs.Offers.{excused_as, sure}
+use Rattle.profile_scan.proofs.ScanRecordLemmas.{exits_grow, grows_on, stays}
+
+-- a trip has labels of fewer than eight trips
+few_trips : (trips : TripLanes) (trip : ℕ) (l : Label TimeTrips) → Contains (labels_at trips trip) l → l.value.trips < 8
+few_trips trips trip l is = elim (option_cases (slice_get trips.lanes.items trip)) [
+  | inl none ↦ absurd (not_in_nil l (subst (λ (o : Option Lanes). Contains (labels_in o) l) none is))
+  | inr some ↦
+      let s = stands (slice_index some.0.tags) some.0.times l (subst (λ (o : Option Lanes). Contains (labels_in o) l) some.1 is) in
+      let below = s.below in
+      let long = (trips.tagged trip some.0 some.1).lanes_are.long in
+      omega (arith, below, long)
+]
+
+-- and they are admitted
+pub label_admits : (trips : TripLanes) (trip : ℕ) (l : Label TimeTrips) → Contains (labels_at trips trip) l → Admits trip_rules l.value
+label_admits trips trip l is = elim (option_cases (slice_get trips.lanes.items trip)) [
+  | inl none ↦ absurd (not_in_nil l (subst (λ (o : Option Lanes). Contains (labels_in o) l) none is))
+  | inr some ↦
+      let s = stands (slice_index some.0.tags) some.0.times l (subst (λ (o : Option Lanes). Contains (labels_in o) l) some.1 is) in
+      let below = s.below in
+      let at = s.at in
+      let less = s.less in
+      let are = (trips.tagged trip some.0 some.1).lanes_are in
+      let long = are.long in
+      let time = are.times l.value.trips (omega (arith, below, long)) (omega (arith, at, less)) in
+      and_from (nat_lt l.value.time time_limit) (nat_le l.value.trips 65535) (lt-ltb l.value.time time_limit (omega (arith, time, at)))
+      (le-leb l.value.trips 65535 (omega (arith, below, long)))
+]
+
+-- nothing was missed
+none_missed : {A : Type 0} (trip : ℕ) (values : List TimeTrips) (Excused : A → Type 0) (offer : Spellings → Offer A TimeTrips) (old new : InLanes)
+    → LaneTakes trip values (λ way. Excused way ⊎ ⊥) offer old new → LaneTakes trip values Excused offer old new
+none_missed trip values Excused offer old new taken = record {
+  are = taken.are;
+  stops = taken.stops;
+  writes = taken.writes;
+  other_trips = taken.other_trips;
+  takes = λ walks set_outs before all first_grows then_grows.
+      excused_as trip_rules (λ way. Excused way ⊎ ⊥) Excused (offer (from_to (spelling_of walks before) (spelling_of walks all)))
+      (label_points (labels_at old.trips trip)) (label_points (labels_at new.trips trip)) (λ way opened was. sure was)
+      (taken.takes walks set_outs before all first_grows then_grows);
+}
+
+module _ (q : SetQueryValue) (hop : Hop TimeTrips) (old : InLanes) (can : CanLeaveLanes q hop old) (trips : TripLanes) (exits : Vec LaneExit) where
+  abbrev trip : ℕ
+  trip = hop.connection.trip
+
+  abbrev Tags : ℕ → List ℕ
+  Tags = tags_at old.stops
+
+  abbrev new : InLanes
+  new = record { trips = trips; stops = old.stops; exits = exits; bound = old.bound }
+
+  bag_admitted : (p : Point TimeTrips) → Contains (points_at old.stops hop.connection.to) p → Admits trip_rules p.value
+  bag_admitted p is =
+      points_admitted old.stops.entries.items can.are.at_stops.lists (slice_index old.stops.heads.items hop.connection.to) p
+      (can.are.at_stops.within hop.connection.to) is
+
+  -- an exit more
+  module _ (x : LaneExit) (pushed : exits.items ≡ old.exits.items ++ x ∷ []) (leads : LeadsWithin (entries_of old.stops) x) where
+    each_leads : (k : ℕ) (y : LaneExit) → slice_get exits.items k ≡ Some y → LeadsWithin (entries_of old.stops) y
+    each_leads k y at =
+        let at_pushed : slice_get (old.exits.items ++ x ∷ []) k ≡ Some y = ap (λ xs. slice_get xs k) (sym pushed) ∙ at in
+        let within = slice_get_within exits.items k y at in
+        let long = ap length pushed ∙ length-append old.exits.items (x ∷ []) in
+        elim (cases_lt k (length old.exits.items)) [
+          | inl lt ↦ can.are.exits k y (sym (slice_get-front old.exits.items (x ∷ []) k lt) ∙ at_pushed)
+          | inr ge ↦
+              let last : k ≡ length old.exits.items = omega (arith, within, long, ge) in
+              subst (LeadsWithin (entries_of old.stops))
+              (same_at (old.exits.items ++ x ∷ []) (length old.exits.items) x y (slice_get-last old.exits.items x)
+              (subst (λ n. slice_get (old.exits.items ++ x ∷ []) n ≡ Some y) last at_pushed)) leads
+        ]
+
+    pub still_are : trips_of trips ≡ trips_of old.trips → AreInLanes (stops_of old.stops) (trips_of old.trips) hop.bound.now new
+    still_are long = record {
+      at_stops = can.are.at_stops;
+      stops_are = refl;
+      trips_are = long;
+      exits = each_leads;
+      excludes = can.are.excludes;
+    }
+
+    -- its lanes are spelled
+    module _ (walks : List Footpath) (set_outs : List SetOut) (before all : ScanRecords)
+        (first_grows : Grows before (scan_records (value_of old).exits (value_of old).steps set_outs))
+        (then_grows : Grows (scan_records (value_of new).exits (value_of new).steps set_outs) all) where
+      pub lane_spelled : (first k : ℕ) → first ≡ 8 * length old.exits.items → k < 8
+          → IsExit (from_to (spelling_of walks before) (spelling_of walks all)) (exit_of Tags x k) (first + k)
+      lane_spelled first k first_is lt =
+          let was = scan_records (value_of old).exits (value_of old).steps set_outs in
+          let now = scan_records (value_of new).exits (value_of new).steps set_outs in
+          let more = exits_more Tags old.exits.items exits.items x pushed in
+          let fewer = extends_long before.exits was.exits first_grows.exits in
+          let long = exits_long Tags old.exits.items in
+          exit_spelled_at walks before all (first + k) (exit_of Tags x k)
+          (grows_on before was all first_grows (grows_on was now all (exits_grow was.exits now.exits was.steps set_outs more) then_grows))
+          (stays now.exits all.exits then_grows.exits (first + k) (exit_of Tags x k) (exit_at Tags old.exits.items exits.items x pushed first k first_is lt))
+          (omega (arith, fewer, long, first_is))
+
+  -- to change, by words that stand for points of the stop, but for those missed
+  module _ (entry first : ℕ) (words : List ℕ) (within : entry < entries_of old.stops) (Missed : Point TimeTrips → Type 0)
+      (made_of : (l : Label TimeTrips) → Contains (lane_labels (word_tag (Tags entry)) words) l
+      → (p : Point TimeTrips) × Contains (points_at old.stops hop.connection.to) p × (hop.connection.arr ≤ p.departure) × (p.value ≡ l.value)
+      × (p.tag ≡ l.tag))
+      (betters : (p : Point TimeTrips) → Contains (points_at old.stops hop.connection.to) p → hop.connection.arr ≤ p.departure
+      → IsBeaten (lane_labels (word_tag (Tags entry)) words) p.value ⊎ Missed p) where
+    lowered_but : first ≡ 8 * length old.exits.items → exits.items ≡ old.exits.items ++ ChangesLane hop.place entry ∷ []
+        → TakesAll trip (front_labels old.bound) (lane_labels (λ k. first + k) words) old.trips trips
+        → LaneTakes trip hop.bound.now (λ p. Excludes trip_rules hop.bound.now p.value ⊎ Missed p)
+        (λ tags. changes_from tags hop.place hop.connection.arr (points_at old.stops hop.connection.to)) old new
+    lowered_but first_is pushed takes = record {
+      are = still_are (ChangesLane hop.place entry) pushed within takes.long;
+      stops = refl;
+      writes = record {
+        exits = exits_more Tags old.exits.items exits.items (ChangesLane hop.place entry) pushed;
+        steps = extends_none (steps_of old.stops);
+      };
+      other_trips = takes.elsewhere;
+      takes = λ walks set_outs before all first_grows then_grows.
+          changes_taken words (word_tag (Tags entry)) first hop.connection.arr hop.place (points_at old.stops hop.connection.to)
+          (front_labels old.bound) (labels_at old.trips trip) (labels_at trips trip) hop.bound.now
+          (from_to (spelling_of walks before) (spelling_of walks all)) Missed made_of betters bag_admitted
+          (λ l is. elim (takes.only l is) [
+            | inl was ↦ inl was
+            | inr offered ↦
+                let tagged = (stands (λ k. first + k) words l offered).tagged in
+                inr (
+                  offered,
+                  subst (IsExit (from_to (spelling_of walks before) (spelling_of walks all))
+                      (Changes hop.place (word_tag (Tags entry) l.value.trips))) (sym tagged)
+                      (lane_spelled (ChangesLane hop.place entry) pushed within walks set_outs before all first_grows then_grows first
+                      l.value.trips first_is (few_trips trips trip l is)),
+                )
+          ])
+          takes.kept takes.taken can.are.excludes;
+    }
+
+    none_but : AllBeaten (front_labels old.bound) (labels_at old.trips trip) (lane_labels (λ k. first + k) words)
+        → LaneTakes trip hop.bound.now (λ p. Excludes trip_rules hop.bound.now p.value ⊎ Missed p)
+        (λ tags. changes_from tags hop.place hop.connection.arr (points_at old.stops hop.connection.to)) old old
+    none_but beaten = record {
+      are = can.are;
+      stops = refl;
+      writes = record { exits = extends_none (value_of old).exits; steps = extends_none (value_of old).steps };
+      other_trips = λ k other. refl;
+      takes = λ walks set_outs before all first_grows then_grows.
+          changes_taken words (word_tag (Tags entry)) first hop.connection.arr hop.place (points_at old.stops hop.connection.to)
+          (front_labels old.bound) (labels_at old.trips trip) (labels_at old.trips trip) hop.bound.now
+          (from_to (spelling_of walks before) (spelling_of walks all)) Missed made_of betters bag_admitted (λ l is. inl is)
+          (λ l is. (l, is, no_worse_from l.value l.value (omega arith) (omega arith))) beaten can.are.excludes;
+    }
+
+  -- by the front of an entry
+  module _ (entry first : ℕ) (front : Words) (stands_for : IsFrontFrom old.stops hop.connection.to hop.connection.arr entry)
+      (words : front_at old.stops entry ≡ lane_labels (word_tag (Tags entry)) front.times) where
+    made_of : (l : Label TimeTrips) → Contains (lane_labels (word_tag (Tags entry)) front.times) l
+        → (p : Point TimeTrips) × Contains (points_at old.stops hop.connection.to) p × (hop.connection.arr ≤ p.departure) × (p.value ≡ l.value)
+        × (p.tag ≡ l.tag)
+    made_of l is = stands_for.made_of l (subst (λ (ls : List (Label TimeTrips)). Contains ls l) (sym words) is)
+
+    betters : (p : Point TimeTrips) → Contains (points_at old.stops hop.connection.to) p → hop.connection.arr ≤ p.departure
+        → IsBeaten (lane_labels (word_tag (Tags entry)) front.times) p.value
+    betters p is late = subst (λ (ls : List (Label TimeTrips)). IsBeaten ls p.value) words (stands_for.betters p is late)
+
+    pub change_lowered : first ≡ 8 * length old.exits.items → exits.items ≡ old.exits.items ++ ChangesLane hop.place entry ∷ []
+        → TakesAll trip (front_labels old.bound) (offered_by front first) old.trips trips
+        → LaneTakes trip hop.bound.now (λ p. Excludes trip_rules hop.bound.now p.value)
+        (λ tags. changes_from tags hop.place hop.connection.arr (points_at old.stops hop.connection.to)) old new
+    change_lowered first_is pushed takes =
+        none_missed trip hop.bound.now (λ p. Excludes trip_rules hop.bound.now p.value)
+        (λ tags. changes_from tags hop.place hop.connection.arr (points_at old.stops hop.connection.to)) old new
+        (lowered_but entry first front.times stands_for.within (λ _. ⊥) made_of (λ p is late. inl (betters p is late)) first_is pushed takes)
+
+    pub change_none : AllBeaten (front_labels old.bound) (labels_at old.trips trip) (offered_by front first)
+        → LaneTakes trip hop.bound.now (λ p. Excludes trip_rules hop.bound.now p.value)
+        (λ tags. changes_from tags hop.place hop.connection.arr (points_at old.stops hop.connection.to)) old old
+    change_none beaten =
+        none_missed trip hop.bound.now (λ p. Excludes trip_rules hop.bound.now p.value)
+        (λ tags. changes_from tags hop.place hop.connection.arr (points_at old.stops hop.connection.to)) old old
+        (none_but entry first front.times stands_for.within (λ _. ⊥) made_of (λ p is late. inl (betters p is late)) beaten)
+
+    -- without its value of eight trips
+    module _ (few : Words)
+        (only : (tag : ℕ → ℕ) (l : Label TimeTrips) → Contains (lane_labels tag few.times) l → Contains (lane_labels tag front.times) l × (l.value.trips < 8))
+        (keeps : (tag : ℕ → ℕ) (l : Label TimeTrips) → Contains (lane_labels tag front.times) l → l.value.trips < 8 → Contains (lane_labels tag few.times) l)
+      where
+        few_better : (p : Point TimeTrips) → Contains (points_at old.stops hop.connection.to) p → hop.connection.arr ≤ p.departure
+            → IsBeaten (lane_labels (word_tag (Tags entry)) few.times) p.value ⊎ IsBeatenByEight (front_at old.stops entry) p.value
+        few_better p is late =
+            let b = betters p is late in
+            elim (cases_lt b.0.value.trips 8) [
+              | inl less ↦ inl (b.0, keeps (word_tag (Tags entry)) b.0 b.1 less, b.2)
+              | inr most ↦
+                  let below = (stands (word_tag (Tags entry)) front.times b.0 b.1).below in
+                  let long = front.falls.long in
+                  inr (b.0, subst (λ (ls : List (Label TimeTrips)). Contains ls b.0) (sym words) b.1, omega (arith, most, below, long), b.2)
+            ]
+
+        few_made : (l : Label TimeTrips) → Contains (lane_labels (word_tag (Tags entry)) few.times) l
+            → (p : Point TimeTrips) × Contains (points_at old.stops hop.connection.to) p × (hop.connection.arr ≤ p.departure) × (p.value ≡ l.value)
+            × (p.tag ≡ l.tag)
+        few_made l is = made_of l (only (word_tag (Tags entry)) l is).0
+
+        pub eight_lowered : first ≡ 8 * length old.exits.items → exits.items ≡ old.exits.items ++ ChangesLane hop.place entry ∷ []
+            → TakesAll trip (front_labels old.bound) (offered_by few first) old.trips trips → changes_but_eight hop entry old new
+        eight_lowered = lowered_but entry first few.times stands_for.within (λ p. IsBeatenByEight (front_at old.stops entry) p.value) few_made few_better
+
+        pub eight_none : AllBeaten (front_labels old.bound) (labels_at old.trips trip) (offered_by few first) → changes_but_eight hop entry old old
+        eight_none = none_but entry first few.times stands_for.within (λ p. IsBeatenByEight (front_at old.stops entry) p.value) few_made few_better
+
+started_same : (walk : Option Footpath) (v : TimeTrips) → started trip_rules walk v ≡ v
+started_same None v = refl
+started_same (Some f) v = refl
+
+-- labels take in the one ending that there is
+module _ (q : SetQueryValue) (c : Connection) (way : Option FinalWalk) (place time tag : ℕ) (walk : Option Footpath) (old new : List (Label TimeTrips))
+    (is_ending : IsEnding c q way walk) (time_is : time ≡ c.arr + start_secs walk)
+    (one : (other : Option Footpath) → IsEnding c q way other → other ≡ walk) where
+  pub ends_taken : (spell : Spellings) → ((l : Label TimeTrips) → Contains new l → Contains old l
+      ⊎ (Contains (ending time tag) l × IsExit spell (Ends place walk) l.tag))
+      → ((l : Label TimeTrips) → Contains old l → IsBeaten new l.value) → AllBeaten [] new (ending time tag)
+      → TakesInBut trip_rules (λ _. ⊥) (endings trip_rules spell place c q way) (label_points old) (label_points new)
+  ends_taken spell only kept taken = record {
+    only = λ p h.
+        let l = from_map as_point new p h in
+        elim (only l.0 l.1) [
+          | inl was ↦ inl (subst (Contains (label_points old)) l.2 (into_map as_point old l.0 was))
+          | inr offered ↦ inr (subst (IsOffered (endings trip_rules spell place c q way)) l.2 (record {
+            way = walk;
+            is_open = is_ending;
+            departs = refl;
+            worth = ap (λ (m : Label TimeTrips). m.value) (contains_only (record { value = record { time = time; trips = 0 }; tag = tag }) l.0 offered.0)
+                ∙ ap (λ n. record { time = n; trips = 0 }) time_is ∙ sym (started_same walk (trip_rules.arrive (c.arr + start_secs walk)));
+            fits = offered.1;
+          }))
+        ];
+    kept = λ departure v a covers. kept_covers old new kept departure v covers;
+    covered = λ other opened.
+        let same = one other opened in
+        let ends : Label TimeTrips = record { value = record { time = time; trips = 0 }; tag = tag } in
+        elim (taken ends (contains_first ends [])) [
+          | inl beaten ↦
+              let value : ends.value ≡ started trip_rules other (trip_rules.arrive (c.arr + start_secs other)) =
+              ap (λ n. record { time = n; trips = 0 }) (time_is ∙ ap (λ w. c.arr + start_secs w) (sym same))
+              ∙ sym (started_same other (trip_rules.arrive (c.arr + start_secs other))) in
+              inl (beaten_covers new _ (subst (IsBeaten new) value beaten))
+          | inr outdone ↦ inr (not_in_nil outdone.0 outdone.1)
+        ];
+  }
+
+module _ (q : SetQueryValue) (hop : Hop TimeTrips) (old : InLanes) (can : CanLeaveLanes q hop old) (walk : Option Footpath) (time first : ℕ)
+    (is_ending : IsEnding hop.connection q hop.final_walk walk) (time_is : time ≡ hop.connection.arr + start_secs walk)
+    (one : (other : Option Footpath) → IsEnding hop.connection q hop.final_walk other → other ≡ walk) where
+  pub end_none : AllBeaten [] (labels_at old.trips hop.connection.trip) (ending time first)
+      → LaneTakes hop.connection.trip hop.bound.now (λ _. ⊥) (λ tags. endings trip_rules tags hop.place hop.connection q hop.final_walk) old old
+  end_none beaten = record {
+    are = can.are;
+    stops = refl;
+    writes = record { exits = extends_none (value_of old).exits; steps = extends_none (value_of old).steps };
+    other_trips = λ k other. refl;
+    takes = λ walks set_outs before all first_grows then_grows.
+        ends_taken q hop.connection hop.final_walk hop.place time first walk (labels_at old.trips hop.connection.trip)
+        (labels_at old.trips hop.connection.trip) is_ending time_is one (from_to (spelling_of walks before) (spelling_of walks all)) (λ l is. inl is)
+        (λ l is. (l, is, no_worse_from l.value l.value (omega arith) (omega arith))) beaten;
+  }
+
+  pub end_lowered : (trips : TripLanes) (exits : Vec LaneExit) → first ≡ 8 * length old.exits.items
+      → exits.items ≡ old.exits.items ++ EndsLane hop.place walk ∷ []
+      → TakesAll hop.connection.trip [] (ending time first) old.trips trips
+      → LaneTakes hop.connection.trip hop.bound.now (λ _. ⊥) (λ tags. endings trip_rules tags hop.place hop.connection q hop.final_walk) old
+      (record { trips = trips; stops = old.stops; exits = exits; bound = old.bound })
+  end_lowered trips exits first_is pushed takes =
+      let x = EndsLane hop.place walk in
+      record {
+        are = still_are q hop old can trips exits x pushed tt takes.long;
+        stops = refl;
+        writes = record { exits = exits_more (tags_at old.stops) old.exits.items exits.items x pushed; steps = extends_none (steps_of old.stops) };
+        other_trips = takes.elsewhere;
+        takes = λ walks set_outs before all first_grows then_grows.
+            let tags = from_to (spelling_of walks before) (spelling_of walks all) in
+            ends_taken q hop.connection hop.final_walk hop.place time first walk (labels_at old.trips hop.connection.trip)
+            (labels_at trips hop.connection.trip) is_ending time_is one tags
+            (λ l is. elim (takes.only l is) [
+              | inl was ↦ inl was
+              | inr offered ↦
+                  let tag_is : first + 0 ≡ l.tag = (let e : first + 0 ≡ first = omega arith in e)
+                  ∙ sym (ap (λ (m : Label TimeTrips). m.tag) (contains_only (record { value = record { time = time; trips = 0 }; tag = first }) l offered)) in
+                  inr (
+                    offered,
+                    subst (IsExit tags (Ends hop.place walk)) tag_is
+                        (lane_spelled q hop old can trips exits x pushed tt walks set_outs before all first_grows then_grows first 0 first_is (omega arith)),
+                  )
+            ])
+            takes.kept takes.taken;
+      }
+
+-- the value of an ending is admitted
+pub ending_admits : (q : SetQueryValue) (c : Connection) (way : Option FinalWalk) (walk : Option Footpath) → IsTime q.by → IsEnding c q way walk
+    → Admits trip_rules (started trip_rules walk (trip_rules.arrive (c.arr + start_secs walk)))
+ending_admits q c None walk by ends = absurd ends
+ending_admits q c (Some way) None by ends =
+    and_from (nat_lt (c.arr + 0) time_limit) (nat_le 0 65535) (lt-ltb (c.arr + 0) time_limit (omega (arith, by, ends.1))) (le-leb 0 65535 (omega arith))
+ending_admits q c (Some way) (Some f) by ends =
+    and_from (nat_lt (c.arr + f.secs) time_limit) (nat_le 0 65535) (lt-ltb (c.arr + f.secs) time_limit (omega (arith, by, ends.2)))
+    (le-leb 0 65535 (omega arith))

@@ -1,0 +1,236 @@
+-- Lists side by side, and changes taken in one after another.
+use Rattle.std.proofs.Common.{◌≡◌, ◌⊎◌, ℕ, ◌+◌, ◌≤◌, true, List, ◌++◌, Contains, Option, Some, slice_get, inl, inr, sym, subst, arith}
+use Rattle.std.proofs.lemmas.List.Elements.{Contains-append_left, Contains-append_right, Contains-append_cases}
+use Rattle.criteria.specs.Laws.{Rules, Admits, NoWorse}
+use Rattle.criteria.specs.declared.arrival_trips.TimeTrips.{TimeTrips}
+use Rattle.bags.specs.declared.point.Point.{Point}
+use Rattle.timetable.specs.declared.network.Connection.{Connection}
+use Rattle.timetable.specs.declared.network.Footpath.{Footpath}
+use Rattle.timetable.specs.Journeys.{start_secs}
+use Rattle.timetable.specs.TimetableValue.{TimetableValue}
+use Rattle.lanes.specs.Lanes.{trip_rules}
+use Rattle.profile_scan.specs.SetQuery.{SetQueryValue}
+use Rattle.profile_scan.specs.Values.{started}
+use Rattle.profile_scan.specs.Points.{Covers}
+use Rattle.profile_scan.specs.Matching.{Spellings}
+use Rattle.profile_scan.specs.Steps.{Boarding, MayBoard, Offer, TakesInBut, boardings}
+use Rattle.profile_scan.specs.Adding.{IsEnding, NoChange, StandsBefore, changes_from, each_of, endings, endings_and_changes, one_way, only_if}
+use Rattle.profile_scan.specs.ScanRecords.{IsExit}
+use Rattle.profile_scan.specs.declared.final_walks.FinalWalk.{FinalWalk}
+use Rattle.profile_scan.specs.declared.scan_records.Exit.TheVariants.{Changes}
+use Rattle.profile_scan.proofs.LaneOffers.{covers_trans}
+use Rattle.profile_scan.proofs.Offers.{stands_in, stands_split}
+
+module _ {V : Type 0} (rules : Rules V) where
+  pub covers_front : (xs ys : List (Point V)) (departure : ℕ) (v : V) → Covers rules xs departure v → Covers rules (xs ++ ys) departure v
+  covers_front xs ys departure v c = (c.0, Contains-append_left xs ys c.0 c.1, c.2, c.3)
+
+  pub covers_rear : (xs ys : List (Point V)) (departure : ℕ) (v : V) → Covers rules ys departure v → Covers rules (xs ++ ys) departure v
+  covers_rear xs ys departure v c = (c.0, Contains-append_right xs ys c.0 c.1, c.2, c.3)
+
+  pub covers_cases : (xs ys : List (Point V)) (departure : ℕ) (v : V) → Covers rules (xs ++ ys) departure v
+      → Covers rules xs departure v ⊎ Covers rules ys departure v
+  covers_cases xs ys departure v c = elim (Contains-append_cases xs ys c.0 c.1) [
+    | inl is ↦ inl (c.0, is, c.2, c.3)
+    | inr is ↦ inr (c.0, is, c.2, c.3)
+  ]
+
+  -- the first of two lists takes an offer in
+  pub front_takes : {A : Type 0} (Excused : A → Type 0) (offer : Offer A V) (old new rest : List (Point V)) → TakesInBut rules Excused offer old new
+      → TakesInBut rules Excused offer (old ++ rest) (new ++ rest)
+  front_takes Excused offer old new rest takes = record {
+    only = λ p h. elim (Contains-append_cases new rest p h) [
+      | inl is ↦ elim (takes.only p is) [ inl was ↦ inl (Contains-append_left old rest p was) | inr o ↦ inr o ]
+      | inr is ↦ inl (Contains-append_right old rest p is)
+    ];
+    kept = λ d v a c. elim (covers_cases old rest d v c) [
+      | inl first ↦ covers_front new rest d v (takes.kept d v a first)
+      | inr second ↦ covers_rear new rest d v second
+    ];
+    covered = λ way opened. elim (takes.covered way opened) [
+      | inl c ↦ inl (covers_front new rest (offer.departure way) (offer.value way) c)
+      | inr excused ↦ inr excused
+    ];
+  }
+
+  -- the second does
+  pub rear_takes : {A : Type 0} (Excused : A → Type 0) (offer : Offer A V) (first old new : List (Point V)) → TakesInBut rules Excused offer old new
+      → TakesInBut rules Excused offer (first ++ old) (first ++ new)
+  rear_takes Excused offer first old new takes = record {
+    only = λ p h. elim (Contains-append_cases first new p h) [
+      | inl is ↦ inl (Contains-append_left first old p is)
+      | inr is ↦ elim (takes.only p is) [ inl was ↦ inl (Contains-append_right first old p was) | inr o ↦ inr o ]
+    ];
+    kept = λ d v a c. elim (covers_cases first old d v c) [
+      | inl front ↦ covers_front first new d v front
+      | inr rear ↦ covers_rear first new d v (takes.kept d v a rear)
+    ];
+    covered = λ way opened. elim (takes.covered way opened) [
+      | inl c ↦ inl (covers_rear first new (offer.departure way) (offer.value way) c)
+      | inr excused ↦ inr excused
+    ];
+  }
+
+  -- changes to the points of two lists
+  pub changes_both : (Excused : Point V → Type 0) (tags : Spellings) (i time : ℕ) (xs ys old mid new : List (Point V))
+      → ((p : Point V) → Contains xs p → Admits rules p.value) → TakesInBut rules Excused (changes_from tags i time xs) old mid
+      → TakesInBut rules Excused (changes_from tags i time ys) mid new → TakesInBut rules Excused (changes_from tags i time (xs ++ ys)) old new
+  changes_both Excused tags i time xs ys old mid new admitted first second = record {
+    only = λ p h. elim (second.only p h) [
+      | inl in_mid ↦ elim (first.only p in_mid) [
+        | inl in_old ↦ inl in_old
+        | inr o ↦ inr (record {
+          way = o.way;
+          is_open = (Contains-append_left xs ys o.way o.is_open.0, o.is_open.1);
+          departs = o.departs;
+          worth = o.worth;
+          fits = o.fits;
+        })
+      ]
+      | inr o ↦ inr (record {
+        way = o.way;
+        is_open = (Contains-append_right xs ys o.way o.is_open.0, o.is_open.1);
+        departs = o.departs;
+        worth = o.worth;
+        fits = o.fits;
+      })
+    ];
+    kept = λ d v a c. second.kept d v a (first.kept d v a c);
+    covered = λ p opened. elim (Contains-append_cases xs ys p opened.0) [
+      | inl is ↦ elim (first.covered p (is, opened.1)) [ inl c ↦ inl (second.kept 0 p.value (admitted p is) c) | inr excused ↦ inr excused ]
+      | inr is ↦ second.covered p (is, opened.1)
+    ];
+  }
+
+-- what was missed is no better than a point that is offered then
+pub with_missed : (Excused Missed : Point TimeTrips → Type 0) (tags : Spellings) (i time : ℕ) (xs old mid new : List (Point TimeTrips))
+    → ((p : Point TimeTrips) → Contains xs p → Admits trip_rules p.value) → (q : Point TimeTrips) → Contains xs q → time ≤ q.departure
+    → ((p : Point TimeTrips) → Missed p → NoWorse trip_rules q.value p.value)
+    → TakesInBut trip_rules (λ p. Excused p ⊎ Missed p) (changes_from tags i time xs) old mid
+    → TakesInBut trip_rules (λ _. ⊥) (one_way 0 q.value (IsExit tags (Changes i q.tag))) mid new
+    → TakesInBut trip_rules Excused (changes_from tags i time xs) old new
+with_missed Excused Missed tags i time xs old mid new admitted q is late better first second = record {
+  only = λ p h. elim (second.only p h) [
+    | inl in_mid ↦ first.only p in_mid
+    | inr o ↦ inr (record { way = q; is_open = (is, late); departs = o.departs; worth = o.worth; fits = o.fits })
+  ];
+  kept = λ d v a c. second.kept d v a (first.kept d v a c);
+  covered = λ p opened. elim (first.covered p opened) [
+    | inl c ↦ inl (second.kept 0 p.value (admitted p opened.0) c)
+    | inr not_covered ↦ elim not_covered [
+      | inl excused ↦ inr excused
+      | inr missed ↦ elim (second.covered tt tt) [
+        | inl c ↦ inl (c.0, c.1, c.2, covers_trans c.0.value q.value p.value c.3 (better p missed))
+        | inr none ↦ absurd none
+      ]
+    ]
+  ];
+}
+
+-- each way to leave is covered, or excused
+covered_either : (q : SetQueryValue) (place : ℕ) (c : Connection) (way : Option FinalWalk) (Excused : TimeTrips → Type 0) (tags : Spellings)
+    (bag new : List (Point TimeTrips))
+    → ((walk : Option Footpath) → IsEnding c q way walk
+    → Covers trip_rules new 0 (started trip_rules walk (trip_rules.arrive (c.arr + start_secs walk))))
+    → ((p : Point TimeTrips) → Contains bag p × (c.arr ≤ p.departure) → Covers trip_rules new 0 p.value ⊎ Excused p.value)
+    → (w : Option Footpath ⊎ Point TimeTrips) → (only_if (c.alight ≡ true) (endings_and_changes trip_rules tags place c q way bag)).is_open w
+    → Covers trip_rules new ((only_if (c.alight ≡ true) (endings_and_changes trip_rules tags place c q way bag)).departure w)
+    ((only_if (c.alight ≡ true) (endings_and_changes trip_rules tags place c q way bag)).value w) ⊎ NoChange Excused w
+covered_either q place c way Excused tags bag new ends changes (inl walk) opened = inl (ends walk opened.1)
+covered_either q place c way Excused tags bag new ends changes (inr p) opened = changes p opened.1
+
+-- to end, and then to change
+pub ends_and_changes : (q : SetQueryValue) (place : ℕ) (c : Connection) (way : Option FinalWalk) (Excused : TimeTrips → Type 0) (tags : Spellings)
+    (bag old mid new : List (Point TimeTrips))
+    → ((walk : Option Footpath) → IsEnding c q way walk → Admits trip_rules (started trip_rules walk (trip_rules.arrive (c.arr + start_secs walk))))
+    → c.alight ≡ true → TakesInBut trip_rules (λ _. ⊥) (endings trip_rules tags place c q way) old mid
+    → TakesInBut trip_rules (λ p. Excused p.value) (changes_from tags place c.arr bag) mid new
+    → TakesInBut trip_rules (NoChange Excused) (only_if (c.alight ≡ true) (endings_and_changes trip_rules tags place c q way bag)) old new
+ends_and_changes q place c way Excused tags bag old mid new admits alights first second = record {
+  only = λ p h. elim (second.only p h) [
+    | inl in_mid ↦ elim (first.only p in_mid) [
+      | inl in_old ↦ inl in_old
+      | inr o ↦ inr (record { way = inl o.way; is_open = (alights, o.is_open); departs = o.departs; worth = o.worth; fits = o.fits })
+    ]
+    | inr o ↦ inr (record { way = inr o.way; is_open = (alights, o.is_open); departs = o.departs; worth = o.worth; fits = o.fits })
+  ];
+  kept = λ d v a cover. second.kept d v a (first.kept d v a cover);
+  covered = covered_either q place c way Excused tags bag new
+      (λ walk opened. elim (first.covered walk opened) [
+        | inl cover ↦ second.kept 0 _ (admits walk opened) cover
+        | inr none ↦ absurd none
+      ]) second.covered;
+}
+
+-- one element more, with an excuse of its own
+pub each_more : {V X A : Type 0} (rules : Rules V) (points : List X) (offer : X → Offer A V) (Excused : X → Type 0) (n : ℕ) (x : X)
+    (old mid new : List (Point V)) → slice_get points n ≡ Some x
+    → ((y : X) (way : A) → Contains points y → (offer y).is_open way → Admits rules ((offer y).value way))
+    → TakesInBut rules (λ way. Excused way.0) (each_of (StandsBefore points n) offer) old mid
+    → TakesInBut rules (λ _. Excused x) (offer x) mid new
+    → TakesInBut rules (λ way. Excused way.0) (each_of (StandsBefore points (n + 1)) offer) old new
+each_more {V} {X} rules points offer Excused n x old mid new at admits before here = record {
+  only = λ p h. elim (here.only p h) [
+    | inl in_mid ↦ elim (before.only p in_mid) [
+      | inl in_old ↦ inl in_old
+      | inr o ↦
+          let s = o.is_open.0 in
+          inr (record { way = o.way; is_open = ((s.0, omega (arith, s.1), s.2), o.is_open.1); departs = o.departs; worth = o.worth; fits = o.fits })
+    ]
+    | inr o ↦ inr (record { way = (x, o.way); is_open = ((n, omega arith, at), o.is_open); departs = o.departs; worth = o.worth; fits = o.fits })
+  ];
+  kept = λ d v a c. here.kept d v a (before.kept d v a c);
+  covered = λ way opened. elim (stands_split points n x way.0 at opened.0) [
+    | inl was ↦ elim (before.covered way (was, opened.1)) [
+      | inl c ↦
+          inl (here.kept ((offer way.0).departure way.1) ((offer way.0).value way.1) (admits way.0 way.1 (stands_in points n way.0 was) opened.1) c)
+      | inr excused ↦ inr excused
+    ]
+    | inr same ↦ elim (here.covered way.1 (subst (λ (y : X). (offer y).is_open way.1) same opened.1)) [
+      | inl c ↦ inl (subst (λ (y : X). Covers rules new ((offer y).departure way.1) ((offer y).value way.1)) (sym same) c)
+      | inr excused ↦ inr (subst Excused (sym same) excused)
+    ]
+  ];
+}
+
+-- one may board as before with a label that is there
+may : {V : Type 0} (t : TimetableValue) (i stop : ℕ) (way : Boarding V) (labels others : List (Point V)) → MayBoard t i stop others way
+    → Contains labels way.label → MayBoard t i stop labels way
+may t i stop way labels others m is =
+    record { boards = m.boards; is_footpath = m.is_footpath; leaves = m.leaves; leads = m.leads; fits = m.fits; is_label = is }
+
+-- boardings with the labels of two lists
+pub boardings_both : {V : Type 0} (rules : Rules V) (t : TimetableValue) (Excused : V → Type 0) (tags : Spellings) (i stop : ℕ)
+    (xs ys old mid new : List (Point V))
+    → ((way : Boarding V) → MayBoard t i stop xs way → Admits rules (rules.walk way.walk.secs (rules.ride way.label.value)))
+    → TakesInBut rules (λ way. Excused way.label.value) (boardings rules t tags i stop xs) old mid
+    → TakesInBut rules (λ way. Excused way.label.value) (boardings rules t tags i stop ys) mid new
+    → TakesInBut rules (λ way. Excused way.label.value) (boardings rules t tags i stop (xs ++ ys)) old new
+boardings_both rules t Excused tags i stop xs ys old mid new admits first second = record {
+  only = λ p h. elim (second.only p h) [
+    | inl in_mid ↦ elim (first.only p in_mid) [
+      | inl in_old ↦ inl in_old
+      | inr o ↦ inr (record {
+        way = o.way;
+        is_open = may t i stop o.way (xs ++ ys) xs o.is_open (Contains-append_left xs ys o.way.label o.is_open.is_label);
+        departs = o.departs;
+        worth = o.worth;
+        fits = o.fits;
+      })
+    ]
+    | inr o ↦ inr (record {
+      way = o.way;
+      is_open = may t i stop o.way (xs ++ ys) ys o.is_open (Contains-append_right xs ys o.way.label o.is_open.is_label);
+      departs = o.departs;
+      worth = o.worth;
+      fits = o.fits;
+    })
+  ];
+  kept = λ d v a c. second.kept d v a (first.kept d v a c);
+  covered = λ way opened. elim (Contains-append_cases xs ys way.label opened.is_label) [
+    | inl is ↦
+        let m = may t i stop way xs (xs ++ ys) opened is in
+        elim (first.covered way m) [ inl c ↦ inl (second.kept _ _ (admits way m) c) | inr excused ↦ inr excused ]
+    | inr is ↦ second.covered way (may t i stop way ys (xs ++ ys) opened is)
+  ];
+}

@@ -1,0 +1,21 @@
+use Rattle.std.proofs.Common.{◌≡◌, ◌++◌, sym, ap, ◌∙◌, subst, append-nil}
+use Rattle.std.proofs.Common.{OnOk, List}
+use Rattle.bags.specs.declared.point.Point.{Point}
+use Rattle.criteria.specs.declared.arrival_trips.TimeTrips.{TimeTrips}
+use Rattle.profile_scan.specs.ByTrips.{bag_points}
+use Rattle.profile_scan.specs.TakenByTrips.{point_labels}
+use Rattle.profile_scan.proofs.ByTripsTaken.{bag_at, no_bag}
+use Rattle.profile_scan.proofs.by_trips_taking.add_labels.Goals as goal
+
+pub returns-in-None : goal.returns-in-None
+returns-in-None c =
+    let old = c.args.labels.now.items in
+    sym (append-nil old)
+    ∙ ap (λ o. old ++ point_labels (bag_points o)) (sym (no_bag c.args.bags.now c.args.k c.in-None.ensures.lookup.3))
+
+pub returns-in-Some : goal.returns-in-Some
+returns-in-Some c =
+    let old = c.args.labels.now.items in
+    let there = bag_at c.args.bags.now c.args.k c.in-Some.bag.now c.in-Some.ensures.lookup.3.0 c.in-Some.ensures.lookup.1 in
+    subst (λ (points : List (Point TimeTrips)). OnOk c.add_points.result (c.add_points.new.labels.items ≡ old ++ point_labels points))
+    (sym (ap bag_points there)) c.add_points.ensures

@@ -1,0 +1,156 @@
+-- What lanes keep of trips and stops.
+use Rattle.std.specs.Prelude.{◌≡◌, ◌≢◌, ◌⊎◌, ℕ, ◌<◌, List, [], ◌∷◌, Bool, MatchBool, slice_get, Some, Contains}
+use Rattle.criteria.specs.Laws.{Admits, NoWorse}
+use Rattle.criteria.specs.declared.arrival_trips.TimeTrips.{TimeTrips}
+use Rattle.timetable.specs.declared.network.Footpath.{Footpath}
+use Rattle.timetable.specs.TimetableValue.{TimetableValue}
+use Rattle.fronts.specs.declared.labels.Label.{Label}
+use Rattle.lanes.specs.Lanes.{trip_rules, IsOutdone}
+use Rattle.lanes.specs.LaneLists.{word_tag}
+use Rattle.lanes.specs.TripLanes.{front_labels, labels_at, trips_of}
+use Rattle.lanes.specs.StopLanes.{AreStopLanes, entries_of, front_at, points_at, steps_of, stops_of, tags_at}
+use Rattle.profile_scan.specs.SetQuery.{SetQueryValue}
+use Rattle.profile_scan.specs.Matching.{Spellings, from_to}
+use Rattle.profile_scan.specs.Steps.{Offer, TakesInBut, boardings}
+use Rattle.profile_scan.specs.Bound.{Excludes}
+use Rattle.profile_scan.specs.Adding.{AreWalksInto, StandsBetween, boardings_by, changes_from, each_of, endings, label_points}
+use Rattle.profile_scan.specs.ScanRecords.{KeptValue, ScanRecords, Grows, scan_records, spelling_of}
+use Rattle.profile_scan.specs.Hops.{IsHop, IsHopOf}
+use Rattle.profile_scan.specs.Keeping.{WritesOn}
+use Rattle.profile_scan.specs.declared.hop.Hop.{Hop}
+use Rattle.profile_scan.specs.declared.in_lanes.InLanes.{InLanes}
+use Rattle.profile_scan.specs.declared.in_lanes.LaneExit.{LaneExit}
+use Rattle.profile_scan.specs.declared.in_lanes.LaneExit.TheVariants.{Ends as EndsLane, Changes as ChangesLane, Goes as GoesBy}
+use Rattle.profile_scan.specs.declared.scan_records.Exit.{Exit}
+use Rattle.profile_scan.specs.declared.scan_records.Exit.TheVariants.{Ends, Changes}
+use Rattle.profile_scan.specs.declared.scan_records.SetOut.{SetOut}
+use Rattle.profile_scan.specs.declared.starts.Starts.{Starts}
+
+-- the exit of a label of k trips, given the tags of entries
+abbrev pub exit_of : (ℕ → List ℕ) → LaneExit → ℕ → Exit
+exit_of tags (EndsLane last walk) k = Ends last walk
+exit_of tags (ChangesLane last entry) k = Changes last (word_tag (tags entry) k)
+exit_of tags (GoesBy last step) k = Changes last step
+
+-- eight exits of each
+abbrev pub exits_in : (ℕ → List ℕ) → List LaneExit → List Exit
+exits_in tags [] = []
+exits_in tags (x ∷ xs) =
+    exit_of tags x 0 ∷ exit_of tags x 1 ∷ exit_of tags x 2 ∷ exit_of tags x 3 ∷ exit_of tags x 4 ∷ exit_of tags x 5 ∷ exit_of tags x 6
+    ∷ exit_of tags x 7 ∷ exits_in tags xs
+
+abbrev pub value_of : InLanes → KeptValue TimeTrips
+value_of lanes = record {
+  bag = points_at lanes.stops;
+  labels = λ trip. label_points (labels_at lanes.trips trip);
+  exits = exits_in (tags_at lanes.stops) lanes.exits.items;
+  steps = steps_of lanes.stops;
+}
+
+-- an exit to change names an entry
+abbrev pub LeadsWithin : ℕ → LaneExit → Type 0
+LeadsWithin entries (EndsLane last walk) = Unit {0}
+LeadsWithin entries (ChangesLane last entry) = entry < entries
+LeadsWithin entries (GoesBy last step) = Unit {0}
+
+-- lanes for `stops` stops and `trips` trips; what their bound outdoes, these values exclude
+pub record AreInLanes (stops trips : ℕ) (values : List TimeTrips) (lanes : InLanes) : Type 0 where
+  pub at_stops : AreStopLanes lanes.stops
+  pub stops_are : stops_of lanes.stops ≡ stops
+  pub trips_are : trips_of lanes.trips ≡ trips
+  pub exits : (k : ℕ) (x : LaneExit) → slice_get lanes.exits.items k ≡ Some x → LeadsWithin (entries_of lanes.stops) x
+  pub excludes : (v : TimeTrips) → Admits trip_rules v → IsOutdone (front_labels lanes.bound) v → Excludes trip_rules values v
+
+-- a hop's trip may be left, and its stop has points
+pub record CanLeaveLanes (q : SetQueryValue) (here : Hop TimeTrips) (lanes : InLanes) : Type 0 where
+  pub hop : IsHop trip_rules q here
+  pub are : AreInLanes (stops_of lanes.stops) (trips_of lanes.trips) here.bound.now lanes
+  pub trip : here.connection.trip < trips_of lanes.trips
+  pub stop : here.connection.to < stops_of lanes.stops
+
+-- the labels of one trip take an offer in but for what is excused; all else stays, and exits are only added
+pub record LaneTakes {A : Type 0} (trip : ℕ) (values : List TimeTrips) (Excused : A → Type 0) (offer : Spellings → Offer A TimeTrips) (old new : InLanes)
+    : Type 0 where
+  pub are : AreInLanes (stops_of old.stops) (trips_of old.trips) values new
+  pub stops : new.stops ≡ old.stops
+  pub writes : WritesOn (value_of old) (value_of new)
+  pub other_trips : (k : ℕ) → k ≢ trip → labels_at new.trips k ≡ labels_at old.trips k
+  pub takes : (walks : List Footpath) (set_outs : List SetOut) (before all : ScanRecords)
+      → Grows before (scan_records (value_of old).exits (value_of old).steps set_outs)
+      → Grows (scan_records (value_of new).exits (value_of new).steps set_outs) all
+      → TakesInBut trip_rules Excused (offer (from_to (spelling_of walks before) (spelling_of walks all)))
+      (label_points (labels_at old.trips trip)) (label_points (labels_at new.trips trip))
+
+-- passengers may board with the labels of the hop's trip after a footpath
+pub record CanBoardLanes (here : Hop TimeTrips) (walk : Footpath) (lanes : InLanes) : Type 0 where
+  pub are : AreInLanes (stops_of lanes.stops) (trips_of lanes.trips) here.bound.now lanes
+  pub trip : here.connection.trip < trips_of lanes.trips
+  pub stop : walk.from < stops_of lanes.stops
+
+-- the points of each stop take in what that offers them, but for labels that the bound excludes; labels stay, and exits and steps are only added
+pub record LaneBoards (hop : Hop TimeTrips) (walk_index : ℕ) (walk : Footpath) (old new : InLanes) : Type 0 where
+  pub are : AreInLanes (stops_of old.stops) (trips_of old.trips) hop.bound.now new
+  pub trips : new.trips ≡ old.trips
+  pub writes : WritesOn (value_of old) (value_of new)
+  pub takes : (walks : List Footpath) → slice_get walks walk_index ≡ Some walk → (stop : ℕ) (set_outs : List SetOut) (before all : ScanRecords)
+      → Grows before (scan_records (value_of old).exits (value_of old).steps set_outs)
+      → Grows (scan_records (value_of new).exits (value_of new).steps set_outs) all
+      → TakesInBut trip_rules (λ l. Excludes trip_rules hop.bound.now l.value)
+      (boardings_by trip_rules (from_to (spelling_of walks before) (spelling_of walks all)) hop.place hop.connection stop
+      (label_points (labels_at old.trips hop.connection.trip)) walk) (points_at old.stops stop) (points_at new.stops stop)
+
+-- the same after each of the footpaths at the indices `begin..end`, which lead to the stop where the connection begins
+pub record CanBoardLanesEach (t : TimetableValue) (begin end : ℕ) (here : Hop TimeTrips) (lanes : InLanes) : Type 0 where
+  pub walks : AreWalksInto t here.connection.from begin end
+  pub are : AreInLanes t.stops t.trips here.bound.now lanes
+  pub trip : here.connection.trip < t.trips
+
+pub record LaneBoardsEach (t : TimetableValue) (begin end : ℕ) (hop : Hop TimeTrips) (old new : InLanes) : Type 0 where
+  pub are : AreInLanes t.stops t.trips hop.bound.now new
+  pub trips : new.trips ≡ old.trips
+  pub writes : WritesOn (value_of old) (value_of new)
+  pub takes : (stop : ℕ) (set_outs : List SetOut) (before all : ScanRecords)
+      → Grows before (scan_records (value_of old).exits (value_of old).steps set_outs)
+      → Grows (scan_records (value_of new).exits (value_of new).steps set_outs) all
+      → TakesInBut trip_rules (λ way. Excludes trip_rules hop.bound.now way.1.value)
+      (each_of (StandsBetween t.footpaths begin end) (boardings_by trip_rules (from_to (spelling_of t.footpaths before) (spelling_of t.footpaths all)) hop.place
+      hop.connection stop (label_points (labels_at old.trips hop.connection.trip)))) (points_at old.stops stop) (points_at new.stops stop)
+
+-- passengers may board the connection of a hop
+pub record CanBoardHop (t : TimetableValue) (query : SetQueryValue) (known : Starts) (here : Hop TimeTrips) (lanes : InLanes) : Type 0 where
+  pub hop : IsHopOf trip_rules t query known here
+  pub are : AreInLanes t.stops t.trips here.bound.now lanes
+
+-- the points of each stop take the boardings in, but for labels that the bound excludes; labels stay, and exits and steps are only added
+pub record LaneBoardsHop (t : TimetableValue) (hop : Hop TimeTrips) (old new : InLanes) : Type 0 where
+  pub are : AreInLanes t.stops t.trips hop.bound.now new
+  pub trips : new.trips ≡ old.trips
+  pub writes : WritesOn (value_of old) (value_of new)
+  pub takes : (stop : ℕ) (set_outs : List SetOut) (before all : ScanRecords)
+      → Grows before (scan_records (value_of old).exits (value_of old).steps set_outs)
+      → Grows (scan_records (value_of new).exits (value_of new).steps set_outs) all
+      → TakesInBut trip_rules (λ way. Excludes trip_rules hop.bound.now way.label.value)
+      (boardings trip_rules t (from_to (spelling_of t.footpaths before) (spelling_of t.footpaths all)) hop.place stop
+      (label_points (labels_at old.trips hop.connection.trip))) (points_at old.stops stop) (points_at new.stops stop)
+
+-- one of some labels has eight trips, and is no worse than v
+abbrev pub IsBeatenByEight : List (Label TimeTrips) → TimeTrips → Type 0
+IsBeatenByEight labels v = (l : Label TimeTrips) × Contains labels l × (l.value.trips ≡ 8) × NoWorse trip_rules l.value v
+
+abbrev pub ends_in_lanes : SetQueryValue → Hop TimeTrips → InLanes → InLanes → Type 0
+ends_in_lanes q hop old new =
+    LaneTakes hop.connection.trip hop.bound.now (λ _. ⊥) (λ tags. endings trip_rules tags hop.place hop.connection q hop.final_walk) old new
+
+abbrev pub changes_in_lanes : Hop TimeTrips → Bool → InLanes → InLanes → Type 0
+changes_in_lanes hop changed old new =
+    MatchBool changed
+    (LaneTakes hop.connection.trip hop.bound.now (λ p. Excludes trip_rules hop.bound.now p.value)
+    (λ tags. changes_from tags hop.place hop.connection.arr (points_at old.stops hop.connection.to)) old new)
+    (new ≡ old)
+
+-- changes are offered but for those that a value of eight trips outdoes, of the front of an entry
+abbrev pub changes_but_eight : Hop TimeTrips → ℕ → InLanes → InLanes → Type 0
+changes_but_eight hop entry old new =
+    LaneTakes hop.connection.trip hop.bound.now
+    (λ p. Excludes trip_rules hop.bound.now p.value ⊎ IsBeatenByEight (front_at old.stops entry) p.value)
+    (λ tags. changes_from tags hop.place hop.connection.arr (points_at old.stops hop.connection.to)) old new
