@@ -1,5 +1,6 @@
 -- What a seat knows only grows.
-use Rattle.std.proofs.Common.{◌≡◌, ℕ, zero, suc, List, [], ◌∷◌, ◌++◌, Option, None, Some, slice_get, sym, ap, ◌∙◌, subst, append_assoc}
+use Rattle.std.proofs.Common.{◌≡◌, ℕ, zero, suc, List, [], ◌∷◌, ◌++◌, Option, None, Some, slice_get, sym, ap, ◌∙◌, subst, append_assoc, append-nil}
+use Rattle.std.proofs.lemmas.List.Elements.{All-append, All-cons, All-nil}
 use mathlib.Core.List.{IsPrefix}
 use Rattle.image_layout.specs.Image.{ImageValue}
 use Rattle.version_core.specs.declared.event.Event.{Event}
@@ -9,7 +10,7 @@ use Rattle.shelf_steps.specs.declared.views.View.{View}
 use Rattle.shelf_steps.specs.EventHistory.{Happened, image_of}
 use Rattle.shelf_steps.proofs.Courses.{prefix_same, prefix_trans}
 use Rattle.reasoning.proofs.ListLemmas.{slice_get-append}
-use Rattle.epochs.specs.SeatHistory.{Grows, GrowthsJoin, OneImageEach, PublishedStay}
+use Rattle.epochs.specs.SeatHistory.{Grows, GrowthsJoin, LearnsBy, OneImageEach, PublishedStay}
 use Rattle.shelf_steps.specs.Events.{known_of}
 
 pub grows_same : (k : KnownHistory) → Grows k k
@@ -47,3 +48,25 @@ image_in i (Some x) = x
 pub one_image_each : OneImageEach
 one_image_each a b version image other grows is then =
     ap (λ (o : Option ImageValue). image_in image o) (sym then ∙ published_stay a b version image grows is)
+
+module _ {A : Type 0} (tells : KnownHistory → A → Type 0) where
+  -- nothing was answered
+  pub learns_nothing : (k later : KnownHistory) (answers : List A) → Grows k later → LearnsBy tells k answers later answers
+  learns_nothing k later answers grows = record { grows = grows; answers = []; answers_are = sym (append-nil answers); published = All-nil (tells later) }
+
+  -- and one behind the other, where what an answer tells stays so
+  pub learns_both : ((k later : KnownHistory) (answer : A) → Grows k later → tells k answer → tells later answer)
+      → (k l n : KnownHistory) (before between after : List A) → LearnsBy tells k before l between → LearnsBy tells l between n after
+      → LearnsBy tells k before n after
+  learns_both stays k l n before between after p q = record {
+    grows = growths_join k l n p.grows q.grows;
+    answers = p.answers ++ q.answers;
+    answers_are = q.answers_are ∙ ap (λ (xs : List A). xs ++ q.answers) p.answers_are ∙ append_assoc before p.answers q.answers;
+    published = All-append (tells n) p.answers q.answers (λ i d below. stays l n _ q.grows (p.published i d below)) q.published;
+  }
+
+  -- one answer
+  pub learns_one : (k l : KnownHistory) (before after : List A) (answer : A) → Grows k l → after ≡ before ++ answer ∷ [] → tells l answer
+      → LearnsBy tells k before l after
+  learns_one k l before after answer grows is told =
+      record { grows = grows; answers = answer ∷ []; answers_are = is; published = All-cons (tells l) answer [] told (All-nil (tells l)) }

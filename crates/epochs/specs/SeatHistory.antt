@@ -1,5 +1,5 @@
 -- What a seat knows of the one history of its shelves: the events so far with their replies, and the image of each version.
-use Rattle.std.specs.Prelude.{◌≡◌, ◌≢◌, ℕ, ◌<◌, ◌⊎◌, List, [], ◌∷◌, ◌++◌, true, slice_get, Option, Some, None, IfSome, Result, Ok, Err}
+use Rattle.std.specs.Prelude.{◌≡◌, ◌≢◌, ℕ, ◌<◌, ◌⊎◌, List, [], ◌∷◌, ◌++◌, All, true, slice_get, Option, Some, None, IfSome, Result, Ok, Err}
 use mathlib.Core.List.{IsPrefix}
 use Rattle.image_layout.specs.Image.{ImageValue}
 use Rattle.version_core.specs.declared.event.Event.{Event}
@@ -22,6 +22,14 @@ pub record Grows (before after : KnownHistory) : Type 0 where
   pub events : IsPrefix before.events after.events
   pub replies : IsPrefix before.replies after.replies
   pub images : IsPrefix before.images after.images
+
+-- what a seat knows has grown while it was answered, and what each answer tells is so in what it knows then
+pub record LearnsBy {A : Type 0} (tells : KnownHistory → A → Type 0) (known : KnownHistory) (before : List A) (known_then : KnownHistory) (after : List A)
+    : Type 0 where
+  pub grows : Grows known known_then
+  pub answers : List A
+  pub answers_are : after ≡ before ++ answers
+  pub published : All (tells known_then) answers
 
 -- in this history the worker with this number holds the version, and the image is the one that was published as it
 pub record HoldsIn (known : KnownHistory) (number version : ℕ) (image : ImageValue) : Type 0 where

@@ -14,7 +14,8 @@ pub struct ReadFailed;
 #[derive(Clone, Copy, Debug, PartialEq, Eq)]
 pub struct WriteFailed;
 
-/// A reader. That a call of it failed can be told only after such a call, and that none did only if none did.
+/// A reader. Code that is generic over readers doesn't know what `words` says of calls: that a read failed, or that
+/// none did, is proved only of the reads that were made.
 pub trait ReadStream {
     // What is to be read, and what calls make of the reader.
     ghost words: { StreamWords Self };
@@ -29,7 +30,8 @@ pub trait ReadStream {
         ensures call { MatchResult result (λ _. words.works self.old self.new) (λ _. words.fails self.old self.new) };
 }
 
-/// A writer. That a call of it failed can be told only after such a call, and that none did only if none did.
+/// A writer. Code that is generic over writers doesn't know what `words` says of calls: that a write or a flush failed,
+/// or that none did, is proved only of the calls that were made.
 pub trait WriteStream {
     // What was written, and what calls make of the writer.
     ghost words: { StreamWords Self };
@@ -46,7 +48,7 @@ pub trait WriteStream {
     /// Flushes once.
     fn flush_once(&mut self) -> Result<(), WriteFailed>
         ensures bytes { Keeps (words.bytes self.old) (words.bytes self.new) }
-        ensures call { MatchResult result (λ _. words.works self.old self.new) (λ _. words.fails self.old self.new) };
+        ensures call { MatchResult result (λ _. words.flushes self.old self.new) (λ _. words.fails self.old self.new) };
 }
 
 impl<In: Read> ReadStream for In {

@@ -1,4 +1,4 @@
--- The answer channel from the loader to whoever waits for a load.
+-- The answer channel from the loader to a worker that waits for a load.
 use Rattle.std.specs.Prelude.{◌≡◌, ◌++◌, ◌∷◌, ℕ, List, [], slice_get, Option, Some, None}
 use mathlib.Core.Option.{some}
 use lib.ListN.{get_elem?}

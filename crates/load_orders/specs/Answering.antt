@@ -5,7 +5,7 @@ use Rattle.load_orders.specs.AnswerChannels.{AnswerChannelId, AnswerEndValue}
 use Rattle.load_orders.specs.declared.queue.Order.{Order}
 use Rattle.load_orders.specs.declared.answer_channels.LoadAnswer.{LoadAnswer}
 
--- an answer, and where it was sent, if somebody may wait for it
+-- an answer, and where it was sent, if a worker may wait for it
 pub record AnsweredValue (N : Type 0) : Type 0 where
   pub answer : LoadAnswer N
   pub sent : Option (AnswerEndValue N)
@@ -22,11 +22,11 @@ pub record LoaderOrdersValue (N : Type 0) : Type 0 where
 abbrev pub AllAnswered : {N : Type 0} → LoaderOrdersValue N → Type 0
 AllAnswered end = length end.answered ≡ length end.taken
 
--- the answer is sent at this answer channel, once; or nobody waits there any more, and nothing is sent
+-- the answer is sent at this answer channel, once; or no worker waits there any more, and nothing is sent
 abbrev pub IsSentAt : {N : Type 0} → AnswerChannelId → LoadAnswer N → AnswerEndValue N → Type 0
 IsSentAt channel answer sent = (sent ≡ record { channel = channel; answers = answer ∷ [] }) ⊎ (sent ≡ record { channel = channel; answers = [] })
 
--- whoever waits is sent this answer by the order's own answer channel
+-- the worker that waits is sent this answer by the order's own answer channel
 abbrev pub IsSentBack : {N : Type 0} → Option AnswerChannelId → LoadAnswer N → Option (AnswerEndValue N) → Type 0
 IsSentBack (Some channel) answer (Some sent) = IsSentAt channel answer sent
 IsSentBack None answer sent = sent ≡ None

@@ -1,4 +1,4 @@
-//! The answer channel to whoever waits for a load: one for each order, made for it, for one answer.
+//! The answer channel to a worker that waits for a load: one for each order, made for it, for one answer.
 
 ghost use Rattle.std.specs.Prelude.{◌≡◌, ◌∷◌, [], Some, None, IfNone, IfOk, MatchOption};
 ghost use Rattle.load_orders.specs.Answering.{IsSentAt};
@@ -11,7 +11,7 @@ use std::collections::LinkedList;
 use std::marker::{Model, PhantomData};
 use std::sync::Wait;
 
-/// What came of a load, as it is sent to whoever waits for it.
+/// What came of a load, as it is sent to the worker that waits for it.
 #[derive(Drop)]
 pub enum LoadAnswer<N> {
     /// A version was published, of which this is a notice.
@@ -121,7 +121,7 @@ impl<N: Drop> Model for AnswerSender<N> {
         × (view_of s.pass ≡ none_sent) };
 }
 
-/// Where whoever waits receives what came of the order. Contracts see which channel it is.
+/// Where the worker that waits receives what came of the order. Contracts see which channel it is.
 #[derive(Drop)]
 pub struct AnswerReceiver<N: Drop, P: AnswerRule<N> = OneSender> {
     receiver: RuledReceiver<LoadAnswer<N>, AnswerView<N>, P, Global>,
@@ -173,7 +173,7 @@ pub(crate) fn answer_channel<N: Drop>(
 }
 
 impl<N: Drop> AnswerSender<N> {
-    // Sends the answer to whoever waits, if anybody still does.
+    // Sends the answer to the worker that waits, if it still does.
     pub(crate) fn send<R: Wait>(self, rt: &R, answer: LoadAnswer<N>) -> UsedAnswerEnd<N>
         ensures { IsSentAt self answer result }
     {

@@ -11,6 +11,7 @@ use handoff::{Keeper, empty_queue};
 use std::alloc::{AllocError, Global};
 use std::marker::Model;
 use std::sync::Wait;
+use timetable::GhostValue;
 
 /// The end that keeps the queue, in which four orders may wait: others go out from it and come back, it closes the
 /// queue behind all orders, and the loader comes back to it. Contracts see which queue, what was put at the ends that
@@ -35,8 +36,12 @@ impl<N: Drop> Model for OrderKeeper<N> {
     ghost invariant = { λ s. IsOrderKeeper s.keeper };
 }
 
-/// An empty queue for four orders: the end that keeps it, and the loader's.
-pub fn order_queue<N: Drop>(alloc: Global) -> Result<(OrderKeeper<N>, LoaderOrders<N>), AllocError>
+/// An empty queue for four orders: the end that keeps it, and the loader's. It takes the leave to load, so only one can
+/// be made with it.
+pub fn order_queue<N: Drop, V: Drop>(
+    alloc: Global,
+    leave: V,
+) -> Result<(OrderKeeper<N>, LoaderOrders<N, V>), AllocError>
     ensures queue { IfOk result (λ ends. ends.0.queue ≡ ends.1.queue) }
     ensures keeper { IfOk result (λ ends. ends.0 ≡ record {
       queue = ends.0.queue;
@@ -54,6 +59,7 @@ pub fn order_queue<N: Drop>(alloc: Global) -> Result<(OrderKeeper<N>, LoaderOrde
         end,
         answered: GhostList::none(),
         over: false,
+        leave: GhostValue::of(&leave),
     };
     Ok((OrderKeeper { keeper }, loader))
 }
@@ -91,7 +97,7 @@ impl<N: Drop> OrderKeeper<N> {
 
     /// Takes back the loader's end, once all other ends are back: what was put was taken there, each order once. None
     /// if no closing was taken there.
-    pub fn finish(self, loader: LoaderOrders<N>) -> Option<UsedLoader<N>>
+    pub fn finish<V>(self, loader: LoaderOrders<N, V>) -> Option<UsedLoader<N>>
         requires queue { loader.queue ≡ self.queue }
         requires back { self.out ≡ 0 }
         ensures same { IfSome result (λ used. used ≡ loader) }
@@ -102,6 +108,7 @@ impl<N: Drop> OrderKeeper<N> {
             end,
             answered,
             over,
+            leave: _,
         } = loader;
         let closed = end.is_closed();
         let end = keeper.take_back(end);

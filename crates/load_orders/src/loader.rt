@@ -10,7 +10,8 @@ use crate::answer_channels::{AnswerSender, LoadAnswer, UsedAnswerEnd};
 use crate::ghost_list::GhostList;
 use crate::queue::Order;
 use handoff::{EachItemOnce, TakeEnd, TakeRule, UsedTakeEnd};
-use std::marker::Model;
+use std::marker::{Model, PhantomData};
+use std::snapshot::Snapshot;
 use std::sync::Wait;
 use timetable::GhostValue;
 
@@ -29,16 +30,18 @@ impl<N: Drop> Model for OrderAnswer<N> {
     ghost view = { λ a. record { answer = a.answer.value; sent = a.sent } };
 }
 
-/// The loader's end of the queue. Contracts see which queue; the orders that it took, and what it answered, in order;
-/// whether it last asked for an order and none came; and whether the queue was closed for it.
+/// The loader's end of the queue, which was made with a leave to load. Contracts see which queue; the orders that it
+/// took, and what it answered, in order; whether it last asked for an order and none came; and whether the queue was
+/// closed for it.
 #[derive(Drop)]
-pub struct LoaderOrders<N: Drop, P: TakeRule<Order<N>> = EachItemOnce<4>> {
+pub struct LoaderOrders<N: Drop, V, P: TakeRule<Order<N>> = EachItemOnce<4>> {
     pub(crate) end: TakeEnd<Order<N>, P>,
     pub(crate) answered: GhostList<OrderAnswer<N>>,
     pub(crate) over: bool,
+    pub(crate) leave: GhostValue<V>,
 }
 
-impl<N: Drop, P: TakeRule<Order<N>>> Model for LoaderOrders<N, P> {
+impl<N: Drop, V, P: TakeRule<Order<N>>> Model for LoaderOrders<N, V, P> {
     ghost use Rattle.load_orders.specs.Answering.{LoaderOrdersValue};
 
     ghost Value = { LoaderOrdersValue N };
@@ -74,17 +77,28 @@ impl<N: Drop> Model for UsedLoader<N> {
     } };
 }
 
-/// Leave to draw the files of one feed. It comes with an order that the loader takes, and from nowhere else, and
-/// drawing uses it up: so files are drawn once at most for each order, and for nothing else.
+/// A permit to draw the files of one feed, which uses it up. The loader gets one with each order that it takes from the
+/// queue that was made with this leave to load. A server has one such leave: so it draws files once at most for each
+/// order of its own queue, and for nothing else.
 #[derive(Drop)]
-pub struct DrawPermit(());
+pub struct DrawPermit<V> {
+    leave: PhantomData<V>,
+}
 
-impl<N: Drop, P: TakeRule<Order<N>>> LoaderOrders<N, P> {
-    /// Takes the order that has waited longest, or waits for one; with it comes the leave to draw its feed's files.
+impl<N: Drop, V, P: TakeRule<Order<N>>> LoaderOrders<N, V, P> {
+    /// Which queue it is, and which orders were taken of it so far, for contracts.
+    pub fn taken_by_now(&self) -> Snapshot<TakeEnd<Order<N>, P>>
+        ensures queue { result.value.queue ≡ self.now.queue }
+        ensures taken { result.value.taken ≡ self.now.taken }
+    {
+        Snapshot::of(&self.end)
+    }
+
+    /// Takes the order that has waited longest, or waits for one; with it comes the permit to draw its feed's files.
     /// Each order taken before must have been answered. None if the queue was closed for the loader; then none ever
     /// comes. None also if all other ends are gone and the queue is empty: the contract says only that it was empty at
     /// one moment of the call; that the ends are gone, only tests show.
-    pub fn next<R: Wait>(&mut self, rt: &R) -> Option<(Order<N>, DrawPermit)>
+    pub fn next<R: Wait>(&mut self, rt: &R) -> Option<(Order<N>, DrawPermit<V>)>
         requires { AllAnswered self.old }
         ensures queue { self.new.queue ≡ self.old.queue }
         ensures taken { MatchOption result (self.new.taken ≡ self.old.taken) (λ next. self.new.taken
@@ -98,13 +112,16 @@ impl<N: Drop, P: TakeRule<Order<N>>> LoaderOrders<N, P> {
         let order = self.end.next(rt);
         self.over = order.is_none();
         match order {
-            Some(order) => Some((order, DrawPermit(()))),
+            Some(order) => {
+                let permit = DrawPermit { leave: PhantomData };
+                Some((order, permit))
+            }
             None => None,
         }
     }
 
-    /// Sends what came of the order to whoever waits for it, by the order's own answer channel. Perhaps nobody waits
-    /// for it, or nobody does any more.
+    /// Sends what came of the order to the worker that waits for it, by the order's own answer channel. Perhaps none
+    /// waits, or none does any more.
     pub fn answer<R: Wait>(&mut self, rt: &R, order: Order<N>, answer: LoadAnswer<N>)
         ensures queue { self.new.queue ≡ self.old.queue }
         ensures taken { self.new.taken ≡ self.old.taken }
@@ -119,7 +136,7 @@ impl<N: Drop, P: TakeRule<Order<N>>> LoaderOrders<N, P> {
     }
 }
 
-// Answers whoever waits by an answer channel, if there is one.
+// Answers the worker that waits at an answer channel, if there is one.
 fn send_back<R: Wait, N: Drop>(
     rt: &R,
     answer_channel: Option<AnswerSender<N>>,

@@ -3,8 +3,8 @@
 use crate::answer_channels::AnswerSender;
 use handoff::{EachItemOnce, PutEnd, PutRule};
 
-/// An order to load a feed: its index in the list of feeds, and the answer channel to whoever waits for what comes of
-/// it, if somebody does.
+/// An order to load a feed: its index in the list of feeds, and the answer channel to the worker that waits for what
+/// comes of it, if one does.
 #[derive(Drop)]
 pub struct Order<N: Drop> {
     pub feed: usize,

@@ -1,56 +1,41 @@
 -- What the loader comes to know, call by call.
-use Rattle.std.proofs.Common.{◌≡◌, ◌∙◌, ◌++◌, ◌∷◌, ℕ, List, [], ap, append_assoc, append-nil, sym, subst}
-use Rattle.std.proofs.lemmas.List.Elements.{All-append, All-cons, All-nil}
+use Rattle.std.proofs.Common.{◌≡◌, ◌++◌, ◌∷◌, ℕ, List, [], sym, subst}
 use Rattle.image_layout.specs.Image.{ImageValue}
 use Rattle.shelf_steps.specs.declared.views.KnownHistory.{KnownHistory}
-use Rattle.epochs.specs.SeatHistory.{Grows, IsPublished}
+use Rattle.epochs.specs.SeatHistory.{Grows, IsPublished, LearnsBy}
 use Rattle.epochs.specs.Seats.{CollectStep, PublishStep, RefuseStep}
 use Rattle.epochs.specs.Words.{LoaderWords}
 use Rattle.epochs.specs.declared.collected.Collected.{Collected}
 use Rattle.epochs.specs.declared.faults.PublishFault.{PublishFault}
 use Rattle.epochs.specs.declared.seats.LoaderAnswer.{LoaderAnswer}
-use Rattle.epochs.proofs.GrowthLemmas.{grows_same, growths_join, published_stay}
-use Rattle.ordered_loads.specs.Learned.{LoaderGoesOn, LoaderLearns, TellsLoaded}
+use Rattle.epochs.proofs.GrowthLemmas.{grows_same, learns_both, learns_nothing, learns_one, published_stay}
+use Rattle.ordered_loads.specs.Learned.{LoaderGoesOn, TellsLoaded}
 
 -- what was published stays so
 published_later : (k later : KnownHistory) (answer : LoaderAnswer) → Grows k later → TellsLoaded k answer → TellsLoaded later answer
 published_later k later (LoaderAnswer.Published version image) grows is = published_stay k later version image.value grows is
 published_later k later answer grows is = tt
 
--- one answer, and answers one behind the other
-learns_one : (k l : KnownHistory) (before after : List LoaderAnswer) (answer : LoaderAnswer) → Grows k l → after ≡ before ++ answer ∷ []
-    → TellsLoaded l answer → LoaderLearns k before l after
-learns_one k l before after answer grows is told =
-    record { grows = grows; answers = answer ∷ []; answers_are = is; published = All-cons (TellsLoaded l) answer [] told (All-nil (TellsLoaded l)) }
-
-learns_both : (k l n : KnownHistory) (before between after : List LoaderAnswer) → LoaderLearns k before l between → LoaderLearns l between n after
-    → LoaderLearns k before n after
-learns_both k l n before between after p q = record {
-  grows = growths_join k l n p.grows q.grows;
-  answers = p.answers ++ q.answers;
-  answers_are = q.answers_are ∙ ap (λ xs. xs ++ q.answers) p.answers_are ∙ append_assoc before p.answers q.answers;
-  published = All-append (TellsLoaded n) p.answers q.answers (λ i d below. published_later l n _ q.grows (p.published i d below)) q.published;
-}
-
 -- nothing was done, and one call behind the other
 pub loader_goes_same : {T L : Type 0} (words : LoaderWords T L) (shelves : T) (s : L) → words.fits shelves s → LoaderGoesOn words shelves s s
 loader_goes_same words shelves s fits = record {
   fits = fits;
-  learns = record { grows = grows_same (words.known s); answers = []; answers_are = sym (append-nil (words.answers s)); published = All-nil _ };
+  learns = learns_nothing TellsLoaded _ _ _ (grows_same (words.known s));
 }
 
 pub loader_goes_on : {T L : Type 0} (words : LoaderWords T L) (shelves : T) (a m b : L) → LoaderGoesOn words shelves a m → LoaderGoesOn words shelves m b
     → LoaderGoesOn words shelves a b
-loader_goes_on words shelves a m b p q = record { fits = q.fits; learns = learns_both _ _ _ _ _ _ p.learns q.learns }
+loader_goes_on words shelves a m b p q = record { fits = q.fits; learns = learns_both TellsLoaded published_later _ _ _ _ _ _ p.learns q.learns }
 
 -- a publish and the collection behind it
 pub load_learns : (k l n : KnownHistory) (before between after : List LoaderAnswer) (image : ImageValue) (version : ℕ) (found : Collected)
     → PublishStep before image version between → IsPublished l version image → Grows k l → CollectStep between found after → Grows l n
-    → LoaderLearns k before n after
+    → LearnsBy TellsLoaded k before n after
 load_learns k l n before between after image version found publish is grows collect then =
     let told = subst (λ (i : ImageValue). IsPublished l version i) (sym publish.2.1) is in
-    learns_both k l n before between after (learns_one k l before between (LoaderAnswer.Published version publish.2.0) grows publish.2.2 told)
-    (learns_one l n between after (LoaderAnswer.Collected found) then collect.1 tt)
+    learns_both TellsLoaded published_later k l n before between after
+    (learns_one TellsLoaded k l before between (LoaderAnswer.Published version publish.2.0) grows publish.2.2 told)
+    (learns_one TellsLoaded l n between after (LoaderAnswer.Collected found) then collect.1 tt)
 
 -- a publish that is refused
 is_refused : (before after : List LoaderAnswer) (fault : PublishFault) → RefuseStep before fault after
@@ -59,6 +44,6 @@ is_refused before after (PublishFault.ShelvesFull counts) step = step.1
 is_refused before after fault step = step
 
 pub refusal_learns : (k l : KnownHistory) (before after : List LoaderAnswer) (fault : PublishFault) → RefuseStep before fault after → Grows k l
-    → LoaderLearns k before l after
+    → LearnsBy TellsLoaded k before l after
 refusal_learns k l before after fault step grows =
-    learns_one k l before after (LoaderAnswer.PublishRefused fault) grows (is_refused before after fault step) tt
+    learns_one TellsLoaded k l before after (LoaderAnswer.PublishRefused fault) grows (is_refused before after fault step) tt

@@ -106,5 +106,4 @@ module _ {F D T L N : Type 0} (load_input : LoadInput F D T L N) where
   pub record AreLoaded (a : L) (loads : LoadsValue D N) (b : L) : Type 0 where
     pub over : loads.orders.over ≡ true
     pub carried : AreCarried a loads b
-    pub learns : LoaderLearns (load_input.words.outcomes.loader.known a) (load_input.words.outcomes.loader.answers a)
-        (load_input.words.outcomes.loader.known b) (load_input.words.outcomes.loader.answers b)
+    pub learns : LoaderLearns load_input.words.outcomes.loader a b

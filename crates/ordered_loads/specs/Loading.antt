@@ -88,7 +88,7 @@ abbrev pub refusal_number : LoadRefusal → ℕ
 refusal_number (LoadRefusal.Load fault) = fault_number fault
 refusal_number (LoadRefusal.Publish fault) = publish_fault_number fault
 
--- what whoever waits for a load hears of it
+-- what the worker that waits for a load is answered
 abbrev pub notice_answer : {N : Type 0} → Option N → LoadAnswer N
 notice_answer (Some notice) = LoadAnswer.Published notice
 notice_answer None = LoadAnswer.Unnoticed

@@ -39,11 +39,16 @@ impl<'a, R: Wait, N: Drop, T: Versions<Notice = N> + Loads, F: Feeds> LoadContex
     /// end, the loader's seat, the files that were used, and the error writer.
     pub(crate) fn load_all<E: Write>(
         &self,
-        mut orders: LoaderOrders<N>,
+        mut orders: LoaderOrders<N, F::Leave>,
         mut seat: T::Loader,
         mut used: UsedFiles<F::Files, N>,
         mut errors: E,
-    ) -> (LoaderOrders<N>, T::Loader, UsedFiles<F::Files, N>, E)
+    ) -> (
+        LoaderOrders<N, F::Leave>,
+        T::Loader,
+        UsedFiles<F::Files, N>,
+        E,
+    )
         requires loads { T.Loads.words.fits self.now.shelves.now seat }
         requires none { (orders.taken ≡ []) × (orders.answered ≡ []) × (used ≡ []) }
         ensures { IsLoaderDone (loads_of F.words
@@ -69,13 +74,13 @@ impl<'a, R: Wait, N: Drop, T: Versions<Notice = N> + Loads, F: Feeds> LoadContex
         unreachable!()
     }
 
-    // Loads the feed of this order, the last that was taken. What came of it goes to the error writer and to whoever
-    // waits for it.
+    // Loads the feed of this order, the last that was taken. What came of it goes to the error writer and to the worker
+    // that waits for it.
     fn load_feed<E: Write>(
         &self,
         order: Order<N>,
-        permit: DrawPermit,
-        orders: &mut LoaderOrders<N>,
+        permit: DrawPermit<F::Leave>,
+        orders: &mut LoaderOrders<N, F::Leave>,
         seat: &mut T::Loader,
         used: &mut UsedFiles<F::Files, N>,
         errors: &mut E,
@@ -94,13 +99,13 @@ impl<'a, R: Wait, N: Drop, T: Versions<Notice = N> + Loads, F: Feeds> LoadContex
         orders.answer(self.rt, order, answer);
     }
 
-    // Loads the feed at the index from files that are drawn now, by this leave, and returns what came of it, and the
+    // Loads the feed at the index from files that are drawn now, by this permit, and returns what came of it, and the
     // files. Where there is no such feed, there are no files, and the load is refused as that of an unknown feed.
     fn load_at<E: Write>(
         &self,
         index: usize,
-        permit: DrawPermit,
-        orders: &LoaderOrders<N>,
+        permit: DrawPermit<F::Leave>,
+        orders: &LoaderOrders<N, F::Leave>,
         seat: &mut T::Loader,
         errors: &mut E,
     ) -> (LoadAnswer<N>, Option<DrawnFiles<F::Files, N>>)
@@ -168,8 +173,8 @@ fn loaded_or_refusal<N>(
     }
 }
 
-// The answer to whoever waits for a load: a notice of its version, that there was no memory for a notice, or the
-// refusal's number.
+// The answer to the worker that waits for a load: a notice of its version, that there was no memory for a notice, or
+// the refusal's number.
 fn answer_of<N>(outcome: Result<(LoadedVersion, Option<N>), LoadRefusal>) -> LoadAnswer<N>
     ensures { result ≡ load_answer outcome }
 {

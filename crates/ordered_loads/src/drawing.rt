@@ -5,7 +5,8 @@ ghost use Rattle.ordered_loads.specs.Drawing.{AreUnread, IsDrawnAt};
 
 use crate::feeds::Feeds;
 use feed_loader::FeedFiles;
-use load_orders::{DrawPermit, GhostList, LoaderOrders};
+use handoff::{EachItemOnce, TakeEnd};
+use load_orders::{DrawPermit, GhostList, LoaderOrders, Order};
 use std::snapshot::Snapshot;
 
 /// The files of a feed, drawn for the order that the loader took last. Contracts also see what they and the loader's
@@ -14,7 +15,7 @@ use std::snapshot::Snapshot;
 pub struct DrawnFiles<D, N: Drop> {
     pub(crate) files: D,
     first: Snapshot<D>,
-    end: Snapshot<LoaderOrders<N>>,
+    end: Snapshot<TakeEnd<Order<N>, EachItemOnce<4>>>,
 }
 
 /// For each order that was carried out, its feed's files as they were after the load, or none if there is no feed at
@@ -27,8 +28,8 @@ impl<D: FeedFiles, N: Drop> DrawnFiles<D, N> {
     pub(crate) fn draw<F: Feeds<Files = D>>(
         feeds: &F,
         index: usize,
-        permit: DrawPermit,
-        orders: &LoaderOrders<N>,
+        permit: DrawPermit<F::Leave>,
+        orders: &LoaderOrders<N, F::Leave>,
     ) -> Option<DrawnFiles<D, N>>
         ensures { MatchOption result (length (F.words.named feeds.now) ≤ index) (λ drawn. AreUnread
             D.words drawn
@@ -39,7 +40,7 @@ impl<D: FeedFiles, N: Drop> DrawnFiles<D, N> {
             Some(files) => Some(DrawnFiles {
                 first: Snapshot::of(&files),
                 files,
-                end: Snapshot::of(orders),
+                end: orders.taken_by_now(),
             }),
             None => None,
         }

@@ -17,6 +17,9 @@ use std::time::Instant;
 pub trait Feeds {
     type Files: FeedFiles + Send + Drop;
 
+    /// The leave to load these feeds. A server is given one, and makes its queue of orders with it.
+    type Leave: Send + Drop;
+
     // Their names, by index; whether these are the files of the feed at an index; and whether a feed may be loaded by
     // this plan.
     ghost words: { FeedWords Self Self.Files };
@@ -25,16 +28,16 @@ pub trait Feeds {
     fn names(&self) -> &[String]
         ensures { result.now ≡ words.named self.now };
 
-    /// The plan by which the next feed is loaded. It is asked for anew before each load, since it may depend on a
-    /// clock. Running out of memory is the only error, and even then there is such a plan.
+    /// The plan by which the next feed is loaded. It is made anew for each load, since it may depend on a clock. It
+    /// fails only if memory runs out, and never since there is no plan.
     fn plan(&self, alloc: Global) -> Result<Plan, AllocError>
         ensures plan { MatchResult result (words.is_plan self.now)
             (λ _. (plan : Plan) × words.is_plan self.now plan) }
         ensures days { IfOk result HasDays };
 
-    /// The files of the feed at the index, of which no read has failed yet. None only where there is no such feed. Only
-    /// an order that was taken gives leave for it, once.
-    fn files(&self, index: usize, permit: DrawPermit) -> Option<Self::Files>
+    /// The files of the feed at the index, of which no read has failed yet. None only where there is no such feed. The
+    /// permit came with an order of the server's queue.
+    fn files(&self, index: usize, permit: DrawPermit<Self::Leave>) -> Option<Self::Files>
         ensures { MatchOption result (length (words.named self.now) ≤ index)
             (λ files. (Self.Files.words.failed files ≡ [])
             × words.are_files self.now index files) };

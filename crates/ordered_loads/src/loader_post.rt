@@ -21,14 +21,14 @@ use std::thread::{Promise, PromisedHandle, Scope, Threads};
 /// The loader's post, which is the promise of its thread: at its seat of these shelves the loader loads these feeds, as
 /// the orders say that come to this end of their queue.
 #[derive(Drop)]
-pub struct LoaderPost<T, L, F, N: Drop> {
+pub struct LoaderPost<T, L, F, N: Drop, V> {
     shelves: Snapshot<T>,
     seat: Snapshot<L>,
     feeds: Snapshot<F>,
-    orders: Snapshot<LoaderOrders<N>>,
+    orders: Snapshot<LoaderOrders<N, V>>,
 }
 
-impl<T, L, F, N: Drop> Model for LoaderPost<T, L, F, N> {
+impl<T, L, F, N: Drop, V> Model for LoaderPost<T, L, F, N, V> {
     ghost use Rattle.ordered_loads.specs.Posts.{LoaderPostValue, loader_post_of};
 
     ghost Value = { LoaderPostValue T L F N };
@@ -42,8 +42,9 @@ impl<
     N: Drop,
     D: FeedFiles,
     T: Versions<Notice = N> + Loads<Loader = L>,
-    F: Feeds<Files = D>,
-> Promise<(LoaderOrders<N>, L, UsedFiles<D, N>)> for LoaderPost<T, L, F, N> {
+    V: Drop,
+    F: Feeds<Files = D, Leave = V>,
+> Promise<(LoaderOrders<N, V>, L, UsedFiles<D, N>)> for LoaderPost<T, L, F, N, V> {
     ghost use Rattle.ordered_loads.specs.Carrying.{loads_value};
     ghost use Rattle.ordered_loads.specs.Posts.{IsLoaderDone};
     ghost use Rattle.ordered_loads.specs.Words.{loads_of, outcomes_of};
@@ -64,16 +65,17 @@ pub fn start_loader<
     N: Send + Drop + 's,
     D: FeedFiles + Send + Drop + 's,
     T: Versions<Notice = N> + Loads<Loader = L> + Sync + 's,
-    F: Feeds<Files = D> + Sync + 's,
+    V: Send + Drop + 's,
+    F: Feeds<Files = D, Leave = V> + Sync + 's,
     E: Write + Send + Drop + 's,
 >(
     scope: &Scope<'s, A>,
     context: &LoadContext<'s, R, T, F>,
     seat: L,
-    orders: LoaderOrders<N>,
+    orders: LoaderOrders<N, V>,
     errors: E,
 ) -> Result<
-    PromisedHandle<(LoaderOrders<N>, L, UsedFiles<D, N>), LoaderPost<T, L, F, N>>,
+    PromisedHandle<(LoaderOrders<N, V>, L, UsedFiles<D, N>), LoaderPost<T, L, F, N, V>>,
     AllocError,
 >
     requires loads { T.Loads.words.fits context.now.shelves.now seat }
@@ -95,7 +97,7 @@ pub fn start_loader<
     let unused = GhostList::none();
     let started = scope.spawn_with(
         post,
-        move || -> (LoaderOrders<N>, L, UsedFiles<D, N>)
+        move || -> (LoaderOrders<N, V>, L, UsedFiles<D, N>)
             requires { T.Loads.words.fits shelves.now seat
                 × (orders.taken ≡ []) × (orders.answered ≡ []) × (unused ≡ []) }
             ensures { IsLoaderDone
@@ -128,12 +130,13 @@ pub fn close_and_join<
     N: Drop,
     D: FeedFiles + Drop,
     T: Versions<Notice = N> + Loads<Loader = L>,
-    F: Feeds<Files = D>,
+    V: Drop,
+    F: Feeds<Files = D, Leave = V>,
     R: Threads + Wait,
 >(
     rt: &R,
     mut asks: OrderKeeper<N>,
-    loading: PromisedHandle<(LoaderOrders<N>, L, UsedFiles<D, N>), LoaderPost<T, L, F, N>>,
+    loading: PromisedHandle<(LoaderOrders<N, V>, L, UsedFiles<D, N>), LoaderPost<T, L, F, N, V>>,
 ) -> Option<(UsedLoader<N>, L, UsedFiles<D, N>)>
     requires queue { loading.promise.queue ≡ asks.queue }
     requires back { asks.out ≡ 0 }

@@ -2,55 +2,31 @@
 use Rattle.std.proofs.Common.{◌≡◌, ℕ, List, [], ◌∷◌, ◌++◌, Option, Some, None, Result, Ok, Err, refl, sym, ap, ◌∙◌}
 use Rattle.std.proofs.Common.{All, subst, append_assoc, append-nil, inl, inr}
 use Rattle.std.proofs.lemmas.List.{append_cancel_left}
-use Rattle.std.proofs.lemmas.List.Elements.{All-append, All-cons, All-head, All-nil, All-tail}
+use Rattle.std.proofs.lemmas.List.Elements.{All-cons, All-head, All-nil, All-tail}
 use Rattle.image_layout.specs.Image.{ImageValue}
 use Rattle.shelf_steps.specs.declared.views.KnownHistory.{KnownHistory}
 use Rattle.epochs.specs.declared.seats.SeatAnswer.{SeatAnswer}
 use Rattle.epochs.specs.declared.faults.PinFault.{PinFault}
-use Rattle.epochs.specs.SeatHistory.{Grows, HoldsAsKnown, IsPublished}
+use Rattle.epochs.specs.SeatHistory.{Grows, HoldsAsKnown, IsPublished, LearnsBy}
 use Rattle.epochs.specs.Seats.{SeatValue, PinStep, ReleaseStep, JoinStep}
 use Rattle.epochs.specs.Words.{SeatWords}
-use Rattle.epochs.proofs.GrowthLemmas.{grows_same, growths_join, published_stay}
+use Rattle.epochs.proofs.GrowthLemmas.{grows_same, learns_both, learns_nothing, learns_one, published_stay}
 use Rattle.session_texts.specs.Requests.{AskValue}
 use Rattle.session.specs.declared.reply_form.ReplyForm.{ReplyForm}
 use Rattle.session.specs.Lines.{LineMeaning}
 use Rattle.session.specs.SeatSteps.{AnswerStep, Follows, SeatMove, answered, joined, answers_in}
 use Rattle.session.specs.Sessions.{AreExchanges, LastRelease, moves_of}
 use Rattle.session.specs.Exchanges.{Exchange, IsExchange, Meets, ProfileIsMet, SeatState, deed_of, seat_state}
-use Rattle.session.specs.Learning.{AreFromPublished, GoesOn, IsFromPublished, IsPublishedIfHeld, Learns, LearnsBy, LearningTells}
-use Rattle.session.specs.Learning.{ReportsPublished, TellsPublished}
-use Rattle.session.proofs.SeatLemmas.{answers_grow, is_pinned, steps}
+use Rattle.session.specs.Learning.{AreFromPublished, GoesOn, IsFromPublished, IsPublishedIfHeld, Learns, LearningTells, ReportsPublished}
+use Rattle.session.specs.Learning.{TellsPublished}
+use Rattle.session.proofs.SeatLemmas.{answers_grow, is_pinned, pin_refused, release_refused, steps}
 use Rattle.session.specs.Replies.{ReplyValue}
 use Rattle.session.proofs.ExchangeLemmas.{moves_follow}
-
-module _ {A : Type 0} (tells : KnownHistory → A → Type 0) where
-  -- nothing was answered
-  pub learns_nothing : (k later : KnownHistory) (answers : List A) → Grows k later → LearnsBy tells k answers later answers
-  learns_nothing k later answers grows = record { grows = grows; answers = []; answers_are = sym (append-nil answers); published = All-nil (tells later) }
-
-  -- and one behind the other, where what an answer tells stays so
-  pub learns_both : ((k later : KnownHistory) (answer : A) → Grows k later → tells k answer → tells later answer)
-      → (k l n : KnownHistory) (before between after : List A) → LearnsBy tells k before l between → LearnsBy tells l between n after
-      → LearnsBy tells k before n after
-  learns_both stays k l n before between after p q = record {
-    grows = growths_join k l n p.grows q.grows;
-    answers = p.answers ++ q.answers;
-    answers_are = q.answers_are ∙ ap (λ (xs : List A). xs ++ q.answers) p.answers_are ∙ append_assoc before p.answers q.answers;
-    published = All-append (tells n) p.answers q.answers (λ i d below. stays l n _ q.grows (p.published i d below)) q.published;
-  }
-
-  -- one answer
-  pub learns_one : (k l : KnownHistory) (before after : List A) (answer : A) → Grows k l → after ≡ before ++ answer ∷ [] → tells l answer
-      → LearnsBy tells k before l after
-  learns_one k l before after answer grows is told =
-      record { grows = grows; answers = answer ∷ []; answers_are = is; published = All-cons (tells l) answer [] told (All-nil (tells l)) }
 
 -- what was published stays so
 published_later : (k later : KnownHistory) (answer : SeatAnswer) → Grows k later → TellsPublished k answer → TellsPublished later answer
 published_later k later (SeatAnswer.Pinned version image) grows is = published_stay k later version image.value grows is
-published_later k later (SeatAnswer.PinRefused fault) grows is = tt
-published_later k later SeatAnswer.Released grows is = tt
-published_later k later (SeatAnswer.ReleaseRefused fault) grows is = tt
+published_later k later answer grows is = tt
 
 parts_of : {A : Type 0} (P : A → Type 0) (xs ys : List A) → All P (xs ++ ys) → All P xs × All P ys
 parts_of P [] ys all = (All-nil P, all)
@@ -91,11 +67,13 @@ learns_pinned k l number a b step grows known =
     learns_answer k l number a b (SeatAnswer.Pinned pinned.version pinned.shown) pinned.step grows holds.published
 
 pub learns_unpinned : (k l : KnownHistory) (a b : SeatValue) (fault : PinFault) → PinStep a (Err fault) b → Grows k l → Learns k a l b
-learns_unpinned k l a b fault step grows = learns_answer k l 0 a b (SeatAnswer.PinRefused fault) step grows tt
+learns_unpinned k l a b fault step grows =
+    learns_one TellsPublished k l a.answers b.answers (SeatAnswer.PinRefused fault) grows (pin_refused a b fault step).answers tt
 
 pub learns_by_release : (k l : KnownHistory) (a b : SeatValue) (r : Result (Unit {0}) PinFault) → ReleaseStep a r b → Grows k l → Learns k a l b
 learns_by_release k l a b (Ok u) step grows = learns_answer k l 0 a b SeatAnswer.Released step grows tt
-learns_by_release k l a b (Err fault) step grows = learns_answer k l 0 a b (SeatAnswer.ReleaseRefused fault) step grows tt
+learns_by_release k l a b (Err fault) step grows =
+    learns_one TellsPublished k l a.answers b.answers (SeatAnswer.ReleaseRefused fault) grows (release_refused a b fault step).answers tt
 
 pub learns_by_notice : (k l : KnownHistory) (a b : SeatValue) (version : ℕ) → JoinStep a version b → l ≡ k → Learns k a l b
 learns_by_notice k l a b version step same =
@@ -132,7 +110,7 @@ profile_from : (k : KnownHistory) (form : ReplyForm) (held : Option (ℕ × Imag
 profile_from k form (Some h) ask moves reply met held are = inl (h.0, h.1, held, met.1)
 profile_from k form None ask moves reply (inl met) held are =
     let once = subst (λ (xs : List SeatMove). All (TellsPublished k) (answers_in xs)) met.once.moves_are are in
-    let told = All-head (TellsPublished k) (SeatAnswer.Pinned met.version met.once.shown) (met.once.last ∷ []) once in
+    let told = All-head (TellsPublished k) (SeatAnswer.Pinned met.version met.once.shown) (SeatAnswer.Released ∷ []) once in
     inl (met.version, met.image, subst (λ (i : ImageValue). IsPublished k met.version i) met.once.image_is told, met.replied)
 profile_from k form None ask moves reply (inr refused) held are = inr (refused.fault, refused.reply_is)
 
@@ -167,7 +145,7 @@ exchanges_from k form number a b (t ∷ exchanges) (m, exchange, rest) held are 
 -- what was answered in the exchanges, and by the release behind them
 released_too : (number : ℕ) (last b : SeatValue) → LastRelease number last b → (rest : List SeatAnswer) × (b.answers ≡ last.answers ++ rest)
 released_too number last b (inl kept) = ([], ap (λ (s : SeatValue). s.answers) kept.1 ∙ sym (append-nil last.answers))
-released_too number last b (inr gave) = (gave.1.0 ∷ [], (steps number last b gave.1.0 gave.1.2).answers)
+released_too number last b (inr gave) = (SeatAnswer.Released ∷ [], (steps number last b SeatAnswer.Released gave.1).answers)
 
 -- what exchanges tell, by what the seat learned in them
 pub learning_tells : LearningTells

@@ -3,7 +3,7 @@ use Rattle.std.proofs.Common.{◌≡◌, ◌⊎◌, ℕ, List, [], ◌∷◌, �
 use Rattle.image_layout.specs.Image.{ImageValue}
 use Rattle.epochs.specs.declared.seats.SeatAnswer.{SeatAnswer}
 use Rattle.epochs.specs.declared.faults.PinFault.{PinFault}
-use Rattle.epochs.specs.Seats.{SeatValue, PinStep}
+use Rattle.epochs.specs.Seats.{SeatValue, KnowsItsSeats, PinStep}
 use Rattle.session_texts.specs.Replies.{pin_text}
 use Rattle.session_texts.specs.Requests.{AskValue, pin, profile}
 use Rattle.session.specs.declared.reply_form.ReplyForm.{ReplyForm}
@@ -35,12 +35,12 @@ module _ {form : ReplyForm} {number : ℕ} {a b : SeatValue} {reply : ReplyValue
       record { moves = o.moves; meets = inl (fact, refl, inr (refl, (o.pin.version, o.pin.shown.value, o.once))); seat = o.seat }
 
   -- a profile for which no version can be pinned
-  pub profile_refused : (fault : PinFault) (ask : AskValue) → a.held ≡ None → PinStep a (Err fault) b → reply ≡ plain (pin_fault_line fault)
-      → IsMet form number a (replied_to (asks (profile ask)) reply) b
-  profile_refused fault ask empty step fact =
+  pub profile_refused : (fault : PinFault) (ask : AskValue) → a.held ≡ None → KnowsItsSeats fault → PinStep a (Err fault) b
+      → reply ≡ plain (pin_fault_line fault) → IsMet form number a (replied_to (asks (profile ask)) reply) b
+  profile_refused fault ask empty known step fact =
       let moves = answered (SeatAnswer.PinRefused fault) ∷ [] in
       let refused : PinIsRefused moves reply = record { fault = fault; moves_are = refl; reply_is = fact } in
-      answer_met (asks (profile ask)) (SeatAnswer.PinRefused fault) step
+      answer_met (asks (profile ask)) (SeatAnswer.PinRefused fault) (known, step)
       (refl, subst (λ (h : Option (ℕ × ImageValue)). ProfileIsMet form h ask moves reply) (sym empty) (inr refused))
 
   -- and from a version that is pinned for it

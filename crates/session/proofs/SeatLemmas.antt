@@ -1,15 +1,15 @@
 -- What is done at a seat.
 use Rattle.std.proofs.Common.{◌≡◌, ◌≢◌, ◌≤◌, ℕ, max, List, [], ◌∷◌, ◌++◌, Option, Some}
-use Rattle.std.proofs.Common.{None, Result, Ok, Err, refl, sym, ap, ◌∙◌, subst, append_assoc, append-nil, arith}
+use Rattle.std.proofs.Common.{None, Result, Ok, Err, IfErr, refl, sym, ap, ◌∙◌, subst, append_assoc, append-nil, arith}
 use Rattle.std.specs.declared.snapshot.Snapshot.{Snapshot}
 use Rattle.image_layout.specs.Image.{ImageValue}
 use Rattle.shelf_steps.specs.declared.views.KnownHistory.{KnownHistory}
 use Rattle.epochs.specs.declared.seats.SeatAnswer.{SeatAnswer}
 use Rattle.epochs.specs.declared.faults.PinFault.{PinFault}
 use Rattle.epochs.specs.SeatHistory.{HoldsAsKnown}
-use Rattle.epochs.specs.Seats.{SeatValue, PinStep, ReleaseStep}
+use Rattle.epochs.specs.Seats.{SeatValue, KnowsItsSeats, PinStep, ReleaseStep}
 use Rattle.session.specs.Learning.{IsPublishedIfHeld, TellsPublished}
-use Rattle.session.specs.SeatSteps.{AnswerStep, Follows, IsGivenBack, NeverFalls, PinsOnce, SeatMove, answered, joined, answers_in}
+use Rattle.session.specs.SeatSteps.{AnswerStep, Follows, NeverFalls, PinsOnce, SeatMove, answered, joined, answers_in}
 
 -- a pin that was Ok, as an answer
 pub record IsPinned (number : ℕ) (a m : SeatValue) : Type 0 where
@@ -28,19 +28,12 @@ is_pinned known number n a m same holds pin =
 some_is_held : (m : SeatValue) (h : ℕ × ImageValue) → m.held ≡ Some h → m.held ≢ None
 some_is_held m h some none = let no : None ≡ Some h = sym none ∙ some in absurd cc
 
--- what is held is given back, whatever the release answered
-record IsReleased (number : ℕ) (m b : SeatValue) : Type 0 where
-  last : SeatAnswer
-  given_back : IsGivenBack last
-  step : AnswerStep number m last b
-
-is_released : (number : ℕ) (m b : SeatValue) (r : Result (Unit {0}) PinFault) → m.held ≢ None → ReleaseStep m r b → IsReleased number m b
-is_released number m b (Ok u) some back = record { last = SeatAnswer.Released; given_back = tt; step = back }
-is_released number m b (Err PinFault.SeatLost) some back = record { last = SeatAnswer.ReleaseRefused PinFault.SeatLost; given_back = tt; step = back }
-is_released number m b (Err PinFault.NotPinned) some back = absurd (some back.0)
-is_released number m b (Err PinFault.AlreadyPinned) some back = absurd back
-is_released number m b (Err PinFault.OutOfMemory) some back = absurd back
-is_released number m b (Err (PinFault.Moved n)) some back = absurd back
+-- what is held is given back
+pub is_released : (m b : SeatValue) (r : Result (Unit {0}) PinFault) → m.held ≢ None → ReleaseStep m r b → IfErr r KnowsItsSeats → ReleaseStep m (Ok tt) b
+is_released m b (Ok u) some back known = back
+is_released m b (Err PinFault.SeatLost) some back known = absurd known
+is_released m b (Err PinFault.NotPinned) some back known = absurd (some back.0)
+is_released m b (Err fault) some back known = absurd back
 
 -- a version is pinned and given back
 pub record IsOnce (number : ℕ) (a m b : SeatValue) : Type 0 where
@@ -49,15 +42,14 @@ pub record IsOnce (number : ℕ) (a m b : SeatValue) : Type 0 where
   pub once : PinsOnce moves pin.version pin.shown.value
   pub seat : Follows number a moves b
 
-pub is_once : (number : ℕ) (a m b : SeatValue) (r : Result (Unit {0}) PinFault) → IsPinned number a m → ReleaseStep m r b → IsOnce number a m b
-is_once number a m b r pin back =
-    let release = is_released number m b r (some_is_held m (pin.version, pin.shown.value) pin.held) back in
-    record {
-      pin = pin;
-      moves = answered (SeatAnswer.Pinned pin.version pin.shown) ∷ answered release.last ∷ [];
-      once = record { shown = pin.shown; last = release.last; image_is = refl; given_back = release.given_back; moves_are = refl };
-      seat = (m, pin.step, (b, release.step, refl));
-    }
+pub is_once : (number : ℕ) (a m b : SeatValue) (r : Result (Unit {0}) PinFault) → IsPinned number a m → ReleaseStep m r b → IfErr r KnowsItsSeats
+    → IsOnce number a m b
+is_once number a m b r pin back known = record {
+  pin = pin;
+  moves = answered (SeatAnswer.Pinned pin.version pin.shown) ∷ answered SeatAnswer.Released ∷ [];
+  once = record { shown = pin.shown; image_is = refl; moves_are = refl };
+  seat = (m, pin.step, (b, is_released m b r (some_is_held m (pin.version, pin.shown.value) pin.held) back known, refl));
+}
 
 -- what each answer makes of the seat: it is the last of the list, what was seen never falls, and what is held was published if what was held before
 -- was, and what the answer tells
@@ -71,20 +63,22 @@ steps_to : (a c b : SeatValue) (answer : SeatAnswer) → b ≡ c → c.answers �
 steps_to a c b answer is answers rises held =
     subst (λ (s : SeatValue). Steps a answer s) (sym is) (record { answers = answers; rises = rises; held = held })
 
+pub pin_refused : (a b : SeatValue) (fault : PinFault) → PinStep a (Err fault) b → Steps a (SeatAnswer.PinRefused fault) b
+pin_refused a b (PinFault.Moved newest) step =
+    steps_to a _ b (SeatAnswer.PinRefused (PinFault.Moved newest)) step.2 refl (omega (arith, step.1)) (λ k was told. was)
+pin_refused a b PinFault.NotPinned step = absurd step
+pin_refused a b fault step = steps_to a _ b _ step.1 refl (omega arith) (λ k was told. was)
+
+pub release_refused : (a b : SeatValue) (fault : PinFault) → ReleaseStep a (Err fault) b → Steps a (SeatAnswer.ReleaseRefused fault) b
+release_refused a b PinFault.NotPinned step = steps_to a _ b _ step.1 refl (omega arith) (λ k was told. was)
+release_refused a b PinFault.SeatLost step = steps_to a _ b _ step.1 refl (omega arith) (λ k was told. tt)
+release_refused a b fault step = absurd step
+
 pub steps : (number : ℕ) (a b : SeatValue) (answer : SeatAnswer) → AnswerStep number a answer b → Steps a answer b
 steps number a b (SeatAnswer.Pinned version image) step = steps_to a _ b (SeatAnswer.Pinned version image) step.2 refl step.1 (λ k was told. told)
-steps number a b (SeatAnswer.PinRefused (PinFault.Moved newest)) step =
-    steps_to a _ b (SeatAnswer.PinRefused (PinFault.Moved newest)) step.2 refl (omega (arith, step.1)) (λ k was told. was)
-steps number a b (SeatAnswer.PinRefused PinFault.AlreadyPinned) step = steps_to a _ b _ step.1 refl (omega arith) (λ k was told. was)
-steps number a b (SeatAnswer.PinRefused PinFault.SeatLost) step = steps_to a _ b _ step.1 refl (omega arith) (λ k was told. was)
-steps number a b (SeatAnswer.PinRefused PinFault.OutOfMemory) step = steps_to a _ b _ step.1 refl (omega arith) (λ k was told. was)
-steps number a b (SeatAnswer.PinRefused PinFault.NotPinned) step = absurd step
+steps number a b (SeatAnswer.PinRefused fault) step = pin_refused a b fault step.1
 steps number a b SeatAnswer.Released step = steps_to a _ b SeatAnswer.Released step.1 refl (omega arith) (λ k was told. tt)
-steps number a b (SeatAnswer.ReleaseRefused PinFault.NotPinned) step = steps_to a _ b _ step.1 refl (omega arith) (λ k was told. was)
-steps number a b (SeatAnswer.ReleaseRefused PinFault.SeatLost) step = steps_to a _ b _ step.1 refl (omega arith) (λ k was told. tt)
-steps number a b (SeatAnswer.ReleaseRefused PinFault.AlreadyPinned) step = absurd step
-steps number a b (SeatAnswer.ReleaseRefused PinFault.OutOfMemory) step = absurd step
-steps number a b (SeatAnswer.ReleaseRefused (PinFault.Moved n)) step = absurd step
+steps number a b (SeatAnswer.ReleaseRefused fault) step = release_refused a b fault step.1
 
 pub answers_grow : (number : ℕ) (a b : SeatValue) (moves : List SeatMove) → Follows number a moves b → b.answers ≡ a.answers ++ answers_in moves
 answers_grow number a b [] same = ap (λ (s : SeatValue). s.answers) same ∙ sym (append-nil a.answers)
@@ -99,12 +93,8 @@ never_falls number least a b [] low same = tt
 never_falls number least a b (answered (SeatAnswer.Pinned version image) ∷ moves) low (m, step, rest) =
     let seen : m.seen ≡ version = ap (λ (s : SeatValue). s.seen) step.2 in
     (omega (arith, low, step.1), never_falls number version m b moves (omega (arith, seen)) rest)
-never_falls number least a b (answered (SeatAnswer.PinRefused fault) ∷ moves) low (m, step, rest) =
-    never_falls number least m b moves (omega (arith, low, (steps number a m (SeatAnswer.PinRefused fault) step).rises)) rest
-never_falls number least a b (answered SeatAnswer.Released ∷ moves) low (m, step, rest) =
-    never_falls number least m b moves (omega (arith, low, (steps number a m SeatAnswer.Released step).rises)) rest
-never_falls number least a b (answered (SeatAnswer.ReleaseRefused fault) ∷ moves) low (m, step, rest) =
-    never_falls number least m b moves (omega (arith, low, (steps number a m (SeatAnswer.ReleaseRefused fault) step).rises)) rest
+never_falls number least a b (answered answer ∷ moves) low (m, step, rest) =
+    never_falls number least m b moves (omega (arith, low, (steps number a m answer step).rises)) rest
 never_falls number least a b (joined version ∷ moves) low (m, step, rest) =
     let seen : m.seen ≡ max a.seen version = ap (λ (s : SeatValue). s.seen) step in
     never_falls number (max least version) m b moves (omega (arith, low, seen)) rest

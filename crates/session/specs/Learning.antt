@@ -1,10 +1,10 @@
 -- What a seat comes to know of the history of its shelves, and what replies say of it.
-use Rattle.std.specs.Prelude.{◌≡◌, ◌⊎◌, ℕ, List, [], ◌∷◌, ◌++◌, All, Option, IfSome}
+use Rattle.std.specs.Prelude.{◌≡◌, ◌⊎◌, ℕ, List, [], ◌∷◌, Option, IfSome}
 use Rattle.image_layout.specs.Image.{ImageValue}
 use Rattle.shelf_steps.specs.declared.views.KnownHistory.{KnownHistory}
 use Rattle.epochs.specs.declared.faults.PinFault.{PinFault}
 use Rattle.epochs.specs.declared.seats.SeatAnswer.{SeatAnswer}
-use Rattle.epochs.specs.SeatHistory.{Grows, IsPublished}
+use Rattle.epochs.specs.SeatHistory.{IsPublished, LearnsBy}
 use Rattle.epochs.specs.Seats.{SeatValue}
 use Rattle.epochs.specs.Words.{SeatWords}
 use Rattle.orders.specs.Ordering.{OrderValue}
@@ -24,14 +24,6 @@ TellsPublished known _ = Unit {0}
 -- what is held, if anything, was published as that version with that image in this history
 abbrev pub IsPublishedIfHeld : KnownHistory → Option (ℕ × ImageValue) → Type 0
 IsPublishedIfHeld known held = IfSome held (λ h. IsPublished known h.0 h.1)
-
--- what a seat knows of the history has grown while it was answered, and what each answer tells is so in what it knows then
-pub record LearnsBy {A : Type 0} (tells : KnownHistory → A → Type 0) (known : KnownHistory) (before : List A) (known_then : KnownHistory) (after : List A)
-    : Type 0 where
-  pub grows : Grows known known_then
-  pub answers : List A
-  pub answers_are : after ≡ before ++ answers
-  pub published : All (tells known_then) answers
 
 -- each version that the seat pinned meanwhile was published, with the image that it was pinned with, in the history that the seat knows then
 abbrev pub Learns : KnownHistory → SeatValue → KnownHistory → SeatValue → Type 0

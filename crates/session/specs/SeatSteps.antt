@@ -4,10 +4,9 @@ use Rattle.std.specs.declared.snapshot.Snapshot.{Snapshot}
 use Rattle.image_layout.specs.Image.{ImageValue}
 use Rattle.shelf_steps.specs.declared.views.KnownHistory.{KnownHistory}
 use Rattle.epochs.specs.declared.seats.SeatAnswer.{SeatAnswer}
-use Rattle.epochs.specs.declared.faults.PinFault.{PinFault}
 use Rattle.epochs.specs.SeatHistory.{HoldsAsKnown}
 use Rattle.session.specs.Replies.{ReplyValue}
-use Rattle.epochs.specs.Seats.{SeatValue, PinStep, ReleaseStep, JoinStep, pinned}
+use Rattle.epochs.specs.Seats.{SeatValue, KnowsItsSeats, PinStep, ReleaseStep, JoinStep, pinned}
 
 -- a call is answered, or a notice of this version is joined
 pub data SeatMove : Type 0 where
@@ -19,13 +18,13 @@ abbrev pub HoldsInSomeHistory : ℕ → Option (ℕ × ImageValue) → Type 0
 HoldsInSomeHistory number held = (known : KnownHistory) × HoldsAsKnown known number held
 
 -- from one value of a worker's seat to the next, by one answer. In some history the worker holds what is pinned; that the history which the seat
--- knows published it, `Learns` says
+-- knows published it, `Learns` says. A refusal has its cause, which is none of a lock's
 abbrev pub AnswerStep : ℕ → SeatValue → SeatAnswer → SeatValue → Type 0
 AnswerStep number a (SeatAnswer.Pinned version image) b =
     (a.held ≡ None) × (a.seen ≤ version) × (b ≡ pinned a version image) × HoldsInSomeHistory number (Some (version, image.value))
-AnswerStep number a (SeatAnswer.PinRefused fault) b = PinStep a (Err fault) b
+AnswerStep number a (SeatAnswer.PinRefused fault) b = KnowsItsSeats fault × PinStep a (Err fault) b
 AnswerStep number a SeatAnswer.Released b = ReleaseStep a (Ok tt) b
-AnswerStep number a (SeatAnswer.ReleaseRefused fault) b = ReleaseStep a (Err fault) b
+AnswerStep number a (SeatAnswer.ReleaseRefused fault) b = KnowsItsSeats fault × ReleaseStep a (Err fault) b
 
 -- from one value of a worker's seat to the next, by an answer, or by a notice, after which the seat has seen that version
 abbrev pub MoveStep : ℕ → SeatValue → SeatMove → SeatValue → Type 0
@@ -50,19 +49,11 @@ pub record SeatReply : Type 0 where
 abbrev pub seat_reply : SeatValue → ReplyValue → SeatReply
 seat_reply shown reply = record { shown = shown; reply = reply }
 
--- by this answer what was held is given back: also by a release that is refused because the seat is lost, which empties the seat too
-abbrev pub IsGivenBack : SeatAnswer → Type 0
-IsGivenBack SeatAnswer.Released = Unit {0}
-IsGivenBack (SeatAnswer.ReleaseRefused PinFault.SeatLost) = Unit {0}
-IsGivenBack _ = ⊥
-
 -- a version is pinned and given back
 pub record PinsOnce (moves : List SeatMove) (version : ℕ) (image : ImageValue) : Type 0 where
   pub shown : Snapshot ImageValue
-  pub last : SeatAnswer
   pub image_is : shown.value ≡ image
-  pub given_back : IsGivenBack last
-  pub moves_are : moves ≡ answered (SeatAnswer.Pinned version shown) ∷ answered last ∷ []
+  pub moves_are : moves ≡ answered (SeatAnswer.Pinned version shown) ∷ answered SeatAnswer.Released ∷ []
 
 -- no version that is pinned is older than `least`, than one that was pinned before, or than that of a notice that was joined before
 abbrev pub NeverFalls : ℕ → List SeatMove → Type 0

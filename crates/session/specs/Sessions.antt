@@ -1,17 +1,17 @@
 -- A session: exchanges one after the other, one for each line that was read.
-use Rattle.std.specs.Prelude.{◌≡◌, ◌≢◌, ◌<◌, ◌≤◌, ◌⊎◌, ◌++◌, ◌∷◌, ℕ, List, [], None, flat_map, length, map, take, Result, Ok, Err}
+use Rattle.std.specs.Prelude.{◌≡◌, ◌≢◌, ◌<◌, ◌≤◌, ◌⊎◌, ◌++◌, ◌-◌, ◌∷◌, ℕ, List, [], None, flat_map, length, map, take, Result, Ok, Err}
 use Rattle.std.specs.Io.KnownBytes.{Appends, Consumes, IsAtEnd}
 use Rattle.epochs.specs.declared.seats.SeatAnswer.{SeatAnswer}
 use Rattle.epochs.specs.Seats.{SeatValue}
 use Rattle.orders.specs.Ordering.{OrderValue}
 use Rattle.lines.specs.LineReads.{written_line}
-use Rattle.lines.specs.Streams.{HasFailed, StreamWords, Works, inner_of, notes_of}
+use Rattle.lines.specs.Streams.{AreReadWhile, HasFailedBehind, HasFailedToRead, HasRead, HasWritten, StreamWords, all_of, inner_of, notes_of}
 use Rattle.lines.specs.declared.counted.Counted.{Counted}
 use Rattle.lines.specs.Cutting.{lines_of, rest_of, whole_lines}
 use Rattle.session.specs.declared.reply_form.ReplyForm.{ReplyForm}
 use Rattle.session.specs.declared.fault.Ended.{Ended}
 use Rattle.session.specs.declared.fault.SessionFault.{SessionFault}
-use Rattle.session.specs.SeatSteps.{AnswerStep, IsGivenBack, SeatMove, SeatReply, seat_reply}
+use Rattle.session.specs.SeatSteps.{AnswerStep, SeatMove, SeatReply, seat_reply}
 use Rattle.session.specs.Exchanges.{SeatState, Exchange, ExchangeLeadsTo}
 
 -- exchanges one after the other: each begins with the seat and the orders as the one before left them
@@ -75,15 +75,33 @@ state_of shown reader writer at_seat = record { reader = reader; writer = writer
 
 -- what was read and written in a session and its exchanges, from one state to another
 pub record SessionRecord (R W S : Type 0) : Type 0 where
-  pub read : List ℕ
+  pub blocks : List (List ℕ)  -- what each read gave
   pub written : List ℕ
   pub exchanges : List Exchange
   pub before : SessionState R W S
   pub after : SessionState R W S
 
-abbrev pub session_record_of : {R W S : Type 0} → List ℕ → List ℕ → List Exchange → SessionState R W S → SessionState R W S
+abbrev pub session_record_of : {R W S : Type 0} → List (List ℕ) → List ℕ → List Exchange → SessionState R W S → SessionState R W S
     → SessionRecord R W S
-session_record_of read written exchanges before after = record { read = read; written = written; exchanges = exchanges; before = before; after = after }
+session_record_of blocks written exchanges before after = record {
+  blocks = blocks;
+  written = written;
+  exchanges = exchanges;
+  before = before;
+  after = after;
+}
+
+abbrev pub read_in : {R W S : Type 0} → SessionRecord R W S → List ℕ
+read_in e = all_of e.blocks
+
+-- how many lines were answered by replies that were wholly written
+abbrev pub answered_by : Result Ended SessionFault → List Exchange → ℕ
+answered_by (Err SessionFault.WriteFailed) exchanges = length exchanges - 1
+answered_by _ exchanges = length exchanges
+
+-- reads were made only while no more than so many whole lines had come: so each line was answered before anything was read behind it
+abbrev pub AreReadFor : ℕ → List (List ℕ) → Type 0
+AreReadFor answered blocks = AreReadWhile (λ read. length (whole_lines read) ≤ answered) blocks
 
 -- lines of what was read are answered, from the first on: some of those that have a line end; or, if the reader is at its end, all of them, of
 -- which the last needs no line end
@@ -92,43 +110,45 @@ AnswerLines exchanges read at_end = ((n : ℕ) × (lines_in exchanges ≡ take n
 
 -- at the end what is held is given back
 abbrev pub LastRelease : ℕ → SeatValue → SeatValue → Type 0
-LastRelease number a b = ((a.held ≡ None) × (b ≡ a)) ⊎ ((a.held ≢ None) × ((last : SeatAnswer) × IsGivenBack last × AnswerStep number a last b))
+LastRelease number a b = ((a.held ≡ None) × (b ≡ a)) ⊎ ((a.held ≢ None) × AnswerStep number a SeatAnswer.Released b)
 
 module _ {R W S : Type 0} (words : ServeWords R W) where
   abbrev pub ReadsWork : SessionRecord R W S → Type 0
-  ReadsWork e = Works words.reads e.before.reader e.after.reader
+  ReadsWork e = HasRead words.reads e.before.reader e.blocks e.after.reader
 
+  -- each reply is written with a flush of its own
   abbrev pub WritesWork : SessionRecord R W S → Type 0
-  WritesWork e = Works words.writes e.before.writer e.after.writer
+  WritesWork e = HasWritten words.writes (length e.exchanges) e.before.writer e.after.writer
 
   -- how the exchanges agree with what was read and written, by how the session ended
   abbrev pub EndsSo : Result Ended SessionFault → SessionRecord R W S → Type 0
   -- all is read and answered
   EndsSo (Ok ended) e =
-      IsAtEnd (words.reads.bytes (inner_of e.after.reader)) × ReadsWork e × WritesWork e × (lines_in e.exchanges ≡ lines_of e.read)
+      IsAtEnd (words.reads.bytes (inner_of e.after.reader)) × ReadsWork e × WritesWork e × (lines_in e.exchanges ≡ lines_of (read_in e))
       × (e.written ≡ text_of e.exchanges)
   -- the last read failed, or a line went on past 16,777,216 bytes, of which one byte more was read; all whole lines before that are answered
   EndsSo (Err SessionFault.ReadFailed) e =
-      (HasFailed words.reads e.before.reader e.after.reader ⊎ (ReadsWork e × (length (rest_of e.read) ≡ 16_777_217))) × WritesWork e
-      × (lines_in e.exchanges ≡ whole_lines e.read) × (e.written ≡ text_of e.exchanges)
-  -- the last write failed: lines that were read are answered, and the last reply is perhaps not written wholly; further lines may have been read
+      (HasFailedToRead words.reads e.before.reader e.blocks e.after.reader ⊎ (ReadsWork e × (length (rest_of (read_in e)) ≡ 16_777_217)))
+      × WritesWork e × (lines_in e.exchanges ≡ whole_lines (read_in e)) × (e.written ≡ text_of e.exchanges)
+  -- the last write or flush failed: lines that were read are answered, and the last reply is perhaps not written wholly
   EndsSo (Err SessionFault.WriteFailed) e =
-      HasFailed words.writes e.before.writer e.after.writer × ReadsWork e
-      × AnswerLines e.exchanges e.read (IsAtEnd (words.reads.bytes (inner_of e.after.reader))) × IsCutShort e.written e.exchanges
+      HasFailedBehind words.writes (length e.exchanges - 1) e.before.writer e.after.writer × ReadsWork e
+      × AnswerLines e.exchanges (read_in e) (IsAtEnd (words.reads.bytes (inner_of e.after.reader))) × IsCutShort e.written e.exchanges
   -- the first million lines are answered, and a byte behind them was read
   EndsSo (Err SessionFault.TooManyRequests) e =
-      ReadsWork e × WritesWork e × (length e.exchanges ≡ 1_000_000) × (1_000_000 < length (lines_of e.read))
-      × (lines_in e.exchanges ≡ take 1_000_000 (lines_of e.read)) × (e.written ≡ text_of e.exchanges)
+      ReadsWork e × WritesWork e × (length e.exchanges ≡ 1_000_000) × (1_000_000 < length (lines_of (read_in e)))
+      × (lines_in e.exchanges ≡ take 1_000_000 (lines_of (read_in e))) × (e.written ≡ text_of e.exchanges)
 
   -- what a session reads, does and writes: a million lines at most. The seat shows at each reply what the exchanges up to that one made of it
   pub record Serves (number : ℕ) (result : Result Ended SessionFault) (a b : SessionState R W S) : Type 0 where
-    pub read : List ℕ
+    pub blocks : List (List ℕ)  -- what each read gave
     pub written : List ℕ
     pub exchanges : List Exchange
-    pub reads : Consumes (words.reads.bytes (inner_of a.reader)) (words.reads.bytes (inner_of b.reader)) read
+    pub reads : Consumes (words.reads.bytes (inner_of a.reader)) (words.reads.bytes (inner_of b.reader)) (all_of blocks)
+    pub in_turn : AreReadFor (answered_by result exchanges) blocks
     pub writes : Appends (words.writes.bytes (inner_of a.writer)) (words.writes.bytes (inner_of b.writer)) written
     pub replies : b.replied ≡ a.replied ++ replies_in exchanges
     pub does : AreExchanges words.form number a.at_seat exchanges b.at_seat
     pub few : length exchanges ≤ 1_000_000
     pub short : AreShort exchanges
-    pub ends : EndsSo result (session_record_of read written exchanges a b)
+    pub ends : EndsSo result (session_record_of blocks written exchanges a b)

@@ -3,7 +3,7 @@
 ghost use Rattle.std.specs.Prelude.{◌≡◌, ◌++◌, ◌∷◌, ℕ, List, [], None, MatchResult, take};
 ghost use Rattle.std.specs.Io.KnownBytes.{Appends};
 ghost use Rattle.lines.specs.Showing.{ShowsLine};
-ghost use Rattle.lines.specs.Streams.{HasFailed, Works, inner_of};
+ghost use Rattle.lines.specs.Streams.{HasFailed, HasFlushed, inner_of};
 ghost use Rattle.epochs.specs.Seats.{SeatValue};
 ghost use Rattle.session.specs.Forms.{bare};
 ghost use Rattle.session.specs.Learning.{GoesOn, TellPublished};
@@ -85,7 +85,7 @@ impl<'a, N: Drop, T: Versions<Notice = N>, G: Gate> SessionServer<'a, T, G> {
         outcome
     }
 
-    // Gives back what the seat holds, if anything. If the seat turns out to be lost, nobody is notified.
+    // Gives back what the seat holds, if anything.
     fn release_last(&self, seat: &mut T::Seat)
         requires { T.words.fits self.now.shelves.now seat.old }
         ensures seat { GoesOn T.words self.now.shelves.now seat.old seat.new }
@@ -157,7 +157,7 @@ impl<'a, N: Drop, T: Versions<Notice = N>, G: Gate> SessionServer<'a, T, G> {
         ensures seat { GoesOn T.words self.now.shelves.now seat.old seat.new }
         ensures route { O.route orders.new ≡ O.route orders.old }
         ensures calls { MatchResult result
-            (λ _. Works Out.words writer.old writer.new)
+            (λ _. HasFlushed Out.words writer.old writer.new)
             (λ _. HasFailed Out.words writer.old writer.new) }
         ensures exchange { (l : List ℕ) → ShowsLine line.entry l
             → (t : Exchange) × (t.line ≡ l) × ExchangeLeadsTo self.now.form (T.words.number seat.old)

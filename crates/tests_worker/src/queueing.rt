@@ -84,7 +84,7 @@ type Worker<'a, R> = WorkerOrders<'a, R, u64, Numbers<'a, R>>;
 /// The loader's end of a queue. Each order that was taken from it was answered.
 #[derive(Drop)]
 struct Loader {
-    orders: LoaderOrders<u64>,
+    orders: LoaderOrders<u64, ()>,
 }
 
 impl Model for Loader {
@@ -99,7 +99,7 @@ impl Model for Loader {
 
 impl Loader {
     /// The loader's end of a new queue.
-    fn new(orders: LoaderOrders<u64>) -> Loader
+    fn new(orders: LoaderOrders<u64, ()>) -> Loader
         requires { (orders.taken ≡ []) × (orders.answered ≡ []) }
     {
         Loader { orders }
@@ -124,7 +124,7 @@ impl Loader {
 }
 
 /// Takes the next order and answers it; the name of its feed.
-fn take_and_answer<R: Wait>(rt: &R, orders: &mut LoaderOrders<u64>) -> &'static str
+fn take_and_answer<R: Wait>(rt: &R, orders: &mut LoaderOrders<u64, ()>) -> &'static str
     requires answered { AllAnswered orders.old }
     ensures answered { AllAnswered orders.new }
     ensures queue { orders.new.queue ≡ orders.old.queue }
@@ -156,7 +156,7 @@ fn new_ends<'a, R: Wait>(
     shelves: &'a Numbers<'a, R>,
 ) -> Result<QueueEnds<'a, R>, AllocError> {
     let rt = shelves.rt;
-    let (mut keeper, loader) = order_queue(alloc)?;
+    let (mut keeper, loader) = order_queue(alloc, ())?;
     let one = keeper.another_end()?;
     let other = keeper.another_end()?;
     let mut workers = Vec::with_capacity(alloc, 2)?;
@@ -316,7 +316,7 @@ fn tells<'a, R: Threads + Wait + Sync + Abort>(
     expected: Result<(u64, u64), OrderFault>,
 ) -> Result<(), Fail> {
     let rt = shelves.rt;
-    let (mut keeper, loader) = order_queue(alloc)?;
+    let (mut keeper, loader) = order_queue(alloc, ())?;
     let end = keeper.another_end()?;
     let mut worker = WorkerOrders::new(rt, alloc, names, shelves, end);
     let (version, feed) = reported(rt, &mut worker, Loader::new(loader), answer);
@@ -361,7 +361,7 @@ fn taken_of_closed<'a, R: Wait>(
     shelves: &'a Numbers<'a, R>,
 ) -> Result<([&'static str; 2], bool), AllocError> {
     let rt = shelves.rt;
-    let (mut keeper, mut orders) = order_queue(alloc)?;
+    let (mut keeper, mut orders) = order_queue(alloc, ())?;
     let end = keeper.another_end()?;
     let mut worker = WorkerOrders::new(rt, alloc, names, shelves, end);
     let _ = worker.order("fast");

@@ -5,13 +5,13 @@ mod holding;
 mod releasing;
 mod spending;
 
-ghost use Rattle.std.specs.Prelude.{◌≡◌, ◌≤◌, [], All, length, IfOk};
+ghost use Rattle.std.specs.Prelude.{◌≡◌, ◌≤◌, [], All, length, IfOk, MatchOption};
 ghost use Rattle.workers.specs.Sessions.{MayClose};
 ghost use Rattle.epochs.specs.ShelfWords.{shelf_seats};
 ghost use Rattle.workers.specs.Words.{sessions_of};
 
 use epochs::{PublishFault, ShelfLoader, ShelfSeat, Shelves, ShelvesName};
-use feed_files::MemoryFiles;
+use feed_files::{FeedFiles, MemoryFiles};
 use feed_loader::Plan;
 use gtfs_tables::Day;
 use image_layout::sample_words;
@@ -164,6 +164,8 @@ struct TwoFeeds {
 impl Feeds for TwoFeeds {
     type Files = MemoryFiles<'static>;
 
+    type Leave = ();
+
     ghost words = { record {
       named = λ feeds. feeds.names.items;
       are_files = λ feeds index files. Unit {0};
@@ -188,7 +190,10 @@ impl Feeds for TwoFeeds {
         })
     }
 
-    fn files(&self, index: usize, _permit: DrawPermit) -> Option<MemoryFiles<'static>> {
+    fn files(&self, index: usize, _permit: DrawPermit<()>) -> Option<MemoryFiles<'static>>
+        ensures { MatchOption result (length self.now.names.items ≤ index)
+            (λ files. (⟦<MemoryFiles<'static> as FeedFiles>⟧.words.failed files ≡ []) × Unit {0}) }
+    {
         if index == 1 {
             return Some(MemoryFiles::of(&BAD_FILES));
         }
@@ -311,7 +316,17 @@ fn count_ends<
 {
     let feeds = two_feeds(alloc)?;
     let Ok(ran) = run_shelves::<B, _, _, _, _, _, _>(
-        rt, alloc, clients, shelves, seats, loader, &feeds, gate, form, errors,
+        rt,
+        alloc,
+        clients,
+        shelves,
+        seats,
+        loader,
+        &feeds,
+        (),
+        gate,
+        form,
+        errors,
     ) else {
         return Err(AllocError);
     };

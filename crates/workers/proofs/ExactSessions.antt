@@ -5,7 +5,8 @@ use Rattle.shelf_steps.specs.declared.views.KnownHistory.{KnownHistory}
 use Rattle.session.specs.Learning.{IsPublishedIfHeld, Learns, TellPublished, TellsPublished}
 use Rattle.session.specs.Exchanges.{seat_state}
 use Rattle.session.specs.declared.session_server.Streams.{Streams}
-use Rattle.session.proofs.LearnLemmas.{learning_tells, learns_nothing, learns_on, learns_same}
+use Rattle.epochs.proofs.GrowthLemmas.{learns_nothing}
+use Rattle.session.proofs.LearnLemmas.{learning_tells, learns_on, learns_same}
 use Rattle.workers.specs.Ends.{Session}
 use Rattle.workers.specs.Sessions.{AreExact, AreServed, IsExact, IsServed, WorkerState, served_client_of}
 use Rattle.workers.specs.Words.{SessionWords}

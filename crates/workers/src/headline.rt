@@ -59,6 +59,7 @@ pub fn run_shelves<
     seats: Vec<ShelfSeat>,
     loader: ShelfLoader,
     feeds: &F,
+    leave: F::Leave,
     gate: &G,
     form: ReplyForm,
     errors: E,
@@ -86,7 +87,7 @@ pub fn run_shelves<
     let shelves = NamedShelves::<B>::of(shelves);
     let loader = NamedLoader::<B>::of(loader);
     match run_workers(
-        rt, alloc, clients, &shelves, seats, loader, feeds, gate, form, errors,
+        rt, alloc, clients, &shelves, seats, loader, feeds, leave, gate, form, errors,
     ) {
         Ok(run_result) => {
             know_one_history(&run_result.seats, &run_result.loader);

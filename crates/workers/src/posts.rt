@@ -156,8 +156,8 @@ pub(crate) fn start_worker<
     }
 }
 
-/// Joins a worker, once the queue was closed for it: its ends of both queues are back then, and what it left is added
-/// to the work. None if it left before.
+/// Joins a worker: takes back its ends of both queues, and adds what it left to the work. None if it returned before
+/// its queue was closed for it, or if there is no memory for its seat.
 pub(crate) fn join_worker<
     C: Client<Reader = I, Writer = O> + Drop,
     I: ReadStream + Send,

@@ -36,15 +36,16 @@ pub enum WorkersFault<K> {
     /// There was no memory or no thread for the workers. No client was taken from the source.
     #[error("there is no memory or no thread for the workers")]
     NotStarted { clients: K },
-    /// All clients were dealt to workers; but one of these or the loader left before its queue was closed for it, which
-    /// none does while the other end of that queue is there.
+    /// All clients were dealt; but a worker or the loader returned before its queue was closed for it, or there was no
+    /// memory to keep a worker's seat. A worker and the loader return early only if the other ends of their queue are
+    /// gone, and those are kept until then.
     #[error("a worker or the loader was lost")]
     Lost { clients: K },
 }
 
-/// Serves all clients, with a worker for each seat, and loads the feeds that they order. Profiles are replied in this
-/// form. What came of a load is written to the error writer, and goes to whoever waits for it. This function returns
-/// when there are no more clients, all sessions have ended, and all orders were carried out.
+/// Serves all clients, with a worker for each seat, and loads the feeds that they order, with this leave. Profiles are
+/// replied in this form. What came of a load is written to the error writer, and goes to the worker that waits for it.
+/// This function returns when there are no more clients, all sessions have ended, and all orders were carried out.
 pub fn run_workers<
     C: Client + Drop + Send,
     K: Clients<C> + Drop,
@@ -61,6 +62,7 @@ pub fn run_workers<
     seats: Vec<T::Seat>,
     loader: T::Loader,
     feeds: &F,
+    leave: F::Leave,
     gate: &G,
     form: ReplyForm,
     errors: E,
@@ -92,7 +94,7 @@ where
             requires { IsSync R.row × IsSync T.row × IsSync F.row × IsSync G.row × IsSend T.Seat.row
                 × IsSend T.Loader.row
                 × IsSend T.Notice.row × IsSend C.row × IsSend C.Reader.row × IsSend C.Writer.row
-                × IsSend F.Files.row × IsSend E.row
+                × IsSend F.Files.row × IsSend F.Leave.row × IsSend E.row
                 × AreReady T.Versions.words T.Loads.words
                 (server_input_of clients shelves.now seats.items loader feeds.now)
                 × MayClose (sessions_of form C.words C.Reader.words C.Writer.words T.Versions.words)
@@ -113,7 +115,7 @@ where
                 gate,
                 form,
             };
-            run_in(scope, &workplace, clients, seats, loader, errors)
+            run_in(scope, &workplace, clients, seats, loader, leave, errors)
         },
     )
 }
@@ -131,7 +133,8 @@ fn run_in<
     N: Send + Drop + 's,
     D: FeedFiles + Send + Drop + 's,
     T: Versions<Seat = S, Notice = N> + Loads<Loader = L> + Sync + 's,
-    F: Feeds<Files = D> + Sync + 's,
+    V: Send + Drop + 's,
+    F: Feeds<Files = D, Leave = V> + Sync + 's,
     G: Gate + Sync + 's,
     E: Write + Send + Drop + 's,
     R: Threads + Wait + Sync + 's,
@@ -141,6 +144,7 @@ fn run_in<
     clients: K,
     seats: Vec<S>,
     loader: L,
+    leave: V,
     errors: E,
 ) -> Result<ServingOutcome<I, O, K, S, L, N, D>, WorkersFault<K>>
     requires ready { AreReady T.Versions.words T.Loads.words
@@ -156,7 +160,7 @@ fn run_in<
     let Ok(mut dealer) = client_queue(workplace.alloc) else {
         return Err(WorkersFault::NotStarted { clients });
     };
-    let Ok((mut asks, orders)) = order_queue(workplace.alloc) else {
+    let Ok((mut asks, orders)) = order_queue(workplace.alloc, leave) else {
         return Err(WorkersFault::NotStarted { clients });
     };
     let loads = LoadContext {
@@ -193,9 +197,9 @@ fn run_in<
     }
 }
 
-// Has all clients served by a worker at each of these seats. The worker at the last seat is started, the clients are
-// served at the others, and it is joined; where no seat is left, all clients are dealt, and the queue is closed for so
-// many takers. Returns the clients' source, and what these workers leave.
+// Has all clients served, by a worker at each of these seats: starts the worker of the last seat, calls itself for the
+// other seats, and joins that worker. Without a seat, it deals all clients and closes their queue for so many takers.
+// Returns the clients' source, and what these workers leave.
 fn serve_at<
     's,
     A,

@@ -95,6 +95,7 @@ fn serve_waiter<B: ShelvesName + Send + Sync, R: Threads + Wait + Sync>(
         seats,
         loader,
         &feeds,
+        (),
         &OpenGate,
         ReplyForm::of(PointForm::Bare),
         Sink,

@@ -11,7 +11,8 @@ use Rattle.session.specs.Replies.{plain}
 use Rattle.session.proofs.session_server.SessionServer.pin.Goals as goal
 
 pub returns-in-Err-clause-met : goal.returns-in-Err-clause-met
-returns-in-Err-clause-met g c = answer_met (asks pin) (SeatAnswer.PinRefused c.in-Err.fault) c.in-Err.ensures.pin
+returns-in-Err-clause-met g c = answer_met (asks pin) (SeatAnswer.PinRefused c.in-Err.fault)
+    (c.in-Err.ensures.refused, c.in-Err.ensures.pin)
     (refl, inr (record { fault = c.in-Err.fault; moves_are = refl; reply_is = c.pin_fault.ensures }))
 
 pub returns-in-Ok-clause-met : goal.returns-in-Ok-clause-met
@@ -24,7 +25,8 @@ returns-in-Ok-clause-met g c =
 pub returns-in-Err-reply_made-clause-met : goal.returns-in-Err-reply_made-clause-met
 returns-in-Err-reply_made-clause-met g c =
     let e = c.in_default.ensures in
-    given_back _ (is_once _ _ _ _ _ (is_pinned _ _ _ _ _ e.number e.known e.pin) c.release.ensures.release) c.refusal.ensures
+    given_back _ (is_once _ _ _ _ _ (is_pinned _ _ _ _ _ e.number e.known e.pin) c.release.ensures.release c.release.ensures.refused)
+    c.refusal.ensures
 
 pub returns-in-Err-reply_made-clause-seat : goal.returns-in-Err-reply_made-clause-seat
 returns-in-Err-reply_made-clause-seat g c =
