@@ -1,60 +1,39 @@
 //! Exit statuses, and the texts and reports that they come with.
 
-ghost use Rattle.std.specs.Prelude.{◌≡◌, ◌≢◌, ◌⊎◌, IfErr, IfOk, string_bytes, true};
+ghost use Rattle.std.specs.Prelude.{◌≡◌, ◌≢◌, ◌⊎◌, IfErr, IfOk, string_bytes};
 ghost use Rattle.std.specs.declared.io.ErrorKind.TheVariants.{OutOfMemory as WasOutOfMemory};
 ghost use Rattle.std.specs.Io.KnownBytes.{Appends};
 ghost use Rattle.command_requests.specs.declared.statuses.TheConstants.{INPUT_OUTPUT, OUT_OF_MEMORY};
-ghost use Rattle.command_endings.specs.Ending.{IsBegun};
+ghost use Rattle.command_endings.specs.Ending.{IsBegun, IsDone};
+ghost use Rattle.image_files.specs.Watching.{HasFault};
 
 pub use command_requests::statuses::{
     ACCEPTED, COMMAND_LINE, INPUT_OUTPUT, OUT_OF_MEMORY, REFUSED,
 };
 use feed_messages::{explain, reason_of, shown_path, unread_reason};
+use image_files::{Watched, write_all};
 use std::alloc::AllocError;
 use std::io::{ErrorKind, Write};
 use std::rt::Files;
 
 /// Writes the text. Returns `status`; or `INPUT_OUTPUT` if a write fails, and then a first part of the text, possibly
-/// empty, was written.
-pub fn write_text<W: Write>(writer: &mut W, text: &str, status: u8) -> u8
+/// empty, was written, and the writer has a fault.
+pub fn write_text<W: Watched>(writer: &mut W, text: &str, status: u8) -> u8
     ensures status { (result ≡ status) ⊎ (result ≡ INPUT_OUTPUT) }
     ensures written { result ≢ INPUT_OUTPUT → Appends (W.contents writer.old) (W.contents writer.new) text.now }
     ensures begun { IsBegun (W.contents writer.old) (W.contents writer.new) text.now }
+    ensures failed { result ≡ INPUT_OUTPUT
+        → IsDone status text.now (W.contents writer.old) (W.contents writer.new) ⊎ HasFault (W.noted writer.new) }
 {
-    if write_bytes(writer, text.as_bytes()) {
-        status
-    } else {
-        INPUT_OUTPUT
+    match write_all(writer, text.as_bytes()) {
+        Ok(()) => status,
+        Err(_) => INPUT_OUTPUT,
     }
-}
-
-// Writes the bytes, and returns whether all were written. If not, a first part of them was, possibly empty, and nothing
-// else.
-fn write_bytes<W: Write>(writer: &mut W, bytes: &[u8]) -> bool
-    ensures whole { result ≡ true → Appends (W.contents writer.old) (W.contents writer.new) bytes.now }
-    ensures begun { IsBegun (W.contents writer.old) (W.contents writer.new) bytes.now }
-{
-    let mut done = 0;
-    for _ in 0..u64::MAX {
-        if done == bytes.len() {
-            return true;
-        }
-        match writer.write(&bytes[done..]) {
-            Ok(0) => return false,
-            Ok(written) => done += written,
-            Err(error) => {
-                if error.kind() != ErrorKind::Interrupted {
-                    return false;
-                }
-            }
-        }
-    }
-    false
 }
 
 /// Writes a line, if there was memory for it. Returns `status`, or `INPUT_OUTPUT` if a write fails; or `OUT_OF_MEMORY`
 /// if there is no line, and then writes nothing.
-pub fn write_line<W: Write>(writer: &mut W, line: Result<String, AllocError>, status: u8) -> u8
+pub fn write_line<W: Watched>(writer: &mut W, line: Result<String, AllocError>, status: u8) -> u8
     ensures status { (result ≡ status) ⊎ (result ≡ INPUT_OUTPUT) ⊎ (result ≡ OUT_OF_MEMORY) }
     ensures kept { IfOk line (λ _. (result ≡ status) ⊎ (result ≡ INPUT_OUTPUT)) }
     ensures written { IfOk line (λ text. result ≢ INPUT_OUTPUT
@@ -63,6 +42,7 @@ pub fn write_line<W: Write>(writer: &mut W, line: Result<String, AllocError>, st
     ensures unwritten { IfErr line (λ _. W.contents writer.new ≡ W.contents writer.old) }
     ensures silent { status ≢ OUT_OF_MEMORY → result ≡ OUT_OF_MEMORY → W.contents writer.new ≡ W.contents writer.old }
     ensures begun { IfOk line (λ text. IsBegun (W.contents writer.old) (W.contents writer.new) (string_bytes text)) }
+    ensures failed { status ≢ INPUT_OUTPUT → result ≡ INPUT_OUTPUT → HasFault (W.noted writer.new) }
 {
     match line {
         Ok(text) => write_text(writer, text.as_str(), status),

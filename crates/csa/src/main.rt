@@ -4,7 +4,8 @@
 mod source_sum;
 
 use crate::source_sum::SOURCES;
-use csa_program::{ShownWriter, WatchedWriter, explain_no_words, print_sources, run};
+use csa_program::{ShownWriter, explain_no_words, print_sources, run};
+use image_files::WatchedWriter;
 use std::env;
 use std::fs::File;
 use std::io::{ErrorKind, IsTerminal};

@@ -2,4 +2,4 @@
 
 /// The sum of all sources but this file, as `release/sources --program` prints it. `release/stamp` writes it, and
 /// `.ci/run` compares it with the sources.
-pub const SOURCES: &str = "6f463c5f34ce50992bd8592e6009d0209407a70da8600ddeb05f2c60ee882966";
+pub const SOURCES: &str = "99c556dfae901732ce793029733dad41fecf50c70bb666d10d36dc9fd1746311";

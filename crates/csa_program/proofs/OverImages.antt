@@ -1,6 +1,7 @@
 -- What a command prints over the image that was opened.
-use Rattle.std.proofs.Common.{◌≡◌, ℕ, List, Option, arith, inl, inr, subst}
-use Rattle.image_files.specs.Held.{HoldsOfBytes}
+use Rattle.std.proofs.Common.{◌≡◌, ◌⊎◌, ℕ, List, Option, arith, inl, inr, subst}
+use Rattle.std.specs.declared.io.ErrorKind.{ErrorKind}
+use Rattle.image_files.specs.Held.{HoldsOfBytes, IsUnreadable}
 use Rattle.image_files.specs.Out.{OutFiles}
 use Rattle.image_layout.specs.Image.{ImageValue}
 use Rattle.command_requests.specs.declared.requests.MatrixRequest.{MatrixRequest}
@@ -12,29 +13,32 @@ use Rattle.csa_program.specs.Running.{IsTableEnd}
 use Rattle.command_endings.proofs.Outcomes.{outcome_of}
 
 module _ (may_hold : List ℕ → Option (List ℕ) → Type 0) (path : List ℕ) (input : Option (List ℕ)) (Is : ImageValue → ℕ → List ℕ → Type 0)
-    (status : ℕ) (before : Option (List ℕ)) where
+    (F G : Type 0) (fault : Option ErrorKind) (status : ℕ) (before : Option (List ℕ)) where
   -- nothing was printed while it was opened
   pub over_image : (image : ImageValue) (opened after : Option (List ℕ)) → HoldsOfBytes may_hold path input (SpellsImage image)
-      → opened ≡ before → IsOutcome (Is image) status opened after → IsOutcome (PrintsOver may_hold path input Is) status before after
+      → opened ≡ before → IsOutcome (Is image) G fault status opened after → IsOutcome (PrintsOver may_hold path input Is) (F ⊎ G) fault status before after
   over_image image opened after held silent ended =
-      subst (λ (was : Option (List ℕ)). IsOutcome (PrintsOver may_hold path input Is) status was after) silent
-      (outcome_of (Is image) (PrintsOver may_hold path input Is) status opened after (λ s text is. inl (image, held, is)) ended)
+      subst (λ (was : Option (List ℕ)). IsOutcome (PrintsOver may_hold path input Is) (F ⊎ G) fault status was after) silent
+      (outcome_of (Is image) (PrintsOver may_hold path input Is) G (F ⊎ G) fault status opened after (λ s text is. inl (image, held, is))
+      (λ can. inr can) ended)
 
-  pub over_none : (after : Option (List ℕ)) → IsOutcome (PrintsRefusal (IsRefusedImage may_hold path input)) status before after
-      → IsOutcome (PrintsOver may_hold path input Is) status before after
+  pub over_none : (after : Option (List ℕ)) → IsOutcome (PrintsRefusal (IsRefusedImage may_hold path input)) F fault status before after
+      → IsOutcome (PrintsOver may_hold path input Is) (F ⊎ G) fault status before after
   over_none after ended =
-      outcome_of (PrintsRefusal (IsRefusedImage may_hold path input)) (PrintsOver may_hold path input Is) status before after (λ s text is. inr is) ended
+      outcome_of (PrintsRefusal (IsRefusedImage may_hold path input)) (PrintsOver may_hold path input Is) F (F ⊎ G) fault status before after
+      (λ s text is. inr is) (λ can. inl can) ended
 
-module _ (may_hold : List ℕ → Option (List ℕ) → Type 0) (disk : OutFiles) (input : Option (List ℕ)) (request : MatrixRequest) (status : ℕ)
-    (before : Option (List ℕ)) where
+module _ (may_hold : List ℕ → Option (List ℕ) → Type 0) (may_fail : List ℕ → Type 0) (disk : OutFiles) (input : Option (List ℕ)) (input_failed : Type 0)
+    (request : MatrixRequest) (fault : Option ErrorKind) (status : ℕ) (before : Option (List ℕ)) where
   pub table_over : (image : ImageValue) (opened after : Option (List ℕ)) → HoldsOfBytes may_hold request.image.now input (SpellsImage image)
       → opened ≡ before → EndsTable status → (status ≡ ACCEPTED → IsTablePrinted may_hold disk image request opened after)
       → (status ≡ REFUSED → IsTableRefused may_hold image request opened after)
       → (status ≡ COMMAND_LINE → IsTableUnlisted may_hold image request opened after)
-      → (status ≡ INPUT_OUTPUT → IsTableCutShort may_hold image request opened after)
-      → (status ≡ OUT_OF_MEMORY → IsTableSpent may_hold image request opened after) → IsTableEnd may_hold disk input request status before after
+      → (status ≡ INPUT_OUTPUT → IsTableCutShort may_hold may_fail disk image request fault opened after)
+      → (status ≡ OUT_OF_MEMORY → IsTableSpent may_hold image request opened after)
+      → IsTableEnd may_hold may_fail disk input input_failed request fault status before after
   table_over image opened after held kept ends printed refused unlisted cut spent =
-      subst (λ (was : Option (List ℕ)). IsTableEnd may_hold disk input request status was after) kept (record {
+      subst (λ (was : Option (List ℕ)). IsTableEnd may_hold may_fail disk input input_failed request fault status was after) kept (record {
         ends = ends;
         printed = λ is. (image, held, printed is);
         refused = λ is. inr (image, held, refused is);
@@ -43,8 +47,9 @@ module _ (may_hold : List ℕ → Option (List ℕ) → Type 0) (disk : OutFiles
         spent = λ is. inr (image, held, spent is);
       })
 
-  pub no_table : (after : Option (List ℕ)) → IsOutcome (PrintsRefusal (IsRefusedImage may_hold request.image.now input)) status before after
-      → IsTableEnd may_hold disk input request status before after
+  pub no_table : (after : Option (List ℕ)) → IsOutcome (PrintsRefusal (IsRefusedImage may_hold request.image.now input))
+      (IsUnreadable may_fail request.image.now input_failed) fault status before after
+      → IsTableEnd may_hold may_fail disk input input_failed request fault status before after
   no_table after (inl (line, is, whole)) = record {
     ends = inl (inr (inl is.0));
     printed = λ e. absurd (omega (arith, e, is.0));
@@ -53,27 +58,27 @@ module _ (may_hold : List ℕ → Option (List ℕ) → Type 0) (disk : OutFiles
     cut = λ e. absurd (omega (arith, e, is.0));
     spent = λ e. absurd (omega (arith, e, is.0));
   }
-  no_table after (inr (inl (failed, s, text, is, begun))) = record {
+  no_table after (inr (inl (failed, has, s, text, is, begun))) = record {
     ends = inl (inr (inr (inl failed)));
     printed = λ e. absurd (omega (arith, e, failed));
     refused = λ e. absurd (omega (arith, e, failed));
     unlisted = λ e. absurd (omega (arith, e, failed));
-    cut = λ e. inr (inl (text, is.1, begun));
+    cut = λ e. inr (inl (has, text, is.1, begun));
     spent = λ e. absurd (omega (arith, e, failed));
   }
-  no_table after (inr (inr (inl failed, kept))) = record {
+  no_table after (inr (inr (inl (failed, unread), kept))) = record {
     ends = inl (inr (inr (inl failed)));
     printed = λ e. absurd (omega (arith, e, failed));
     refused = λ e. absurd (omega (arith, e, failed));
     unlisted = λ e. absurd (omega (arith, e, failed));
-    cut = λ e. inl kept;
-    spent = λ e. inl kept;
+    cut = λ e. inl (unread, kept);
+    spent = λ e. absurd (omega (arith, e, failed));
   }
   no_table after (inr (inr (inr none, kept))) = record {
     ends = inl (inr (inr (inr none)));
     printed = λ e. absurd (omega (arith, e, none));
     refused = λ e. absurd (omega (arith, e, none));
     unlisted = λ e. absurd (omega (arith, e, none));
-    cut = λ e. inl kept;
+    cut = λ e. absurd (omega (arith, e, none));
     spent = λ e. inl kept;
   }

@@ -2,9 +2,11 @@
 use Rattle.std.proofs.Common.{◌≡◌, ◌≢◌, ◌<◌, ◌∙◌, ◌⊎◌, ◌||◌, ℕ, ℤ, List, Bool, Option}
 use Rattle.std.proofs.Common.{arith, false, if◌then◌else◌, inl, inr, nat_lt, refl, subst, sym, take, true}
 use Rattle.std.specs.Io.KnownBytes.{Appends}
+use Rattle.std.specs.declared.io.ErrorKind.{ErrorKind}
 use Rattle.std.proofs.KnownBytes.{Appends-trans}
 use Rattle.command_endings.proofs.Outcomes.{outcome_of}
-use Rattle.command_endings.specs.Ending.{EndsUndone, IsBegun, IsOutcome, PrintsRefusal}
+use Rattle.command_endings.specs.Ending.{EndsUndone, IsBegun, IsDone, IsOutcome, PrintsRefusal}
+use Rattle.image_files.specs.Watching.{HasFault}
 use Rattle.command_requests.specs.Ending.{status_of}
 use Rattle.command_requests.specs.declared.ends.SessionCounts.{SessionCounts}
 use Rattle.command_requests.specs.declared.requests.ServeRequest.{ServeRequest}
@@ -62,39 +64,44 @@ port_told port status line before after same (inl e) whole part =
 port_told port status line before after same (inr e) whole part = inr (inl (e, subst (IsBegun before after) same part))
 
 module _ (may_hold : List ℕ → Option (List ℕ) → Type 0) (may_show : Option ℤ → Type 0) (input : Option (List ℕ))
-    (request : ServeRequest) (status : ℕ) (before after : Option (List ℕ)) where
+    (request : ServeRequest) (noted : Option ErrorKind) (status : ℕ) (before after : Option (List ℕ)) where
   -- its zone is refused
   pub zone_refused : (fault : LoadFault) → IsNoZoneOf may_hold request.plan fault → EndsUndone status → (IsWantOfMemory fault → status ≡ OUT_OF_MEMORY)
       → (status ≡ REFUSED → RefusesFeed fault) → (status ≡ REFUSED → Appends before after (feed_line fault))
       → (status ≡ OUT_OF_MEMORY → after ≡ before) → (status ≡ INPUT_OUTPUT → IsBegun before after (feed_line fault))
-      → IsServeEnd may_hold may_show input request status before after
-  zone_refused fault is (inl e) memory refuses whole silent begun =
+      → (status ≡ INPUT_OUTPUT → IsDone (refusal_status fault) (feed_line fault) before after ⊎ HasFault noted)
+      → IsServeEnd may_hold may_show input request noted status before after
+  zone_refused fault is (inl e) memory refuses whole silent begun failed =
       let judged = refuses e in
       inl (inl (feed_line fault, inl (fault, judged.0, e ∙ sym judged.1, is, refl), whole e))
-  zone_refused fault is (inr (inl e)) memory refuses whole silent begun =
+  zone_refused fault is (inr (inl e)) memory refuses whole silent begun failed =
       let other : ¬ (IsWantOfMemory fault) = λ want. let none = memory want in omega (arith, e, none) in
-      inl (inr (inl (e, refusal_status fault, feed_line fault, inl (fault, other, refl, is, refl), begun e)))
-  zone_refused fault is (inr (inr e)) memory refuses whole silent begun = inl (inr (inr (inr e, silent e)))
+      elim (failed e) [
+        | inl done ↦ inl (inl (feed_line fault, inl (fault, other, e ∙ sym done.0, is, refl), done.1))
+        | inr has ↦ inl (inr (inl (e, has, refusal_status fault, feed_line fault, inl (fault, other, refl, is, refl), begun e)))
+      ]
+  zone_refused fault is (inr (inr e)) memory refuses whole silent begun failed = inl (inr (inr (inr e, silent e)))
 
   -- its plan was made, and its image is refused
-  pub image_refused : (zone_bytes : List ℕ) → IsPlanned may_hold may_show input request zone_bytes
-      → IsOutcome (PrintsRefusal (IsRefusedImage may_hold request.image.now input)) status before after
-      → IsServeEnd may_hold may_show input request status before after
-  image_refused zone_bytes planned ended =
+  pub image_refused : (F : Type 0) (zone_bytes : List ℕ) → IsPlanned may_hold may_show input request zone_bytes
+      → IsOutcome (PrintsRefusal (IsRefusedImage may_hold request.image.now input)) F noted status before after
+      → IsServeEnd may_hold may_show input request noted status before after
+  image_refused F zone_bytes planned ended =
       inl (outcome_of (PrintsRefusal (IsRefusedImage may_hold request.image.now input)) (IsServeRefusal may_hold may_show input request)
-      status before after (λ s line is. inr (zone_bytes, planned, is)) ended)
+      F (Unit {0}) noted status before after (λ s line is. inr (zone_bytes, planned, is)) (λ can. tt) ended)
 
   -- it can't be begun
   pub unbegun : (status ≡ INPUT_OUTPUT) ⊎ (status ≡ OUT_OF_MEMORY) → after ≡ before
-      → IsServeEnd may_hold may_show input request status before after
-  unbegun why same = inl (inr (inr (why, same)))
+      → IsServeEnd may_hold may_show input request noted status before after
+  unbegun (inl e) same = inl (inr (inr (inl (e, tt), same)))
+  unbegun (inr e) same = inl (inr (inr (inr e, same)))
 
   -- nothing was printed until it listened
   pub listened : (image : ImageValue) (zone_bytes : List ℕ) (port : ℕ) (opened : Option (List ℕ))
       → IsPlanned may_hold may_show input request zone_bytes → HoldsOfBytes may_hold request.image.now input (SpellsImage image)
       → (request.port ≢ 0 → port ≡ request.port) → port < 65_536 → opened ≡ before
       → IsEndAt port opened after status
-      → IsServeEnd may_hold may_show input request status before after
+      → IsServeEnd may_hold may_show input request noted status before after
   listened image zone_bytes port opened planned held at small kept ended = inr (record {
     image = image;
     zone_bytes = zone_bytes;

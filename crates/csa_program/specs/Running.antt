@@ -1,8 +1,10 @@
 -- What `csa` prints and writes, and with which status it ends.
 use Rattle.std.specs.Prelude.{◌≡◌, ◌≢◌, ◌⊎◌, ◌<◌, ℕ, ℤ, List, Option, Result, Ok, Err, string_bytes}
 use Rattle.std.specs.Io.KnownBytes.{Appends}
+use Rattle.std.specs.declared.io.ErrorKind.{ErrorKind}
 use Rattle.feed_files.specs.Files.{Gives}
-use Rattle.image_files.specs.Held.{HoldsOfBytes}
+use Rattle.image_files.specs.Held.{HoldsOfBytes, IsUnreadable}
+use Rattle.image_files.specs.Watching.{HasFault}
 use Rattle.image_files.specs.Out.{OutFiles}
 use Rattle.image_layout.specs.Image.{ImageValue}
 use Rattle.command_line.specs.declared.reading.NoCommand.{NoCommand}
@@ -12,8 +14,11 @@ use Rattle.command_requests.specs.declared.requests.CommandRequest.TheVariants a
 use Rattle.command_requests.specs.declared.requests.MatrixRequest.{MatrixRequest}
 use Rattle.command_requests.specs.declared.requests.ServeRequest.{ServeRequest}
 use Rattle.command_requests.specs.declared.statuses.TheConstants.{ACCEPTED, COMMAND_LINE, INPUT_OUTPUT, OUT_OF_MEMORY, REFUSED}
-use Rattle.feed_commands.specs.Building.{IsReport}
-use Rattle.image_commands.specs.Commands.{PrintsAsked, PrintsDepartures, PrintsProfile}
+use Rattle.feed_commands.specs.Building.{IsReport, IsUnusable as BuildIsUnusable}
+use Rattle.image_commands.specs.Commands.{IsUnusable, PrintsAsked, PrintsDepartures, PrintsProfile, path_of}
+use Rattle.image_commands.specs.Answering.{IsPictureUnwritable}
+use Rattle.image_commands.specs.Departing.{IsListUnreadable}
+use Rattle.image_commands.specs.declared.asked.ImageRequest.{ImageRequest}
 use Rattle.command_endings.specs.Ending.{IsBegun, IsOutcome, PrintsRefusal}
 use Rattle.feed_commands.specs.Folders.{AreDaysOf, IsBuildRefusal, IsTablesRefusalOf}
 use Rattle.image_commands.specs.Matrices.{EndsTable, IsTableCutShort, IsTablePrinted, IsTableRefused, IsTableSpent, IsTableUnlisted}
@@ -27,14 +32,15 @@ use Rattle.feed_commands.specs.Tabling.{IsCounts}
 use Rattle.image_commands.specs.declared.asked.ImageRequest.TheVariants as images
 use Rattle.csa_program.specs.Serving.{IsEndAt}
 
--- a text was printed, or a write failed once a first part of it was
-abbrev pub IsTextEnd : List ℕ → ℕ → Option (List ℕ) → Option (List ℕ) → Type 0
-IsTextEnd text status before after =
-    ((status ≡ ACCEPTED) × Appends before after text) ⊎ ((status ≡ INPUT_OUTPUT) × IsBegun before after text)
+-- a text was printed; or the output has a fault, and a first part of it was
+abbrev pub IsTextEnd : List ℕ → Option ErrorKind → ℕ → Option (List ℕ) → Option (List ℕ) → Type 0
+IsTextEnd text fault status before after =
+    ((status ≡ ACCEPTED) × Appends before after text) ⊎ ((status ≡ INPUT_OUTPUT) × HasFault fault × IsBegun before after text)
 
--- a table over the image at its path ended so; `may_hold` says what a file at a path may hold, and the path `-` is the input
-pub record IsTableEnd (may_hold : List ℕ → Option (List ℕ) → Type 0) (disk : OutFiles) (input : Option (List ℕ)) (request : MatrixRequest)
-    (status : ℕ) (before after : Option (List ℕ)) : Type 0 where
+-- a table over the image at its path ended so; `may_hold` says what a file at a path may hold, `may_fail` that it may not be read, and the path `-` is the
+-- input, of which it is said whether a read failed
+pub record IsTableEnd (may_hold : List ℕ → Option (List ℕ) → Type 0) (may_fail : List ℕ → Type 0) (disk : OutFiles) (input : Option (List ℕ))
+    (input_failed : Type 0) (request : MatrixRequest) (fault : Option ErrorKind) (status : ℕ) (before after : Option (List ℕ)) : Type 0 where
   pub ends : EndsTable status
   pub printed : status ≡ ACCEPTED → (image : ImageValue) × HoldsOfBytes may_hold request.image.now input (SpellsImage image)
       × IsTablePrinted may_hold disk image request before after
@@ -44,12 +50,12 @@ pub record IsTableEnd (may_hold : List ℕ → Option (List ℕ) → Type 0) (di
       × IsTableRefused may_hold image request before after)
   pub unlisted : status ≡ COMMAND_LINE → (image : ImageValue) × HoldsOfBytes may_hold request.image.now input (SpellsImage image)
       × IsTableUnlisted may_hold image request before after
-  -- a file or a line can't be read or written
+  -- the image can't be read, or the output has a fault, or a file of the table can't be read or written
   pub cut : status ≡ INPUT_OUTPUT
-      → (after ≡ before)
-      ⊎ ((line : List ℕ) × IsRefusedImage may_hold request.image.now input line × IsBegun before after line)
+      → (IsUnreadable may_fail request.image.now input_failed × (after ≡ before))
+      ⊎ (HasFault fault × (line : List ℕ) × IsRefusedImage may_hold request.image.now input line × IsBegun before after line)
       ⊎ ((image : ImageValue) × HoldsOfBytes may_hold request.image.now input (SpellsImage image)
-      × IsTableCutShort may_hold image request before after)
+      × IsTableCutShort may_hold may_fail disk image request fault before after)
   -- memory ran out
   pub spent : status ≡ OUT_OF_MEMORY
       → (after ≡ before)
@@ -78,35 +84,49 @@ module _ (may_hold : List ℕ → Option (List ℕ) → Type 0) (may_show : Opti
     pub small : port < 65_536
     pub ended : IsEndAt port before after status
 
-  -- a server was refused, or can't be begun, or ended so
-  abbrev pub IsServeEnd : ℕ → Option (List ℕ) → Option (List ℕ) → Type 0
-  IsServeEnd status before after = IsOutcome IsServeRefusal status before after ⊎ IsServed status before after
+  -- a server was refused, or can't be begun, for whatever reason, or ended so
+  abbrev pub IsServeEnd : Option ErrorKind → ℕ → Option (List ℕ) → Option (List ℕ) → Type 0
+  IsServeEnd fault status before after = IsOutcome IsServeRefusal (Unit {0}) fault status before after ⊎ IsServed status before after
 
--- `gives` says what a disk of some kind may give for a folder in some state and the name of a file, and `disk` what is known of files that are written
-module _ {D : Type 0} (may_hold : List ℕ → Option (List ℕ) → Type 0) (gives : Gives D) (disk : OutFiles) (may_show : Option ℤ → Type 0)
-    (input : Option (List ℕ)) where
+-- the image that a command is over may not be read, or a file that it needs besides may not be read or written
+abbrev pub IsUnusableOver : (List ℕ → Option (List ℕ) → Type 0) → (List ℕ → Type 0) → OutFiles → Type 0 → ImageRequest → Type 0
+IsUnusableOver may_hold may_fail disk input_failed asked =
+    IsUnreadable may_fail (path_of asked) input_failed ⊎ IsUnusable may_fail may_hold disk asked
+
+-- `gives` says what a disk of some kind may give for a folder in some state and the name of a file, and `disk` what is known of files that are written;
+-- `may_fail` that a file at a path may not be read, and `input_failed` that a read of the input failed; `fault` is that of the output
+module _ {D : Type 0} (may_hold : List ℕ → Option (List ℕ) → Type 0) (may_fail : List ℕ → Type 0) (gives : Gives D) (disk : OutFiles)
+    (may_show : Option ℤ → Type 0) (input : Option (List ℕ)) (input_failed : Type 0) (fault : Option ErrorKind) where
   -- a command ended so, over the image at its path, or over the files of its folder
   abbrev pub IsEnd : CommandRequest → ℕ → Option (List ℕ) → Option (List ℕ) → Type 0
   IsEnd (requests.Verify image) = IsOutcome (PrintsOver may_hold image.now input (λ i. PrintsAsked may_hold disk i (images.Verify image)))
+      (IsUnusableOver may_hold may_fail disk input_failed (images.Verify image)) fault
   IsEnd (requests.Info request) = IsOutcome (PrintsOver may_hold request.image.now input (λ i. PrintsAsked may_hold disk i (images.Info request)))
+      (IsUnusableOver may_hold may_fail disk input_failed (images.Info request)) fault
   IsEnd (requests.Journey request) = IsOutcome (PrintsOver may_hold request.image.now input (λ i. PrintsAsked may_hold disk i (images.Journey request)))
+      (IsUnusableOver may_hold may_fail disk input_failed (images.Journey request)) fault
   IsEnd (requests.Profile request) = IsOutcome (PrintsOver may_hold request.image.now input (λ i. PrintsProfile disk i request))
+      (IsUnreadable may_fail request.image.now input_failed ⊎ IsPictureUnwritable disk request.picture) fault
   IsEnd (requests.Departures request) = IsOutcome (PrintsOver may_hold request.image.now input (λ i. PrintsDepartures may_hold i request))
-  IsEnd (requests.Matrix request) = IsTableEnd may_hold disk input request
-  IsEnd (requests.Tables request) = IsOutcome (PrintsOfFeed (IsCounts gives request) (IsTablesRefusalOf gives request.folder.now))
+      (IsUnreadable may_fail request.image.now input_failed ⊎ IsListUnreadable may_fail may_hold request.from) fault
+  IsEnd (requests.Matrix request) = IsTableEnd may_hold may_fail disk input input_failed request fault
+  IsEnd (requests.Tables request) = IsOutcome (PrintsOfFeed (IsCounts gives request) (IsTablesRefusalOf gives request.folder.now)) ⊥ fault
   IsEnd (requests.Days request) =
-      IsOutcome (PrintsOfFeed (AreDaysOf gives request.folder.now request.json) (IsTablesRefusalOf gives request.folder.now))
+      IsOutcome (PrintsOfFeed (AreDaysOf gives request.folder.now request.json) (IsTablesRefusalOf gives request.folder.now)) ⊥ fault
   IsEnd (requests.Stations request) =
-      IsOutcome (PrintsOfFeed (IsTextOf gives request.folder.now request) (IsStopsRefusal gives request.folder.now))
+      IsOutcome (PrintsOfFeed (IsTextOf gives request.folder.now request) (IsStopsRefusal gives request.folder.now)) ⊥ fault
   IsEnd (requests.Build request) =
       IsOutcome (PrintsOfFeed (IsReport gives may_hold may_show disk request) (IsBuildRefusal gives request.folder.now may_hold may_show request.plan))
+      (BuildIsUnusable may_fail disk request) fault
   IsEnd (requests.Stops request) = IsOutcome (PrintsOver may_hold request.image.now input (λ i. PrintsAsked may_hold disk i (images.Stops request)))
+      (IsUnusableOver may_hold may_fail disk input_failed (images.Stops request)) fault
   IsEnd (requests.Upgrade request) = IsOutcome (PrintsOver may_hold request.image.now input (λ i. PrintsAsked may_hold disk i (images.Upgrade request)))
-  IsEnd (requests.Serve request) = IsServeEnd may_hold may_show input request
+      (IsUnusableOver may_hold may_fail disk input_failed (images.Upgrade request)) fault
+  IsEnd (requests.Serve request) = IsServeEnd may_hold may_show input request fault
 
   -- a command line ended so: the request that it makes, or the help; or it makes none, or memory ran out, and nothing was printed
   abbrev pub IsEndOf : Result CommandRequest NoCommand → ℕ → Option (List ℕ) → Option (List ℕ) → Type 0
   IsEndOf (Ok request) = IsEnd request
-  IsEndOf (Err (Help text)) = IsTextEnd (string_bytes text)
+  IsEndOf (Err (Help text)) = IsTextEnd (string_bytes text) fault
   IsEndOf (Err (Mistake text)) = λ status before after. (status ≡ COMMAND_LINE) × (after ≡ before)
   IsEndOf (Err OutOfMemory) = λ status before after. (status ≡ OUT_OF_MEMORY) × (after ≡ before)

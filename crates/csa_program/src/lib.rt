@@ -1,13 +1,16 @@
 //! The body of the program `csa`: words, a reader and two writers in, an exit status out.
 #![tactic(auto)]
 
-ghost use Rattle.std.specs.Prelude.{◌++◌, Result, codes, map};
+ghost use Rattle.std.specs.Prelude.{◌++◌, ◌⊎◌, Result, codes, map};
 ghost use Rattle.command_line.specs.declared.reading.NoCommand.{NoCommand};
 ghost use Rattle.command_requests.specs.declared.requests.CommandRequest.{CommandRequest};
 ghost use Rattle.image_commands.specs.Commands.{PrintsAsked, PrintsDepartures, PrintsProfile, path_of};
 ghost use Rattle.command_endings.specs.Ending.{IsOutcome};
 ghost use Rattle.image_commands.specs.Opening.{PrintsOver};
-ghost use Rattle.csa_program.specs.Running.{IsEnd, IsEndOf, IsTableEnd, IsTextEnd};
+ghost use Rattle.image_commands.specs.Answering.{IsPictureUnwritable};
+ghost use Rattle.image_commands.specs.Departing.{IsListUnreadable};
+ghost use Rattle.image_files.specs.Held.{IsUnreadable};
+ghost use Rattle.csa_program.specs.Running.{IsEnd, IsEndOf, IsTableEnd, IsTextEnd, IsUnusableOver};
 
 mod accepting;
 mod asking;
@@ -23,13 +26,11 @@ mod requests;
 mod serve;
 mod showing;
 mod sockets;
-mod watching;
 
 pub use crate::asking::Asks;
 pub use crate::explaining::Explains;
 pub use crate::machine::Machine;
 pub use crate::showing::ShownWriter;
-pub use crate::watching::{Watched, WatchedWriter};
 use command_endings::status;
 use command_line::{NoCommand, wants_warnings};
 use command_requests::{CommandRequest, DeparturesRequest, MatrixRequest, ProfileRequest};
@@ -38,9 +39,9 @@ pub use feed_files::Disk;
 use feed_messages::{explain, reason_of};
 use image_commands::matrix::TableNotes;
 use image_commands::{ImageRequest, answer, matrix, open_image};
-use image_files::{ImageDisk, OutDisk};
+use image_files::{ImageDisk, OutDisk, Watched, WatchedRead};
 use std::convert::AsStr;
-use std::io::{ErrorKind, IsTerminal, Read, Write};
+use std::io::{ErrorKind, IsTerminal, Write};
 use std::net::{Net, TcpListener, TcpStream};
 use std::thread::Threads;
 use std::time::Clock;
@@ -56,15 +57,15 @@ use std::time::Clock;
 pub fn run<
     H: Machine + ImageDisk<Image = H::File> + Net<Listener = TcpListener, Stream = TcpStream>,
     S: AsStr,
-    I: Read,
+    I: WatchedRead,
     O: Watched,
     E: Write + IsTerminal + Send,
 >(rt: &H, words: &[S], input: &mut I, output: &mut O, errors: &mut E) -> u8
     ensures { (asked : Result CommandRequest NoCommand)
         × H.Asks.may_ask rt.now (map S.text words.now) asked
-        × IsEndOf (H.ImageDisk.may_hold rt.now) H.Disk.gives (H.OutDisk.files rt.now)
-        (H.WallClock.may_show rt.now)
-        (I.remaining input.old) asked result (O.Write.contents output.old) (O.Write.contents output.new) }
+        × IsEndOf (H.ImageDisk.may_hold rt.now) (H.ImageDisk.may_fail rt.now) H.Disk.gives (H.OutDisk.files rt.now)
+        (H.WallClock.may_show rt.now) (I.Read.remaining input.old) (I.has_failed input.new) (O.noted output.new)
+        asked result (O.Write.contents output.old) (O.Write.contents output.new) }
 {
     let notes = TableNotes {
         is_terminal: errors.is_terminal(),
@@ -86,7 +87,7 @@ const NO_MEMORY: &str = "csa: out of memory";
 /// Prints the checksum of the program's sources, below its version. The status is 0, or 3 if the line can't be written:
 /// `errors` says why, as for a command. It takes no memory.
 pub fn print_sources<O: Watched, E: Write>(sources: &str, output: &mut O, errors: &mut E) -> u8
-    ensures { IsTextEnd ((codes "sources " ++ sources.now) ++ codes "\n") result
+    ensures { IsTextEnd ((codes "sources " ++ sources.now) ++ codes "\n") (O.noted output.new) result
         (O.Write.contents output.old) (O.Write.contents output.new) }
 {
     let status = put_sources(sources, output);
@@ -95,8 +96,8 @@ pub fn print_sources<O: Watched, E: Write>(sources: &str, output: &mut O, errors
 }
 
 // Prints the line of the checksum, part by part.
-fn put_sources<O: Write>(sources: &str, output: &mut O) -> u8
-    ensures { IsTextEnd ((codes "sources " ++ sources.now) ++ codes "\n") result
+fn put_sources<O: Watched>(sources: &str, output: &mut O) -> u8
+    ensures { IsTextEnd ((codes "sources " ++ sources.now) ++ codes "\n") (O.noted output.new) result
         (O.contents output.old) (O.contents output.new) }
 {
     if status::write_text(output, "sources ", status::ACCEPTED) != status::ACCEPTED {
@@ -134,8 +135,8 @@ fn explain_unwritten<E: Write>(errors: &mut E, fault: Option<ErrorKind>) {
 fn run_read<
     H: Machine + ImageDisk<Image = H::File> + Net<Listener = TcpListener, Stream = TcpStream>,
     S: AsStr,
-    I: Read,
-    O: Write,
+    I: WatchedRead,
+    O: Watched,
     E: Write + Send,
 >(
     rt: &H,
@@ -146,9 +147,9 @@ fn run_read<
     errors: &mut E,
     notes: TableNotes,
 ) -> u8
-    ensures { IsEndOf (H.ImageDisk.may_hold rt.now) H.Disk.gives (H.OutDisk.files rt.now)
-        (H.WallClock.may_show rt.now)
-        (I.remaining input.old) asked.entry result (O.contents output.old) (O.contents output.new) }
+    ensures { IsEndOf (H.ImageDisk.may_hold rt.now) (H.ImageDisk.may_fail rt.now) H.Disk.gives (H.OutDisk.files rt.now)
+        (H.WallClock.may_show rt.now) (I.remaining input.old) (I.has_failed input.new) (O.noted output.new)
+        asked.entry result (O.contents output.old) (O.contents output.new) }
 {
     match asked {
         Ok(request) => run_request(rt, request, input, output, errors, notes),
@@ -165,8 +166,8 @@ fn run_read<
 // Runs a request.
 fn run_request<
     H: Machine + ImageDisk<Image = H::File> + Net<Listener = TcpListener, Stream = TcpStream>,
-    I: Read,
-    O: Write,
+    I: WatchedRead,
+    O: Watched,
     E: Write + Send,
 >(
     rt: &H,
@@ -176,9 +177,9 @@ fn run_request<
     errors: &mut E,
     notes: TableNotes,
 ) -> u8
-    ensures { IsEnd (H.ImageDisk.may_hold rt.now) H.Disk.gives (H.OutDisk.files rt.now)
-        (H.WallClock.may_show rt.now)
-        (I.remaining input.old) request.entry result (O.contents output.old) (O.contents output.new) }
+    ensures { IsEnd (H.ImageDisk.may_hold rt.now) (H.ImageDisk.may_fail rt.now) H.Disk.gives (H.OutDisk.files rt.now)
+        (H.WallClock.may_show rt.now) (I.remaining input.old) (I.has_failed input.new) (O.noted output.new)
+        request.entry result (O.contents output.old) (O.contents output.new) }
 {
     let warnings = notes.warnings;
     match request {
@@ -222,8 +223,8 @@ fn run_request<
 // Answers a question.
 fn answer_profile<
     H: OutDisk + ImageDisk<Image = H::File> + AllocGlobal,
-    I: Read,
-    O: Write,
+    I: WatchedRead,
+    O: Watched,
     E: Write,
 >(
     rt: &H,
@@ -234,7 +235,9 @@ fn answer_profile<
     warnings: bool,
 ) -> u8
     ensures { IsOutcome (PrintsOver (H.ImageDisk.may_hold rt.now) request.entry.image.now (I.remaining input.old)
-        (λ image. PrintsProfile (H.OutDisk.files rt.now) image request.entry)) result
+        (λ image. PrintsProfile (H.OutDisk.files rt.now) image request.entry))
+        (IsUnreadable (H.ImageDisk.may_fail rt.now) request.entry.image.now (I.has_failed input.new)
+        ⊎ IsPictureUnwritable (H.OutDisk.files rt.now) request.entry.picture) (O.noted output.new) result
         (O.contents output.old) (O.contents output.new) }
 {
     let asked = ImageRequest::Profile(&request);
@@ -244,8 +247,8 @@ fn answer_profile<
 // Answers the queries from every stop.
 fn answer_departures<
     H: OutDisk + ImageDisk<Image = H::File> + AllocGlobal,
-    I: Read,
-    O: Write,
+    I: WatchedRead,
+    O: Watched,
     E: Write,
 >(
     rt: &H,
@@ -256,7 +259,10 @@ fn answer_departures<
     warnings: bool,
 ) -> u8
     ensures { IsOutcome (PrintsOver (H.ImageDisk.may_hold rt.now) request.entry.image.now (I.remaining input.old)
-        (λ image. PrintsDepartures (H.ImageDisk.may_hold rt.now) image request.entry)) result
+        (λ image. PrintsDepartures (H.ImageDisk.may_hold rt.now) image request.entry))
+        (IsUnreadable (H.ImageDisk.may_fail rt.now) request.entry.image.now (I.has_failed input.new)
+        ⊎ IsListUnreadable (H.ImageDisk.may_fail rt.now) (H.ImageDisk.may_hold rt.now) request.entry.from)
+        (O.noted output.new) result
         (O.contents output.old) (O.contents output.new) }
 {
     let asked = ImageRequest::Departures(&request);
@@ -267,8 +273,8 @@ fn answer_departures<
 // status that says why.
 fn matrix_over<
     H: OutDisk + ImageDisk<Image = H::File> + AllocGlobal + Clock + Threads + Sync,
-    I: Read,
-    O: Write,
+    I: WatchedRead,
+    O: Watched,
     E: Write,
 >(
     rt: &H,
@@ -278,7 +284,8 @@ fn matrix_over<
     errors: &mut E,
     notes: TableNotes,
 ) -> u8
-    ensures { IsTableEnd (H.ImageDisk.may_hold rt.now) (H.OutDisk.files rt.now) (I.remaining input.old) request.entry
+    ensures { IsTableEnd (H.ImageDisk.may_hold rt.now) (H.ImageDisk.may_fail rt.now) (H.OutDisk.files rt.now)
+        (I.remaining input.old) (I.has_failed input.new) request.entry (O.noted output.new)
         result (O.contents output.old) (O.contents output.new) }
 {
     match open_image(rt, request.image, input, output, errors) {
@@ -288,7 +295,12 @@ fn matrix_over<
 }
 
 // Opens the image and answers what is asked of it. If it can't be opened, returns the status that says why.
-fn answer_over<H: OutDisk + ImageDisk<Image = H::File> + AllocGlobal, I: Read, O: Write, E: Write>(
+fn answer_over<
+    H: OutDisk + ImageDisk<Image = H::File> + AllocGlobal,
+    I: WatchedRead,
+    O: Watched,
+    E: Write,
+>(
     rt: &H,
     asked: ImageRequest<'_>,
     input: &mut I,
@@ -297,7 +309,9 @@ fn answer_over<H: OutDisk + ImageDisk<Image = H::File> + AllocGlobal, I: Read, O
     warnings: bool,
 ) -> u8
     ensures { IsOutcome (PrintsOver (H.ImageDisk.may_hold rt.now) (path_of asked.entry) (I.remaining input.old)
-        (λ image. PrintsAsked (H.ImageDisk.may_hold rt.now) (H.OutDisk.files rt.now) image asked.entry)) result
+        (λ image. PrintsAsked (H.ImageDisk.may_hold rt.now) (H.OutDisk.files rt.now) image asked.entry))
+        (IsUnusableOver (H.ImageDisk.may_hold rt.now) (H.ImageDisk.may_fail rt.now) (H.OutDisk.files rt.now)
+        (I.has_failed input.new) asked.entry) (O.noted output.new) result
         (O.contents output.old) (O.contents output.new) }
 {
     match open_image(rt, asked.path(), input, output, errors) {

@@ -1,27 +1,35 @@
 //! The requests that a session sends: how many lines are read, and how long the session took to answer them.
 
-ghost use Rattle.std.specs.Prelude.{◌≡◌};
-ghost use Rattle.std.specs.Io.{ReadsAtMost};
-ghost use Rattle.std.specs.Io.KnownBytes.{ReadConsumes};
+ghost use Rattle.std.specs.Prelude.{◌≡◌, ◌≤◌, ◌⊎◌, length, take, false, is_some, true};
+ghost use Rattle.std.specs.Prelude.{IsTrue, List, MatchOption, None, Option, Some, ℕ};
+ghost use Rattle.csa_program.specs.Reading.{IsNoSession};
 
 use crate::client_sessions::ClientSession;
 use crate::logging::Host;
 use command_endings::{StartInstant, line_ends};
-use std::io;
-use std::io::{ErrorKind, Read};
+use lines::{ReadFailed, ReadStream};
 use std::net::TcpStream;
 use std::time::Duration;
 
-/// A reader whose next bytes can be looked at before they are read.
-pub trait Peek: Read {
-    /// The next bytes, which stay unread; none at the end.
-    fn peek(&self, room: &mut [u8]) -> io::Result<usize>
-        ensures { ReadsAtMost result room.new };
+/// A stream whose next bytes can be looked at before they are read.
+pub trait Peek: ReadStream {
+    // What a look may show, if it doesn't fail.
+    ghost shows: { Self → Option (List ℕ) → Type 0 };
+
+    /// How many of the next bytes `room` then shows. They stay unread; there are none at the end. `None`: they can't be
+    /// looked at.
+    fn peek(&self, room: &mut [u8]) -> Option<usize>
+        ensures { MatchOption result (shows self.now None)
+            (λ n. (n ≤ length room.new) × shows self.now (Some (take n room.new))) };
 }
 
 impl Peek for TcpStream {
-    fn peek(&self, room: &mut [u8]) -> io::Result<usize> {
-        TcpStream::peek(self, room)
+    ghost use Rattle.std.specs.Prelude.{⊤};
+
+    ghost shows = { λ stream bytes. ⊤ };
+
+    fn peek(&self, room: &mut [u8]) -> Option<usize> {
+        TcpStream::peek(self, room).ok()
     }
 }
 
@@ -76,7 +84,9 @@ impl<S, V> Requests<S, V> {
         &mut self.stream
     }
 
-    fn is_new(&self) -> bool {
+    fn is_new(&self) -> bool
+        ensures { IsTrue result → (self.now.ended ≡ 0) × (self.now.has_begun ≡ false) }
+    {
         self.ended == 0 && !self.has_begun
     }
 
@@ -93,7 +103,7 @@ impl<S, V> Requests<S, V> {
 impl<'a, S: Peek, L: Host> Requests<S, ClientSession<'a, L>> {
     // What was read before is answered now.
     fn note_answered(&mut self)
-        ensures { self.new.stream ≡ self.old.stream }
+        ensures { self.new ≡ record self.old { answering = self.new.answering; slowest = self.new.slowest } }
     {
         if let Some(begun) = self.answering {
             let lasted = self.client_session.elapsed(begun);
@@ -110,49 +120,52 @@ impl<'a, S: Peek, L: Host> Requests<S, ClientSession<'a, L>> {
         self.slowest
     }
 
-    // Whether the next byte begins a request of HTTP.
-    fn begins_http(&self) -> io::Result<bool> {
-        let mut first = [0u8; 1];
-        let count = self.stream.peek(&mut first)?;
-        Ok(count == 1 && first[0].is_ascii_uppercase())
-    }
-
-    // Fails where the session is no session of lines of JSON: no such line begins with a capital letter, and the first
-    // one of HTTP does. Nothing is read.
-    fn check_first(&self) -> io::Result<()> {
-        if self.client_session.is_strict() && self.is_new() && self.begins_http()? {
-            return Err(ErrorKind::InvalidData.into());
-        }
-        Ok(())
-    }
-
-    // Reads once, unless the session begins as one of HTTP: then it fails, and nothing is read.
-    fn read_on(&mut self, room: &mut [u8]) -> io::Result<usize>
-        ensures bound { ReadsAtMost result room.new }
-        ensures bytes { ReadConsumes (S.Read.remaining self.old.stream) (S.Read.remaining self.new.stream) result
-            room.new }
+    // Whether the next byte begins a request of HTTP, or can't be looked at.
+    fn begins_no_session(&self) -> bool
+        ensures { IsTrue result → IsNoSession S.shows self.now.stream }
     {
-        match self.check_first() {
-            Ok(()) => self.stream.read(room),
-            Err(error) => Err(error),
+        let mut first = [0u8; 1];
+        match self.stream.peek(&mut first) {
+            Some(count) => count == 1 && first[0].is_ascii_uppercase(),
+            None => true,
         }
+    }
+
+    // Whether the session is not read: no line of JSON begins with a capital letter, and the first one of HTTP does.
+    fn is_turned_away(&self) -> bool
+        ensures { IsTrue result → (is_some self.now.client_session.rules.idle ≡ true)
+            × (self.now.ended ≡ 0) × (self.now.has_begun ≡ false) × IsNoSession S.shows self.now.stream }
+    {
+        self.client_session.is_strict() && self.is_new() && self.begins_no_session()
     }
 }
 
-impl<'a, S: Peek, L: Host> Read for Requests<S, ClientSession<'a, L>> {
-    ghost remaining = { λ requests. S.Read.remaining requests.stream };
+impl<'a, S: Peek, L: Host> ReadStream for Requests<S, ClientSession<'a, L>> {
+    // A read fails only as one of the stream; or without one, if the session is turned away.
+    ghost words = { record {
+      bytes = λ requests. S.ReadStream.words.bytes requests.stream;
+      works = λ before after. S.ReadStream.words.works before.stream after.stream;
+      flushes = λ before after. ⊥;
+      fails = λ before after. S.ReadStream.words.fails before.stream after.stream
+          ⊎ ((after.stream ≡ before.stream) × (is_some before.client_session.rules.idle ≡ true)
+          × (before.ended ≡ 0) × (before.has_begun ≡ false) × IsNoSession S.shows before.stream);
+    } };
 
-    fn read(&mut self, room: &mut [u8]) -> io::Result<usize> {
+    fn read_once(&mut self, room: &mut [u8]) -> Result<usize, ReadFailed> {
         self.note_answered();
-        match self.read_on(room) {
+        if self.is_turned_away() {
+            self.has_failed = true;
+            return Err(ReadFailed);
+        }
+        match self.stream.read_once(room) {
             Ok(count) => {
                 self.note(&room[..count]);
                 self.answering = self.client_session.instant();
                 Ok(count)
             }
-            Err(error) => {
+            Err(ReadFailed) => {
                 self.has_failed = true;
-                Err(error)
+                Err(ReadFailed)
             }
         }
     }

@@ -3,7 +3,7 @@
 
 ghost use denote.Param.Send.{IsSync};
 ghost use Rattle.std.specs.Prelude.{◌≡◌, ◌≢◌, ◌<◌, ◌≤◌, ◌⊎◌, [], All, List, Option, length, map};
-ghost use Rattle.std.specs.Prelude.{slice_get, Some, string_bytes, IfOk, IfSome, ℕ};
+ghost use Rattle.std.specs.Prelude.{slice_get, Some, string_bytes, IfOk, IfSome, MatchOption, ℕ};
 ghost use Rattle.std.specs.Io.KnownBytes.{Appends};
 ghost use Rattle.command_requests.specs.declared.statuses.TheConstants.{ACCEPTED, INPUT_OUTPUT, OUT_OF_MEMORY};
 ghost use Rattle.epochs.specs.ShelfSeats.{SeatsHanded};
@@ -38,12 +38,12 @@ use feed_loader::Plan;
 use feed_messages::reason_of;
 use feed_plans::{PlanFailure, WallClock, plan_at, zone_and_plan};
 use image_commands::open_image;
-use image_files::ImageDisk;
+use image_files::{ImageDisk, Watched, WatchedRead};
 use image_verifier::Verified;
 use lines::{ReadStream, WriteStream};
 use orders::OpenGate;
 use std::alloc::{AllocError, Global};
-use std::io::{ErrorKind, Read, Write};
+use std::io::{ErrorKind, Write};
 use std::marker::Brand;
 use std::net::{Ipv4Addr, Net, TcpListener, TcpStream};
 use std::rt::Files;
@@ -71,6 +71,10 @@ struct Setup<'a> {
     ghost texts: { map string_bytes names.items ≡ map (λ feed. feed.name.now) request.now.feeds.items },
 }
 
+/// The leave to load the feeds of a server's folders.
+#[derive(Drop)]
+struct FolderLeave(());
+
 /// The feeds that may be loaded: those that the command line names.
 #[derive(Drop)]
 struct Folders<'a, H: WallClock> {
@@ -82,6 +86,8 @@ struct Folders<'a, H: WallClock> {
 
 impl<'a, H: Disk + Explains + Clock + WallClock + Sync> Feeds for Folders<'a, H> {
     type Files = FolderFiles<'a, H>;
+
+    type Leave = FolderLeave;
 
     // The files are those of the folder that goes with the feed's name, of which nothing was read yet.
     ghost words = { record {
@@ -112,7 +118,13 @@ impl<'a, H: Disk + Explains + Clock + WallClock + Sync> Feeds for Folders<'a, H>
         }
     }
 
-    fn files(&self, index: usize, _permit: DrawPermit) -> Option<FolderFiles<'a, H>> {
+    // The trait's clause, which `rattle check` can't give to a method with its associated type in a parameter.
+    fn files(&self, index: usize, _permit: DrawPermit<FolderLeave>) -> Option<FolderFiles<'a, H>>
+        ensures { MatchOption result (length self.now.setup.now.names.items ≤ index)
+            (λ files. (⟦<FolderFiles<'a, H> as FeedFiles>⟧.words.failed files ≡ [])
+            × ((slice_get (map (λ feed. feed.folder.now) self.now.setup.now.request.now.feeds.items) index
+            ≡ Some files.folder.now) × (files.reads ≡ []))) }
+    {
         match self.setup.request.feeds.get(index) {
             Some(feed) => Some(FolderFiles::new(self.disk, feed.folder)),
             None => None,
@@ -176,12 +188,13 @@ impl<'a, H: Disk + Explains + Clock + WallClock + Threads + Wait + Sync + 'a> Ho
 /// Serves sessions until as many were served as are asked for, or prints the first thing that is wrong.
 pub fn run<
     H: Machine + ImageDisk<Image = H::File> + Net<Listener = TcpListener, Stream = TcpStream>,
-    I: Read,
-    O: Write,
+    I: WatchedRead,
+    O: Watched,
     E: Write + Send,
 >(rt: &H, request: ServeRequest<'_>, input: &mut I, output: &mut O, errors: &mut E) -> u8
     ensures { IsServeEnd (H.ImageDisk.may_hold rt.now) (H.WallClock.may_show rt.now)
-        (I.remaining input.old) request.entry result (O.contents output.old) (O.contents output.new) }
+        (I.remaining input.old) request.entry (O.noted output.new) result
+        (O.contents output.old) (O.contents output.new) }
 {
     let alloc = rt.alloc();
     let (zone_bytes, first) = match zone_and_plan(rt, &request.plan) {
@@ -231,7 +244,7 @@ fn keep_freed_memory(alloc: Global) {
 // Prints the port, serves whoever comes to it, and prints how many sessions there were.
 fn serve_at<
     H: Disk + Explains + Clock + WallClock + Threads + Wait + Sync,
-    O: Write,
+    O: Watched,
     E: Write + Send,
 >(
     rt: &H,
@@ -434,6 +447,7 @@ fn serve_all<
         seats,
         loader,
         folders,
+        FolderLeave(()),
         &OpenGate,
         form,
         errors,
@@ -521,15 +535,17 @@ fn none_received<E: Write>(alloc: Global, errors: &mut E, port: u16, kind: Error
     ensures { (result ≡ INPUT_OUTPUT) ⊎ (result ≡ OUT_OF_MEMORY) }
 {
     let reason = reason_of(kind);
-    status::write_line(
-        errors,
-        format!(in alloc; "csa: can't listen at port {port}: {reason}\n"),
-        status::INPUT_OUTPUT,
-    )
+    match format!(in alloc; "csa: can't listen at port {port}: {reason}\n") {
+        Ok(line) => {
+            let _ = errors.write_all(line.as_bytes());
+            status::INPUT_OUTPUT
+        }
+        Err(_) => status::OUT_OF_MEMORY,
+    }
 }
 
 // Prints at which port the server listens.
-fn tell_port<O: Write>(alloc: Global, port: u16, output: &mut O) -> u8
+fn tell_port<O: Watched>(alloc: Global, port: u16, output: &mut O) -> u8
     ensures { ((result ≡ ACCEPTED) × Appends (O.contents output.old) (O.contents output.new) (port_text port))
         ⊎ IsNoServerEnd port (O.contents output.old) (O.contents output.new) result }
 {
@@ -550,7 +566,7 @@ fn port_line(alloc: Global, port: u16) -> Result<String, AllocError>
 
 // Prints how many sessions there were. The status follows from how they ended and whether accepting failed, unless the
 // line can't be printed.
-fn tell_served<O: Write>(alloc: Global, ends: SessionCounts, is_deaf: bool, output: &mut O) -> u8
+fn tell_served<O: Watched>(alloc: Global, ends: SessionCounts, is_deaf: bool, output: &mut O) -> u8
     ensures { (port : ℕ) (before : Option (List ℕ)) → Appends before (O.contents output.old) (port_text port)
         → IsServerEnd port before (O.contents output.new) ends is_deaf result }
 {

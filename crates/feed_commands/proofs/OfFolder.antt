@@ -16,12 +16,15 @@ use Rattle.feed_loader.specs.Refused.{IsLoadRefusal, IsLoaded}
 use Rattle.feed_loader.specs.declared.fault.LoadFault.{LoadFault}
 use Rattle.feed_loader.specs.declared.fault.LoadFault.TheVariants as faults
 use Rattle.feed_loader.specs.declared.plan.Plan.{Plan}
-use Rattle.feed_plans.specs.Zoning.{IsPlanAskedBy}
+use Rattle.feed_plans.specs.Zoning.{IsPlanAskedBy, IsZoneUnread, IsZoneUnreadable}
+use Rattle.feed_plans.specs.declared.zones.PlanFailure.{PlanFailure}
+use Rattle.command_requests.specs.declared.plans.ZoneText.{ZoneText}
+use Rattle.std.specs.Borrow.{Bor}
 use Rattle.gtfs_rows.specs.declared.fault.Table.{Table}
 use Rattle.gtfs_tables.specs.declared.tables.Tables.{Tables}
 use Rattle.timetable.specs.NamesValue.{NamesValue}
 use Rattle.timetable.specs.TimetableValue.{TimetableValue}
-use Rattle.feed_commands.specs.Building.{IfRefused}
+use Rattle.feed_commands.specs.Building.{IfRefused, IfUnusable}
 use Rattle.feed_commands.specs.Folders.{AreTablesOf, HoldsOfRead, IsBuildRefusal, IsBuiltFrom, MayBeOf, failed_as}
 use Rattle.feed_commands.specs.declared.build.BuildFailure.{BuildFailure}
 use Rattle.feed_commands.specs.declared.build.BuildFailure.TheVariants.{Refused, Unreadable, Unwritten, OutOfMemory}
@@ -55,6 +58,20 @@ refused_weaker (Refused fault) A B follows is = λ unless. follows fault (is unl
 refused_weaker (Unreadable path) A B follows is = tt
 refused_weaker (Unwritten path kind) A B follows is = tt
 refused_weaker OutOfMemory A B follows is = tt
+
+-- a weaker statement holds if it isn't built because a file can't be used
+pub unusable_weaker : (failure : BuildFailure) (A B : Type 0) → (A → B) → IfUnusable failure A → IfUnusable failure B
+unusable_weaker (Refused fault) A B follows is = tt
+unusable_weaker (Unreadable path) A B follows is = follows is
+unusable_weaker (Unwritten path kind) A B follows is = λ other. follows (is other)
+unusable_weaker OutOfMemory A B follows is = tt
+
+-- a zone that wasn't read is that of a file
+pub zone_unreadable : (may_fail : List ℕ → Type 0) (zone : ZoneText) (path : Bor (List ℕ)) → IsZoneUnread may_fail zone (PlanFailure.Unreadable path)
+    → IsZoneUnreadable may_fail zone
+zone_unreadable may_fail (ZoneText.Fixed ahead) path none = none
+zone_unreadable may_fail (ZoneText.Posix rule) path none = none
+zone_unreadable may_fail (ZoneText.File file) path unread = unread.1
 
 -- which reads failed doesn't depend on what a load would have given
 pub as_failed : (T : Type 0) (before : List (List ℕ)) (fault : LoadFault) → failed_by_load {T = T} before (Err fault) ≡ failed_as before fault

@@ -1,5 +1,5 @@
 -- The image that `csa build` makes, and what it prints of it.
-use Rattle.std.specs.Prelude.{◌≡◌, Bool, false, true, List, ℕ, ℤ, ◌++◌, Option, codes, decimal}
+use Rattle.std.specs.Prelude.{◌≡◌, ◌≢◌, ◌⊎◌, Bool, false, true, List, ℕ, ℤ, ◌++◌, Option, codes, decimal}
 use Rattle.connections.specs.declared.report.Report.{Report}
 use Rattle.feed_loader.specs.Refused.{IsWantOfMemory}
 use Rattle.feed_loader.specs.declared.fault.LoadFault.{LoadFault}
@@ -8,7 +8,9 @@ use Rattle.feed_commands.specs.declared.build.BuildFailure.TheVariants.{Refused,
 use Rattle.command_requests.specs.declared.requests.BuildRequest.{BuildRequest}
 use Rattle.feed_files.specs.Files.{Gives}
 use Rattle.image_files.specs.Out.{OutFiles}
-use Rattle.image_files.specs.Writing.{IsImagePut}
+use Rattle.image_files.specs.Writing.{IsImagePut, IsUnwritable}
+use Rattle.std.specs.declared.io.ErrorKind.TheVariants.{OutOfMemory as WasOutOfMemory}
+use Rattle.feed_plans.specs.Zoning.{IsZoneUnreadable}
 use Rattle.timetable.specs.NamesValue.{NamesValue}
 use Rattle.timetable.specs.TimetableValue.{TimetableValue}
 use Rattle.feed_commands.specs.Folders.{IsBuiltFrom}
@@ -19,6 +21,17 @@ IfRefused (Refused fault) Is = ¬ (IsWantOfMemory fault) → Is fault
 IfRefused (Unreadable path) Is = Unit {0}
 IfRefused (Unwritten path kind) Is = Unit {0}
 IfRefused OutOfMemory Is = Unit {0}
+
+-- if it isn't built because a file can't be read or written, then this holds
+abbrev pub IfUnusable : BuildFailure → Type 0 → Type 0
+IfUnusable (Refused fault) Unusable = Unit {0}
+IfUnusable (Unreadable path) Unusable = Unusable
+IfUnusable (Unwritten path kind) Unusable = kind ≢ WasOutOfMemory → Unusable
+IfUnusable OutOfMemory Unusable = Unit {0}
+
+-- the zone's file may not be read, or the image not be written
+abbrev pub IsUnusable : (List ℕ → Type 0) → OutFiles → BuildRequest → Type 0
+IsUnusable may_fail disk request = IsZoneUnreadable may_fail request.plan.zone ⊎ IsUnwritable disk request.out.now
 
 -- how many stops, runs, connections and footpaths the image has
 unfoldable pub made_text : Report → List ℕ

@@ -6,8 +6,9 @@ ghost use Rattle.connections.specs.declared.days.TheConstants.{MAX_DAYS};
 ghost use Rattle.feed_files.specs.Reading.{Content};
 ghost use Rattle.feed_files.specs.Reads.{AreRead, Shows, SomeWereRead, all_tables};
 ghost use Rattle.feed_loader.specs.Refused.{IsLoadRefusal, IsLoaded};
-ghost use Rattle.image_files.specs.Writing.{IsImagePut};
-ghost use Rattle.feed_commands.specs.Building.{IfRefused, IsReport, changed_text, json_head, json_tail, made_text};
+ghost use Rattle.image_files.specs.Writing.{IsImagePut, IsUnwritable};
+ghost use Rattle.feed_commands.specs.Building.{IfRefused, IfUnusable, IsReport, IsUnusable, changed_text, json_head};
+ghost use Rattle.feed_commands.specs.Building.{json_tail, made_text};
 ghost use Rattle.feed_commands.specs.Building.{report_asked, report_json, report_line};
 ghost use Rattle.command_endings.specs.Ending.{IsOutcome, PrintsOnly};
 ghost use Rattle.feed_commands.specs.Folders.{IsBuildRefusal, IsBuiltFrom, failed_as};
@@ -22,7 +23,7 @@ use command_requests::BuildRequest;
 use feed_files::{Disk, FeedFiles, FolderFiles};
 use feed_loader::{LoadFault, Plan, Report};
 use feed_plans::{PlanFailure, WallClock, plan_of};
-use image_files::{ImageDisk, OutDisk, put_image};
+use image_files::{ImageDisk, OutDisk, Watched, put_image};
 use std::alloc::{AllocError, Global};
 use std::io::{ErrorKind, Write};
 use std::time::Clock;
@@ -45,7 +46,7 @@ enum BuildFailure<'a> {
 /// `INPUT_OUTPUT` if a file or a line can't be read or written, or `OUT_OF_MEMORY`, with nothing printed to `output`.
 pub fn run<
     H: OutDisk + ImageDisk<Image = H::File> + Disk + AllocGlobal + Clock + WallClock,
-    O: Write,
+    O: Watched,
     E: Write,
 >(
     rt: &H,
@@ -58,6 +59,7 @@ pub fn run<
     ensures { IsOutcome (PrintsOfFeed
         (IsReport H.gives (H.may_hold rt.now) (H.may_show rt.now) (H.files rt.now) request.entry)
         (IsBuildRefusal H.gives request.entry.folder.now (H.may_hold rt.now) (H.may_show rt.now) request.entry.plan))
+        (IsUnusable (H.may_fail rt.now) (H.files rt.now) request.entry) (O.noted output.new)
         result (O.contents output.old) (O.contents output.new) }
 {
     let alloc = rt.alloc();
@@ -103,6 +105,8 @@ fn build<
         built.image.names) }
     ensures refused { IfErr result (λ failure. IfRefused failure
         (IsBuildRefusal H.gives request.now.folder.now (H.may_hold rt.now) (H.may_show rt.now) request.now.plan)) }
+    ensures unusable { IfErr result (λ failure. IfUnusable failure
+        (IsUnusable (H.may_fail rt.now) (H.files rt.now) request.now)) }
 {
     let plan = match plan_of(rt, &request.plan) {
         Ok(plan) => plan,
@@ -135,6 +139,7 @@ fn build_reported<'a, H: OutDisk + AllocGlobal, F: FeedFiles, R: BuildReports>(
         × (F.words.failed files.new.files ≡ failed_as (F.words.failed files.old.files) fault)
         × ((content : Content) → Shows F.words files.old.files files.new.files content
         → IsLoadRefusal content plan fault))) }
+    ensures unusable { IfErr result (λ failure. IfUnusable failure (IsUnwritable (H.files rt.now) out.now)) }
 {
     let (image, report) = match load_reported(rt.alloc(), files, &plan) {
         Ok(loaded) => loaded,
@@ -153,8 +158,8 @@ fn build_reported<'a, H: OutDisk + AllocGlobal, F: FeedFiles, R: BuildReports>(
 }
 
 // Prints the counts. Never returns `REFUSED`.
-fn print_counts<O: Write>(alloc: Global, report: &Report, json: bool, output: &mut O) -> u8
-    ensures { IsOutcome (PrintsOnly (λ text. text ≡ report_asked json report.now)) result
+fn print_counts<O: Watched>(alloc: Global, report: &Report, json: bool, output: &mut O) -> u8
+    ensures { IsOutcome (PrintsOnly (λ text. text ≡ report_asked json report.now)) ⊥ (O.noted output.new) result
         (O.contents output.old) (O.contents output.new) }
 {
     match text_of(alloc, report, json) {

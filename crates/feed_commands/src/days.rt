@@ -15,6 +15,7 @@ use feed_days::{days_json, days_text};
 use feed_files::Disk;
 use feed_loader::LoadFault;
 use gtfs_tables::{Feed, join};
+use image_files::Watched;
 use std::alloc::{AllocError, Global};
 use std::io::Write;
 use std::rt::Files;
@@ -22,14 +23,14 @@ use std::rt::Files;
 /// Reads and joins the tables of the folder's files, and prints to `output` which service days the feed has; or the
 /// first fault, which it explains in `errors`. Returns `ACCEPTED`, `REFUSED`, `INPUT_OUTPUT` if a file or a line can't
 /// be read or written, or `OUT_OF_MEMORY`, with nothing printed to `output`.
-pub fn run<H: Files + Disk + AllocGlobal, O: Write, E: Write>(
+pub fn run<H: Files + Disk + AllocGlobal, O: Watched, E: Write>(
     rt: &H,
     request: DaysRequest<'_>,
     output: &mut O,
     errors: &mut E,
 ) -> u8
     ensures { IsOutcome (PrintsOfFeed (AreDaysOf H.gives request.entry.folder.now request.entry.json)
-        (IsTablesRefusalOf H.gives request.entry.folder.now)) result
+        (IsTablesRefusalOf H.gives request.entry.folder.now)) ⊥ (O.noted output.new) result
         (O.contents output.old) (O.contents output.new) }
 {
     let alloc = rt.alloc();
@@ -54,8 +55,9 @@ fn read_feed<H: Disk + AllocGlobal>(rt: &H, folder: &str) -> Result<Feed, LoadFa
 }
 
 // Prints which service days a feed has. Never returns `REFUSED`.
-fn print_days<O: Write>(alloc: Global, feed: &Feed, json: bool, output: &mut O) -> u8
-    ensures { IsOutcome (PrintsOnly (IsDays json feed.now)) result (O.contents output.old) (O.contents output.new) }
+fn print_days<O: Watched>(alloc: Global, feed: &Feed, json: bool, output: &mut O) -> u8
+    ensures { IsOutcome (PrintsOnly (IsDays json feed.now)) ⊥ (O.noted output.new) result
+        (O.contents output.old) (O.contents output.new) }
 {
     match text_of(alloc, feed, json) {
         Ok(text) => status::write_text(output, text.as_str(), status::ACCEPTED),

@@ -4,19 +4,20 @@ ghost use Rattle.std.specs.Prelude.{◌≡◌, ◌⊎◌, ◌++◌, IfOk, OnOk, 
 ghost use Rattle.std.specs.Io.KnownBytes.{Appends};
 ghost use Rattle.command_requests.specs.declared.statuses.TheConstants.{INPUT_OUTPUT, OUT_OF_MEMORY, REFUSED};
 ghost use Rattle.feed_loader.specs.Refused.{IsWantOfMemory};
-ghost use Rattle.command_endings.specs.Ending.{EndsUndone, IsBegun};
+ghost use Rattle.command_endings.specs.Ending.{EndsUndone, IsBegun, IsDone};
+ghost use Rattle.image_files.specs.Watching.{HasFault};
 ghost use Rattle.command_endings.specs.Refusing.{place_text, word_text};
 ghost use Rattle.feed_commands.specs.Refusing.{RefusesFeed, feed_line, feed_positions, refusal_status};
 
 use command_endings::{begin_refusal, status};
 use feed_loader::LoadFault;
+use image_files::Watched;
 use std::alloc::{AllocError, Global};
-use std::io::Write;
 use text_pieces::{put_number, put_text, put_word};
 
 /// Prints why a feed isn't loaded. Returns `REFUSED`; `INPUT_OUTPUT` if the reason is a file that can't be read, or if
 /// a write fails; or `OUT_OF_MEMORY`, with nothing printed, if memory ran out before or runs out now.
-pub fn refuse_feed<O: Write>(alloc: Global, output: &mut O, fault: LoadFault) -> u8
+pub fn refuse_feed<O: Watched>(alloc: Global, output: &mut O, fault: LoadFault) -> u8
     ensures status { EndsUndone result }
     ensures memory { IsWantOfMemory fault → result ≡ OUT_OF_MEMORY }
     ensures refused { result ≡ REFUSED → RefusesFeed fault }
@@ -25,6 +26,9 @@ pub fn refuse_feed<O: Write>(alloc: Global, output: &mut O, fault: LoadFault) ->
     ensures silent { result ≡ OUT_OF_MEMORY → O.contents output.new ≡ O.contents output.old }
     ensures begun { result ≡ INPUT_OUTPUT
         → IsBegun (O.contents output.old) (O.contents output.new) (feed_line fault) }
+    ensures failed { result ≡ INPUT_OUTPUT
+        → IsDone (refusal_status fault) (feed_line fault) (O.contents output.old) (O.contents output.new)
+        ⊎ HasFault (O.noted output.new) }
 {
     if fault.is_want_of_memory() {
         return status::OUT_OF_MEMORY;

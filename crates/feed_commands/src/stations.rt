@@ -17,6 +17,7 @@ use feed_loader::LoadFault;
 use feed_messages::{explain, quoted};
 use feed_stations::{StopTable, homes_in, json_text, labels_in, lines_text};
 use gtfs_rows::{FaultKind, IdHash, MAX_STOPS, StopRow, Table, TableFault, rows_up_to};
+use image_files::Watched;
 use std::alloc::{AllocError, Global};
 use std::io::Write;
 use std::rt::Files;
@@ -25,14 +26,14 @@ use std::rt::Files;
 /// name, each with its stops; or the first fault of that file, which it explains in `errors`. Returns `ACCEPTED`,
 /// `REFUSED`, `INPUT_OUTPUT` if a file or a line can't be read or written, or `OUT_OF_MEMORY`, with nothing printed to
 /// `output`.
-pub fn run<H: Files + Disk + AllocGlobal, O: Write, E: Write>(
+pub fn run<H: Files + Disk + AllocGlobal, O: Watched, E: Write>(
     rt: &H,
     request: StationsRequest<'_>,
     output: &mut O,
     errors: &mut E,
 ) -> u8
     ensures { IsOutcome (PrintsOfFeed (IsTextOf H.gives request.entry.folder.now request.entry)
-        (IsStopsRefusal H.gives request.entry.folder.now)) result
+        (IsStopsRefusal H.gives request.entry.folder.now)) ⊥ (O.noted output.new) result
         (O.contents output.old) (O.contents output.new) }
 {
     let alloc = rt.alloc();

@@ -21,6 +21,7 @@ use feed_files::Disk;
 use feed_loader::LoadFault;
 use gtfs_rows::TableFault;
 use gtfs_tables::{Tables, join};
+use image_files::Watched;
 use std::alloc::{AllocError, Global};
 use std::io::Write;
 use std::rt::Files;
@@ -42,14 +43,14 @@ struct TableCounts {
 /// fault, which it explains in `errors`, with all others if they are asked for. Returns `ACCEPTED`, with nothing
 /// explained; `REFUSED`; `INPUT_OUTPUT` if a file or a line can't be read or written; or `OUT_OF_MEMORY`, with nothing
 /// printed to `output`.
-pub fn run<H: Files + Disk + AllocGlobal, O: Write, E: Write>(
+pub fn run<H: Files + Disk + AllocGlobal, O: Watched, E: Write>(
     rt: &H,
     request: TablesRequest<'_>,
     output: &mut O,
     errors: &mut E,
 ) -> u8
     ensures printed { IsOutcome (PrintsOfFeed (IsCounts H.gives request.entry)
-        (IsTablesRefusalOf H.gives request.entry.folder.now)) result
+        (IsTablesRefusalOf H.gives request.entry.folder.now)) ⊥ (O.noted output.new) result
         (O.contents output.old) (O.contents output.new) }
     ensures unexplained { result ≡ ACCEPTED → E.contents errors.new ≡ E.contents errors.old }
 {
@@ -99,8 +100,8 @@ fn counts_of(tables: &Tables) -> TableCounts
 }
 
 // Prints the counts. Never returns `REFUSED`.
-fn print_counts<O: Write>(alloc: Global, counts: TableCounts, json: bool, output: &mut O) -> u8
-    ensures { IsOutcome (PrintsOnly (λ text. text ≡ counts_asked json counts)) result
+fn print_counts<O: Watched>(alloc: Global, counts: TableCounts, json: bool, output: &mut O) -> u8
+    ensures { IsOutcome (PrintsOnly (λ text. text ≡ counts_asked json counts)) ⊥ (O.noted output.new) result
         (O.contents output.old) (O.contents output.new) }
 {
     match text_of(alloc, counts, json) {

@@ -20,12 +20,17 @@ IsUnread kind path (Refused fault) = ⊥
 IsUnread kind path (Unreadable unread) = (kind ≢ WasOutOfMemory) × (unread.now ≡ path)
 IsUnread kind path OutOfMemory = kind ≡ WasOutOfMemory
 
--- why the bytes of the zone's file aren't read: the file at its path can't be read, or there is no memory for them. There is no such failure if the zone isn't
--- a file
-abbrev pub IsZoneUnread : ZoneText → PlanFailure → Type 0
-IsZoneUnread (File path) (Unreadable unread) = unread.now ≡ path.now
-IsZoneUnread (File path) OutOfMemory = Unit {0}
-IsZoneUnread _ _ = ⊥
+-- why the bytes of the zone's file aren't read: what is at its path may not be opened or read, or there is no memory for them. There is no such failure if the
+-- zone isn't a file
+abbrev pub IsZoneUnread : (List ℕ → Type 0) → ZoneText → PlanFailure → Type 0
+IsZoneUnread may_fail (File path) (Unreadable unread) = (unread.now ≡ path.now) × may_fail path.now
+IsZoneUnread may_fail (File path) OutOfMemory = Unit {0}
+IsZoneUnread may_fail _ _ = ⊥
+
+-- the zone is that of a file, which may not be opened or read
+abbrev pub IsZoneUnreadable : (List ℕ → Type 0) → ZoneText → Type 0
+IsZoneUnreadable may_fail (File path) = may_fail path.now
+IsZoneUnreadable may_fail _ = ⊥
 
 -- `may_hold` says what a file at a path may hold
 module _ (may_hold : List ℕ → Option (List ℕ) → Type 0) where
@@ -45,7 +50,7 @@ module _ (may_hold : List ℕ → Option (List ℕ) → Type 0) where
       (bytes : List ℕ) × AreZoneBytes asked.zone bytes × (wrong : DayFault) × (fault ≡ Day wrong) × IsZoneFault asked.zone bytes wrong
 
   -- a plan is refused only for its zone; otherwise it fails only because the bytes of the zone's file can't be read, or there is no memory for them
-  abbrev pub IsNoPlan : PlanText → PlanFailure → Type 0
-  IsNoPlan asked (Refused fault) = IsNoZoneOf asked fault
-  IsNoPlan asked (Unreadable path) = IsZoneUnread asked.zone (Unreadable path)
-  IsNoPlan asked OutOfMemory = IsZoneUnread asked.zone OutOfMemory
+  abbrev pub IsNoPlan : (List ℕ → Type 0) → PlanText → PlanFailure → Type 0
+  IsNoPlan may_fail asked (Refused fault) = IsNoZoneOf asked fault
+  IsNoPlan may_fail asked (Unreadable path) = IsZoneUnread may_fail asked.zone (Unreadable path)
+  IsNoPlan may_fail asked OutOfMemory = IsZoneUnread may_fail asked.zone OutOfMemory

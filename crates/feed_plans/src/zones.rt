@@ -30,7 +30,7 @@ pub fn plan_of<'a, H: ImageDisk + AllocGlobal + WallClock>(
     ensures plan { IfOk result (IsPlanAskedBy (H.may_hold rt.now) (H.may_show rt.now) asked.now) }
     ensures some { IfOk result (λ plan. 1 ≤ plan.days) }
     ensures few { IfOk result (λ plan. plan.days ≤ MAX_DAYS) }
-    ensures refused { IfErr result (IsNoPlan (H.may_hold rt.now) asked.now) }
+    ensures refused { IfErr result (IsNoPlan (H.may_hold rt.now) (H.may_fail rt.now) asked.now) }
 {
     match zone_and_plan(rt, asked) {
         Ok((_bytes, plan)) => Ok(plan),
@@ -48,7 +48,7 @@ pub fn zone_and_plan<'a, H: ImageDisk + AllocGlobal + WallClock>(
     ensures plan { IfOk result (λ made. IsPlanBy (H.may_show rt.now) asked.now made.0.items made.1) }
     ensures some { IfOk result (λ made. 1 ≤ made.1.days) }
     ensures few { IfOk result (λ made. made.1.days ≤ MAX_DAYS) }
-    ensures refused { IfErr result (IsNoPlan (H.may_hold rt.now) asked.now) }
+    ensures refused { IfErr result (IsNoPlan (H.may_hold rt.now) (H.may_fail rt.now) asked.now) }
 {
     let bytes = zone_bytes(rt, &asked.zone)?;
     match plan_at(rt.alloc(), asked, &bytes, instant(rt)) {
@@ -64,7 +64,7 @@ fn zone_bytes<'a, H: ImageDisk + AllocGlobal>(
     zone: &ZoneText<'a>,
 ) -> Result<Vec<u8>, PlanFailure<'a>>
     ensures bytes { IfOk result (λ bytes. AreZoneBytes (H.may_hold rt.now) zone.now bytes.items) }
-    ensures unread { IfErr result (IsZoneUnread zone.now) }
+    ensures unread { IfErr result (IsZoneUnread (H.may_fail rt.now) zone.now) }
 {
     match zone {
         ZoneText::Fixed(_) => Ok(Vec::new(rt.alloc())),

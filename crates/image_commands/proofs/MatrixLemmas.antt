@@ -1,9 +1,13 @@
 -- Whether a table can be made, and why it isn't.
-use Rattle.std.proofs.Common.{◌≡◌, ◌≢◌, ◌<◌, ◌⊎◌, ℕ, List, [], ◌∷◌, Option, None, Some, Result, Ok, Err, Contains, IfErr, IfOk, MatchResult}
+use Rattle.std.proofs.Common.{◌≡◌, ◌≢◌, ◌<◌, ◌⊎◌, ℕ, List, [], ◌∷◌, Option, None, Some, Result, Ok, Err, Contains, IfErr, IfOk, MatchResult, OnErr}
 use Rattle.std.proofs.Common.{arith, inl, inr, subst, sym}
 use Rattle.std.specs.Borrow.{Bor}
 use Rattle.std.specs.Global.{Vec}
 use Rattle.std.specs.List.{AllZip}
+use Rattle.std.specs.IoError.{error_kind}
+use Rattle.std.specs.declared.io.Error.{Error}
+use Rattle.std.specs.declared.io.ErrorKind.{ErrorKind}
+use Rattle.std.specs.declared.io.ErrorKind.TheVariants.{OutOfMemory as WasOutOfMemory}
 use Rattle.std.proofs.lemmas.List.Elements.{Contains-append_right}
 use Rattle.reasoning.proofs.ListLemmas.{contains_cases, contains_first, not_in_nil}
 use Rattle.image_layout.specs.Image.{ImageValue}
@@ -12,7 +16,11 @@ use Rattle.matrix_rows.specs.declared.table.TravelTable.{TravelTable}
 use Rattle.command_requests.specs.declared.requests.MatrixRequest.{MatrixRequest}
 use Rattle.command_requests.specs.declared.statuses.TheConstants.{ACCEPTED, COMMAND_LINE, INPUT_OUTPUT, OUT_OF_MEMORY}
 use Rattle.command_endings.specs.Ending.{Ends}
-use Rattle.image_files.specs.Texts.{IsTextAt}
+use Rattle.image_files.specs.Texts.{IsNoTextAt, IsTextAt}
+use Rattle.image_files.specs.Out.{OutFiles}
+use Rattle.image_files.specs.Watching.{HasFault}
+use Rattle.image_files.specs.Writing.{IsUnwritable}
+use Rattle.image_commands.specs.Departing.{IsListUnreadable}
 use Rattle.image_commands.specs.Matrices.{AreListedIn, AreNoSources, AreOfList, AreSources, EndsTable, EndsUnlisted, IsCutShort}
 use Rattle.image_commands.specs.Matrices.{IsShownInPart, IsSpent, IsTableOf, IsTableSpent, IsUnasked, IsUnlisted, IsUnlistedIn}
 use Rattle.image_commands.proofs.Ranges.{below_all}
@@ -91,9 +99,9 @@ ends_table : (status : ℕ) → EndsUnlisted status → EndsTable status
 ends_table status (inl undone) = inl (inr undone)
 ends_table status (inr is) = inr is
 
-pub unasked_table : (may_hold : List ℕ → Option (List ℕ) → Type 0) (request : MatrixRequest) (image : ImageValue) (status : ℕ)
-    → IsUnasked may_hold request image status → EndsTable status × (status ≢ ACCEPTED)
-unasked_table may_hold request image status why = (ends_table status why.ends, ends_not_accepted status why.ends)
+pub unasked_table : (may_hold : List ℕ → Option (List ℕ) → Type 0) (may_fail : List ℕ → Type 0) (request : MatrixRequest) (image : ImageValue) (status : ℕ)
+    → IsUnasked may_hold may_fail request image status → EndsTable status × (status ≢ ACCEPTED)
+unasked_table may_hold may_fail request image status why = (ends_table status why.ends, ends_not_accepted status why.ends)
 
 -- a table that was begun doesn't end as a bad command line does
 pub ends_asked : (status : ℕ) → Ends status → status ≢ COMMAND_LINE
@@ -102,49 +110,66 @@ ends_asked status (inr (inl is)) e = omega (arith, is, e)
 ends_asked status (inr (inr (inl is))) e = omega (arith, is, e)
 ends_asked status (inr (inr (inr is))) e = omega (arith, is, e)
 
-pub unasked_sources : (may_hold : List ℕ → Option (List ℕ) → Type 0) (request : MatrixRequest) (image : ImageValue) (status : ℕ)
+pub unasked_targets : (may_hold : List ℕ → Option (List ℕ) → Type 0) (may_fail : List ℕ → Type 0) (request : MatrixRequest) (image : ImageValue) (status : ℕ)
+    → IsUnlisted may_hold may_fail request.to.now image status → IsUnasked may_hold may_fail request image status
+unasked_targets may_hold may_fail request image status why = record {
+  ends = why.ends;
+  unknown = λ is. inl (why.unknown is);
+  bad = λ is. inl (why.bad is);
+  unread = λ is. inl (why.unread is);
+}
+
+pub unasked_sources : (may_hold : List ℕ → Option (List ℕ) → Type 0) (may_fail : List ℕ → Type 0) (request : MatrixRequest) (image : ImageValue) (status : ℕ)
     (from : Option (Bor (List ℕ))) (targets : List (Vec ℕ)) → AreOfList may_hold request.to.now image targets
-    → request.from ≡ from → AreNoSources may_hold from image status → IsUnasked may_hold request image status
-unasked_sources may_hold request image status None targets listed same is = record {
+    → request.from ≡ from → AreNoSources may_hold may_fail from image status → IsUnasked may_hold may_fail request image status
+unasked_sources may_hold may_fail request image status None targets listed same is = record {
   ends = inl (inr (inr is));
   unknown = λ e. absurd (omega (arith, is, e));
   bad = λ e. absurd (omega (arith, is, e));
+  unread = λ e. absurd (omega (arith, is, e));
 }
-unasked_sources may_hold request image status (Some path) targets listed same why = record {
+unasked_sources may_hold may_fail request image status (Some path) targets listed same why = record {
   ends = why.ends;
   unknown = λ is. inr (targets, path, listed, same, why.unknown is);
   bad = λ is. inr (targets, path, listed, same, why.bad is);
+  unread = λ is. inr (subst (IsListUnreadable may_fail may_hold) (sym same) (why.unread is));
 }
 
 -- the sets of a text that was read, or why there are none
-pub listed_at : (may_hold : List ℕ → Option (List ℕ) → Type 0) (path text : List ℕ) (image : ImageValue) (r : Result (Vec (Vec ℕ)) ℕ)
+pub listed_at : (may_hold : List ℕ → Option (List ℕ) → Type 0) (may_fail : List ℕ → Type 0) (path text : List ℕ) (image : ImageValue)
+    (r : Result (Vec (Vec ℕ)) ℕ)
     → IsTextAt may_hold path text → IfOk r (λ sets. AreListedIn image sets.items text) → IfErr r (IsUnlistedIn image text)
-    → MatchResult r (λ sets. AreOfList may_hold path image sets.items) (IsUnlisted may_hold path image)
-listed_at may_hold path text image (Ok sets) at listed why = (text, at, listed)
-listed_at may_hold path text image (Err status) at listed why = record {
+    → MatchResult r (λ sets. AreOfList may_hold path image sets.items) (IsUnlisted may_hold may_fail path image)
+listed_at may_hold may_fail path text image (Ok sets) at listed why = (text, at, listed)
+listed_at may_hold may_fail path text image (Err status) at listed why = record {
   ends = why.ends;
   unknown = λ is. (text, at, why.unknown is);
   bad = λ is. (text, at, why.bad is);
+  unread = λ is. absurd (why.read is);
 }
 
-pub unread_list : (may_hold : List ℕ → Option (List ℕ) → Type 0) (path : List ℕ) (image : ImageValue) (status : ℕ)
-    → (status ≡ INPUT_OUTPUT) ⊎ (status ≡ OUT_OF_MEMORY) → IsUnlisted may_hold path image status
-unread_list may_hold path image status (inl is) = record {
+pub unread_list : (may_hold : List ℕ → Option (List ℕ) → Type 0) (may_fail : List ℕ → Type 0) (path : List ℕ) (image : ImageValue) (kind : ErrorKind)
+    (status : ℕ) → (status ≡ INPUT_OUTPUT) ⊎ (status ≡ OUT_OF_MEMORY) → (kind ≡ WasOutOfMemory → status ≡ OUT_OF_MEMORY)
+    → (kind ≢ WasOutOfMemory → IsNoTextAt may_fail may_hold path) → IsUnlisted may_hold may_fail path image status
+unread_list may_hold may_fail path image kind status (inl is) memory why = record {
   ends = inl (inr (inl is));
   unknown = λ e. absurd (omega (arith, is, e));
   bad = λ e. absurd (omega (arith, is, e));
+  unread = λ e. why (λ none. let out = memory none in omega (arith, is, out));
 }
-unread_list may_hold path image status (inr is) = record {
+unread_list may_hold may_fail path image kind status (inr is) memory why = record {
   ends = inl (inr (inr is));
   unknown = λ e. absurd (omega (arith, is, e));
   bad = λ e. absurd (omega (arith, is, e));
+  unread = λ e. absurd (omega (arith, is, e));
 }
 
 -- what was printed of a table that was begun, or of a line for its times
-pub cut_table : (table : TravelTable) (out : List ℕ) (before after : Option (List ℕ)) → HasWindow table
-    → (after ≡ before) ⊎ IsShownInPart table out before after → IsCutShort table out before after
-cut_table table out before after window (inl same) = inl same
-cut_table table out before after window (inr part) = inr (inr (window, part))
+pub cut_table : (disk : OutFiles) (table : TravelTable) (out : List ℕ) (fault : Option ErrorKind) (before after : Option (List ℕ)) → HasWindow table
+    → (IsUnwritable disk out × (after ≡ before)) ⊎ (HasFault fault × IsShownInPart table out before after)
+    → IsCutShort disk table out fault before after
+cut_table disk table out fault before after window (inl same) = inl same
+cut_table disk table out fault before after window (inr part) = inr (inr (part.0, window, part.1))
 
 -- .. of the table that is asked for
 pub spent_table : (may_hold : List ℕ → Option (List ℕ) → Type 0) (image : ImageValue) (request : MatrixRequest) (table : TravelTable)
@@ -152,3 +177,16 @@ pub spent_table : (may_hold : List ℕ → Option (List ℕ) → Type 0) (image 
     → (after ≡ before) ⊎ (HasWindow table × IsSpent table request.out.now before after) → IsTableSpent may_hold image request before after
 spent_table may_hold image request table before after is (inl same) = inl same
 spent_table may_hold image request table before after is (inr spent) = inr (table, is, spent.0, spent.1)
+
+-- what holds of a call that failed, by the status that was made of it
+pub at_failure : {T E : Type 0} (P : Type 0) (outcome : Result T E) (status : ℕ) → IfOk outcome (λ _. status ≡ ACCEPTED) → OnErr outcome P
+    → status ≡ INPUT_OUTPUT → P
+at_failure P (Ok done) status accepted failed is = absurd (omega (arith, accepted, is))
+at_failure P (Err error) status accepted failed is = failed
+
+-- .. unless memory ran out
+pub at_kind : {T : Type 0} (P : Type 0) (outcome : Result T Error) (status : ℕ) → IfOk outcome (λ _. status ≡ ACCEPTED)
+    → IfErr outcome (λ error. status ≡ INPUT_OUTPUT → error_kind error ≢ WasOutOfMemory)
+    → IfErr outcome (λ error. error_kind error ≢ WasOutOfMemory → P) → status ≡ INPUT_OUTPUT → P
+at_kind P (Ok done) status accepted kind failed is = absurd (omega (arith, accepted, is))
+at_kind P (Err error) status accepted kind failed is = failed (kind is)

@@ -81,6 +81,11 @@ IsPicturePut disk None picture = Unit {0}
 IsPicturePut disk (Some path) None = Unit {0}
 IsPicturePut disk (Some path) (Some picture) = IsPutInto disk path.now (string_bytes picture)
 
+-- a picture is asked for, and may not be written into the file at its path
+abbrev pub IsPictureUnwritable : OutFiles → Option (Bor (List ℕ)) → Type 0
+IsPictureUnwritable disk None = ⊥
+IsPictureUnwritable disk (Some path) = disk.may_fail path.now
+
 -- the text is that of an answer, whose picture, if one is asked for, is in its file
 abbrev pub IsAnswered : OutFiles → ImageValue → ProfileRequest → List ℕ → Type 0
 IsAnswered disk image request text =

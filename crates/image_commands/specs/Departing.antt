@@ -19,7 +19,7 @@ use Rattle.departure_lines.specs.Naming.{AreWanted, IsUnknownLine}
 use Rattle.departure_lines.specs.Showing.{AreShown}
 use Rattle.departure_lines.specs.declared.stop_lists.WantedStops.{WantedStops}
 use Rattle.departure_lines.specs.declared.stop_lists.WantedStops.TheVariants.{All}
-use Rattle.image_files.specs.Texts.{HoldsOfText}
+use Rattle.image_files.specs.Texts.{HoldsOfText, IsNoTextAt}
 use Rattle.image_commands.specs.Refusing.{refusal_line}
 use Rattle.image_commands.specs.declared.refusal.CommandRefusal.TheVariants.{Query}
 use Rattle.image_commands.specs.declared.wanted_stops.NoList.{NoList}
@@ -38,11 +38,11 @@ targets_asked request = map (λ name. name.now) request.to.items
 abbrev pub window_asked : DeparturesRequest → Window
 window_asked request = record { from = request.after; until = request.until; by = request.by }
 
--- if a line of a list is reported as unknown, it is the first one that is no stop_id
+-- why a list that was read names no stops: a line that is reported as unknown, the first one that is no stop_id; or memory ran out
 abbrev pub IsUnknown : NamesValue → NoList → List ℕ → Type 0
 IsUnknown names (UnknownStop number) list = IsUnknownLine names (lines list) number
-IsUnknown names Unreadable list = Unit {0}
-IsUnknown names NotText list = Unit {0}
+IsUnknown names Unreadable list = ⊥
+IsUnknown names NotText list = ⊥
 IsUnknown names OutOfMemory list = Unit {0}
 
 -- `may_hold` says what a file at a path may hold
@@ -56,28 +56,33 @@ module _ (may_hold : List ℕ → Option (List ℕ) → Type 0) where
   IsWantedFrom None names wanted = wanted ≡ All
   IsWantedFrom (Some path) names wanted = IsListed path.now names wanted
 
-  -- if a line is reported as unknown, it is the first line of the file at the path that is no stop_id
-  abbrev pub IsNoListAt : List ℕ → NamesValue → NoList → Type 0
-  IsNoListAt path names (UnknownStop number) = HoldsOfText may_hold path (IsUnknown names (UnknownStop number))
-  IsNoListAt path names Unreadable = Unit {0}
-  IsNoListAt path names NotText = Unit {0}
-  IsNoListAt path names OutOfMemory = Unit {0}
+  -- if a line is reported as unknown, it is the first line of the file at the path that is no stop_id; or that file may not be read, or is no text
+  abbrev pub IsNoListAt : (List ℕ → Type 0) → List ℕ → NamesValue → NoList → Type 0
+  IsNoListAt may_fail path names (UnknownStop number) = HoldsOfText may_hold path (IsUnknown names (UnknownStop number))
+  IsNoListAt may_fail path names Unreadable = IsNoTextAt may_fail may_hold path
+  IsNoListAt may_fail path names NotText = IsNoTextAt may_fail may_hold path
+  IsNoListAt may_fail path names OutOfMemory = Unit {0}
 
   -- .. if a file is given; or else it is known which stops are wanted
-  abbrev pub IsNoListFrom : Option (Bor (List ℕ)) → NamesValue → NoList → Type 0
-  IsNoListFrom None names failure = ⊥
-  IsNoListFrom (Some path) names failure = IsNoListAt path.now names failure
+  abbrev pub IsNoListFrom : (List ℕ → Type 0) → Option (Bor (List ℕ)) → NamesValue → NoList → Type 0
+  IsNoListFrom may_fail None names failure = ⊥
+  IsNoListFrom may_fail (Some path) names failure = IsNoListAt may_fail path.now names failure
 
   -- a file is given, and has a line that is no stop_id
   abbrev pub HasUnknownFrom : Option (Bor (List ℕ)) → NamesValue → Type 0
   HasUnknownFrom None names = ⊥
   HasUnknownFrom (Some path) names = HoldsOfText may_hold path.now (λ list. (number : ℕ) × IsUnknownLine names (lines list) number)
 
+-- a file is given that may not be read, or is no text
+abbrev pub IsListUnreadable : (List ℕ → Type 0) → (List ℕ → Option (List ℕ) → Type 0) → Option (Bor (List ℕ)) → Type 0
+IsListUnreadable may_fail may_hold None = ⊥
+IsListUnreadable may_fail may_hold (Some path) = IsNoTextAt may_fail may_hold path.now
+
 -- why a list can't be read, by the kind of the error: memory ran out, it isn't UTF-8, or there is another reason
 abbrev pub IsUnlisted : ErrorKind → NoList → Type 0
 IsUnlisted kind (UnknownStop number) = ⊥
 IsUnlisted kind Unreadable = (kind ≢ kinds.OutOfMemory) × (kind ≢ kinds.InvalidData)
-IsUnlisted kind NotText = kind ≡ kinds.InvalidData
+IsUnlisted kind NotText = (kind ≢ kinds.OutOfMemory) × (kind ≡ kinds.InvalidData)
 IsUnlisted kind OutOfMemory = kind ≡ kinds.OutOfMemory
 
 -- the status if it isn't known which stops are wanted

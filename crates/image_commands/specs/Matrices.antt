@@ -5,8 +5,9 @@ use Rattle.std.specs.Global.{Vec}
 use Rattle.std.specs.Io.KnownBytes.{Appends}
 use Rattle.std.specs.List.{AllZip, range_with_len}
 use Rattle.std.specs.Str.Lines.{lines}
+use Rattle.std.specs.declared.io.ErrorKind.{ErrorKind}
 use Rattle.image_files.specs.Out.{OutFiles}
-use Rattle.image_files.specs.Writing.{IsPut}
+use Rattle.image_files.specs.Writing.{IsPut, IsUnwritable}
 use Rattle.image_layout.specs.Image.{ImageValue}
 use Rattle.timetable.specs.Queries.{HasBadWindow}
 use Rattle.timetable.specs.declared.query.Query.{Query}
@@ -19,7 +20,9 @@ use Rattle.matrix_rows.specs.declared.table.TravelTable.{TravelTable}
 use Rattle.command_requests.specs.declared.requests.MatrixRequest.{MatrixRequest}
 use Rattle.command_requests.specs.declared.statuses.TheConstants.{ACCEPTED, COMMAND_LINE, INPUT_OUTPUT, OUT_OF_MEMORY, REFUSED}
 use Rattle.command_endings.specs.Ending.{Ends, EndsUndone, IsBegun}
-use Rattle.image_files.specs.Texts.{HoldsOfText}
+use Rattle.image_files.specs.Texts.{HoldsOfText, IsNoTextAt}
+use Rattle.image_files.specs.Watching.{HasFault}
+use Rattle.image_commands.specs.Departing.{IsListUnreadable}
 use Rattle.image_commands.specs.Refusing.{refusal_line}
 use Rattle.image_commands.specs.declared.refusal.CommandRefusal.TheVariants.{Query as OfQuery}
 
@@ -71,17 +74,24 @@ pub record IsUnlistedIn (image : ImageValue) (list : List ℕ) (status : ℕ) : 
   pub ends : EndsUnlisted status
   pub unknown : status ≡ REFUSED → HasUnknown image list
   pub bad : status ≡ COMMAND_LINE → IsNoList list
+  pub read : status ≢ INPUT_OUTPUT
 
 -- the same of the file at a path, which may not have been read
-pub record IsUnlisted (may_hold : List ℕ → Option (List ℕ) → Type 0) (path : List ℕ) (image : ImageValue) (status : ℕ) : Type 0 where
+pub record IsUnlisted (may_hold : List ℕ → Option (List ℕ) → Type 0) (may_fail : List ℕ → Type 0) (path : List ℕ) (image : ImageValue)
+    (status : ℕ) : Type 0 where
   pub ends : EndsUnlisted status
   pub unknown : status ≡ REFUSED → HoldsOfText may_hold path (HasUnknown image)
   pub bad : status ≡ COMMAND_LINE → HoldsOfText may_hold path IsNoList
+  pub unread : status ≡ INPUT_OUTPUT → IsNoTextAt may_fail may_hold path
 
 -- the same of the sources: without a file, only memory can run out
-abbrev pub AreNoSources : (List ℕ → Option (List ℕ) → Type 0) → Option (Bor (List ℕ)) → ImageValue → ℕ → Type 0
-AreNoSources may_hold None image status = status ≡ OUT_OF_MEMORY
-AreNoSources may_hold (Some path) image status = IsUnlisted may_hold path.now image status
+abbrev pub AreNoSources : (List ℕ → Option (List ℕ) → Type 0) → (List ℕ → Type 0) → Option (Bor (List ℕ)) → ImageValue → ℕ → Type 0
+AreNoSources may_hold may_fail None image status = status ≡ OUT_OF_MEMORY
+AreNoSources may_hold may_fail (Some path) image status = IsUnlisted may_hold may_fail path.now image status
+
+-- a file that is given as a list may not be read, or is no text
+abbrev pub AreListsUnreadable : (List ℕ → Type 0) → (List ℕ → Option (List ℕ) → Type 0) → MatrixRequest → Type 0
+AreListsUnreadable may_fail may_hold request = IsNoTextAt may_fail may_hold request.to.now ⊎ IsListUnreadable may_fail may_hold request.from
 
 -- Is holds of the list of the targets; or this list names some, and Is holds of that of the sources, if a file is given
 abbrev pub HoldsOfList : (List ℕ → Option (List ℕ) → Type 0) → MatrixRequest → ImageValue → (List ℕ → Type 0) → Type 0
@@ -91,10 +101,12 @@ HoldsOfList may_hold request image Is =
     × HoldsOfText may_hold path.now Is)
 
 -- why it isn't known which stops a request means, by the status
-pub record IsUnasked (may_hold : List ℕ → Option (List ℕ) → Type 0) (request : MatrixRequest) (image : ImageValue) (status : ℕ) : Type 0 where
+pub record IsUnasked (may_hold : List ℕ → Option (List ℕ) → Type 0) (may_fail : List ℕ → Type 0) (request : MatrixRequest) (image : ImageValue)
+    (status : ℕ) : Type 0 where
   pub ends : EndsUnlisted status
   pub unknown : status ≡ REFUSED → HoldsOfList may_hold request image (HasUnknown image)
   pub bad : status ≡ COMMAND_LINE → HoldsOfList may_hold request image IsNoList
+  pub unread : status ≡ INPUT_OUTPUT → AreListsUnreadable may_fail may_hold request
 
 -- a table is the one that is asked for
 pub record IsTableOf (may_hold : List ℕ → Option (List ℕ) → Type 0) (image : ImageValue) (request : MatrixRequest) (table : TravelTable) : Type 0 where
@@ -146,18 +158,20 @@ IsTableRefused may_hold image request before after =
 abbrev pub IsTableUnlisted : (List ℕ → Option (List ℕ) → Type 0) → ImageValue → MatrixRequest → Option (List ℕ) → Option (List ℕ) → Type 0
 IsTableUnlisted may_hold image request before after = HoldsOfList may_hold request image IsNoList × (after ≡ before)
 
--- what was printed of a table if a file or a line can't be read or written: nothing, a first part of the line for bad times, or of what is printed of the
--- table
-abbrev pub IsCutShort : TravelTable → List ℕ → Option (List ℕ) → Option (List ℕ) → Type 0
-IsCutShort table out before after =
-    (after ≡ before)
-    ⊎ (AreBadTimes table.after table.until table.by × IsBegun before after (refusal_line (OfQuery BadWindow)))
-    ⊎ (HasWindow table × IsShownInPart table out before after)
+-- what was printed of a table if a file or a line can't be read or written: nothing, since the table's file may not be written; or, since the output has a
+-- fault, a first part of the line for bad times, or of what is printed of the table
+abbrev pub IsCutShort : OutFiles → TravelTable → List ℕ → Option ErrorKind → Option (List ℕ) → Option (List ℕ) → Type 0
+IsCutShort disk table out fault before after =
+    (IsUnwritable disk out × (after ≡ before))
+    ⊎ (HasFault fault × AreBadTimes table.after table.until table.by × IsBegun before after (refusal_line (OfQuery BadWindow)))
+    ⊎ (HasFault fault × HasWindow table × IsShownInPart table out before after)
 
--- the same of the table that is asked for; or nothing
-abbrev pub IsTableCutShort : (List ℕ → Option (List ℕ) → Type 0) → ImageValue → MatrixRequest → Option (List ℕ) → Option (List ℕ) → Type 0
-IsTableCutShort may_hold image request before after =
-    (after ≡ before) ⊎ ((table : TravelTable) × IsTableOf may_hold image request table × IsCutShort table request.out.now before after)
+-- the same of the table that is asked for; or nothing, since a list may not be read
+abbrev pub IsTableCutShort : (List ℕ → Option (List ℕ) → Type 0) → (List ℕ → Type 0) → OutFiles → ImageValue → MatrixRequest → Option ErrorKind
+    → Option (List ℕ) → Option (List ℕ) → Type 0
+IsTableCutShort may_hold may_fail disk image request fault before after =
+    (AreListsUnreadable may_fail may_hold request × (after ≡ before))
+    ⊎ ((table : TravelTable) × IsTableOf may_hold image request table × IsCutShort disk table request.out.now fault before after)
 
 -- what was printed of a table if memory ran out: nothing, or its first rows, if it is to be printed itself
 abbrev pub IsSpent : TravelTable → List ℕ → Option (List ℕ) → Option (List ℕ) → Type 0

@@ -1,6 +1,6 @@
 //! The commands over an image.
 
-ghost use Rattle.image_commands.specs.Commands.{PrintsAsked};
+ghost use Rattle.image_commands.specs.Commands.{IsUnusable, PrintsAsked};
 ghost use Rattle.command_endings.specs.Ending.{IsOutcome};
 
 use crate::windows::{DepartureRange, warn_of_window};
@@ -9,7 +9,7 @@ use command_endings::status;
 use command_requests::{
     DeparturesRequest, InfoRequest, JourneyRequest, ProfileRequest, StopsRequest, UpgradeRequest,
 };
-use image_files::{ImageDisk, OutDisk};
+use image_files::{ImageDisk, OutDisk, Watched};
 use image_verifier::Verified;
 use std::io::Write;
 
@@ -71,7 +71,7 @@ impl<'a> ImageRequest<'a> {
 /// why there is none, which it explains in `errors`. Returns `ACCEPTED`, `REFUSED`, `INPUT_OUTPUT` if a file or a line
 /// can't be read or written, or `OUT_OF_MEMORY`, with nothing printed to `output`. If `warnings` is set, warns in
 /// `errors` of a window that goes beyond the image's connections.
-pub fn answer<H: OutDisk + ImageDisk<Image = H::File> + AllocGlobal, O: Write, E: Write>(
+pub fn answer<H: OutDisk + ImageDisk<Image = H::File> + AllocGlobal, O: Watched, E: Write>(
     rt: &H,
     image: &Verified,
     asked: ImageRequest<'_>,
@@ -79,7 +79,8 @@ pub fn answer<H: OutDisk + ImageDisk<Image = H::File> + AllocGlobal, O: Write, E
     errors: &mut E,
     warnings: bool,
 ) -> u8
-    ensures { IsOutcome (PrintsAsked (H.may_hold rt.now) (H.files rt.now) image.now asked.entry) result
+    ensures { IsOutcome (PrintsAsked (H.may_hold rt.now) (H.files rt.now) image.now asked.entry)
+        (IsUnusable (H.may_fail rt.now) (H.may_hold rt.now) (H.files rt.now) asked.entry) (O.noted output.new) result
         (O.contents output.old) (O.contents output.new) }
 {
     let status = do_asked(rt, image, asked, output, errors);
@@ -90,14 +91,15 @@ pub fn answer<H: OutDisk + ImageDisk<Image = H::File> + AllocGlobal, O: Write, E
 }
 
 // Does what is asked, as `answer` does, but warns of nothing.
-fn do_asked<H: OutDisk + ImageDisk<Image = H::File> + AllocGlobal, O: Write, E: Write>(
+fn do_asked<H: OutDisk + ImageDisk<Image = H::File> + AllocGlobal, O: Watched, E: Write>(
     rt: &H,
     image: &Verified,
     asked: ImageRequest<'_>,
     output: &mut O,
     errors: &mut E,
 ) -> u8
-    ensures { IsOutcome (PrintsAsked (H.may_hold rt.now) (H.files rt.now) image.now asked.entry) result
+    ensures { IsOutcome (PrintsAsked (H.may_hold rt.now) (H.files rt.now) image.now asked.entry)
+        (IsUnusable (H.may_fail rt.now) (H.may_hold rt.now) (H.files rt.now) asked.entry) (O.noted output.new) result
         (O.contents output.old) (O.contents output.new) }
 {
     match asked {

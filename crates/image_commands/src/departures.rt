@@ -9,7 +9,8 @@ ghost use Rattle.command_requests.specs.declared.statuses.TheConstants.{REFUSED}
 ghost use Rattle.image_commands.specs.declared.wanted_stops.NoList.TheVariants.{UnknownStop};
 ghost use Rattle.image_commands.specs.Commands.{PrintsDepartures};
 ghost use Rattle.command_endings.specs.Ending.{EndsUndone, IsOutcome, PrintsOnly};
-ghost use Rattle.image_commands.specs.Departing.{AreShownBy, AsksOfAll, list_status, targets_asked, window_asked};
+ghost use Rattle.image_commands.specs.Departing.{AreShownBy, AsksOfAll, IsListUnreadable, list_status, targets_asked};
+ghost use Rattle.image_commands.specs.Departing.{window_asked};
 
 use crate::question::{explain_ends, window_reason};
 use crate::refusal::{CommandRefusal, print_refusal};
@@ -19,7 +20,7 @@ use command_requests::DeparturesRequest;
 use criteria::{Arrival, ArrivalTrips, ArrivalTripsWalk, CriterionName};
 use departure_lines::{WantedStops, departures_text};
 use feed_messages::{explain, is_file};
-use image_files::ImageDisk;
+use image_files::{ImageDisk, Watched};
 use image_verifier::Verified;
 use journeys::Window;
 use profile_scan::{Destinations, SetQuery};
@@ -32,14 +33,15 @@ use timetable::QueryFault;
 /// Prints the best departures from every stop, or from those that are wanted, in the form that is asked for, and then
 /// how many stops and departures there are and how many connections were read. A line of the file of `--from` that
 /// names no stop is reported in `errors` alone.
-pub fn run<H: Files + ImageDisk<Image = H::File> + AllocGlobal, O: Write, E: Write>(
+pub fn run<H: Files + ImageDisk<Image = H::File> + AllocGlobal, O: Watched, E: Write>(
     rt: &H,
     image: &Verified,
     request: &DeparturesRequest<'_>,
     output: &mut O,
     errors: &mut E,
 ) -> u8
-    ensures { IsOutcome (PrintsDepartures (H.may_hold rt.now) image.now request.now) result
+    ensures { IsOutcome (PrintsDepartures (H.may_hold rt.now) image.now request.now)
+        (IsListUnreadable (H.may_fail rt.now) (H.may_hold rt.now) request.now.from) (O.noted output.new) result
         (O.contents output.old) (O.contents output.new) }
 {
     let destinations = match destinations_asked(rt.alloc(), image, request) {
@@ -60,7 +62,7 @@ pub fn run<H: Files + ImageDisk<Image = H::File> + AllocGlobal, O: Write, E: Wri
 }
 
 // Prints the answer.
-fn print_all<O: Write>(
+fn print_all<O: Watched>(
     alloc: Global,
     image: &Verified,
     destinations: &Destinations,
@@ -70,7 +72,7 @@ fn print_all<O: Write>(
 ) -> u8
     requires { IsAskableBetween image.now.timetable.stops (question_to_any destinations.now) }
     ensures { IsOutcome (PrintsOnly (AreShownBy request.now.criterion request.now.form image.now
-        (question_to_any destinations.now) wanted.now)) result
+        (question_to_any destinations.now) wanted.now)) ⊥ (O.noted output.new) result
         (O.contents output.old) (O.contents output.new) }
 {
     match text_by_name(alloc, image, destinations, request, wanted) {

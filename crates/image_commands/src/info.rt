@@ -7,18 +7,18 @@ ghost use Rattle.image_commands.specs.Informing.{IsInfo};
 use command_endings::status;
 use command_requests::InfoRequest;
 use image_facts::{facts_of, json_of};
+use image_files::Watched;
 use image_verifier::Verified;
 use std::alloc::{AllocError, Global};
-use std::io::Write;
 
 /// Prints what an image has. The image was verified when it was opened. Never returns `REFUSED`.
-pub fn run<O: Write>(
+pub fn run<O: Watched>(
     alloc: Global,
     image: &Verified,
     request: InfoRequest<'_>,
     output: &mut O,
 ) -> u8
-    ensures { IsOutcome (PrintsOnly (IsInfo request.entry.json image.now)) result
+    ensures { IsOutcome (PrintsOnly (IsInfo request.entry.json image.now)) ⊥ (O.noted output.new) result
         (O.contents output.old) (O.contents output.new) }
 {
     match text_of(alloc, image, request.json) {

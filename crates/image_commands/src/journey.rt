@@ -10,6 +10,7 @@ use command_endings::status;
 use command_requests::JourneyRequest;
 use departure_lines::append_times;
 use feed_messages::explain;
+use image_files::Watched;
 use image_verifier::Verified;
 use journeys::{JourneyFault, TextFault, check, journey_parse};
 use std::alloc::{AllocError, Global};
@@ -31,7 +32,7 @@ pub enum Failure {
 
 /// Prints when the journey departs and arrives; or the first fault of the query, of the text or of the journey, which
 /// it explains in `errors`.
-pub fn run<O: Write, E: Write>(
+pub fn run<O: Watched, E: Write>(
     alloc: Global,
     image: &Verified,
     request: JourneyRequest<'_>,
@@ -39,7 +40,7 @@ pub fn run<O: Write, E: Write>(
     errors: &mut E,
 ) -> u8
     ensures { IsOutcome (Prints (IsAccepted image.now request.entry.question request.entry.text.now)
-        (IsFaulty image.now request.entry.question request.entry.text.now)) result
+        (IsFaulty image.now request.entry.question request.entry.text.now)) ⊥ (O.noted output.new) result
         (O.contents output.old) (O.contents output.new) }
 {
     match judge(alloc, image, &request) {

@@ -7,7 +7,10 @@ ghost use Rattle.std.specs.Global.{Vec};
 ghost use Rattle.std.specs.Io.KnownBytes.{Appends};
 ghost use Rattle.command_requests.specs.declared.statuses.TheConstants.{ACCEPTED, COMMAND_LINE, INPUT_OUTPUT};
 ghost use Rattle.command_requests.specs.declared.statuses.TheConstants.{OUT_OF_MEMORY, REFUSED};
-ghost use Rattle.image_files.specs.Writing.{IsPut};
+ghost use Rattle.image_files.specs.Writing.{IsPut, IsUnwritable};
+ghost use Rattle.image_files.specs.Watching.{HasFault};
+ghost use Rattle.std.specs.IoError.{error_kind};
+ghost use Rattle.std.specs.declared.io.ErrorKind.TheVariants.{OutOfMemory as WasOutOfMemory};
 ghost use Rattle.matrix_rows.specs.Tables.{AreWithin, CanBeMade, HasWindow, IsTable, IsTableBegun};
 ghost use Rattle.command_endings.specs.Ending.{Ends, EndsUndone, IsBegun};
 ghost use Rattle.image_commands.specs.Matrices.{AreNoSources, AreOfList, AreSources, EndsTable, EndsWritten};
@@ -27,7 +30,7 @@ use crate::windows::{DepartureRange, warn_of_window};
 use command_endings::status;
 use command_requests::{MatrixRequest, TableWorkers};
 use feed_messages::explain;
-use image_files::{ImageDisk, OutDisk, new_file, settle};
+use image_files::{ImageDisk, OutDisk, Watched, new_file, settle};
 use image_verifier::Verified;
 use matrix_rows::{TableReports, TravelTable, write_table};
 use std::alloc::{AllocError, Global};
@@ -55,7 +58,7 @@ pub struct TableNotes {
 /// if a list can't be asked for; `INPUT_OUTPUT`; or `OUT_OF_MEMORY`, with nothing printed unless the table itself is.
 pub fn run<
     H: OutDisk + ImageDisk<Image = H::File> + AllocGlobal + Clock + Threads + Sync,
-    O: Write,
+    O: Watched,
     E: Write,
 >(
     rt: &H,
@@ -72,8 +75,8 @@ pub fn run<
         (O.contents output.old) (O.contents output.new) }
     ensures unlisted { result ≡ COMMAND_LINE → IsTableUnlisted (H.may_hold rt.now) image.now request.entry
         (O.contents output.old) (O.contents output.new) }
-    ensures cut { result ≡ INPUT_OUTPUT → IsTableCutShort (H.may_hold rt.now) image.now request.entry
-        (O.contents output.old) (O.contents output.new) }
+    ensures cut { result ≡ INPUT_OUTPUT → IsTableCutShort (H.may_hold rt.now) (H.may_fail rt.now) (H.files rt.now)
+        image.now request.entry (O.noted output.new) (O.contents output.old) (O.contents output.new) }
     ensures spent { result ≡ OUT_OF_MEMORY → IsTableSpent (H.may_hold rt.now) image.now request.entry
         (O.contents output.old) (O.contents output.new) }
 {
@@ -104,7 +107,7 @@ fn stops_asked<H: Files + ImageDisk<Image = H::File> + AllocGlobal, E: Write>(
         stops.targets.items) }
     ensures sources { IfOk result (λ stops. AreSources (H.may_hold rt.now) request.entry.from image.now
         stops.sources.items) }
-    ensures status { IfErr result (IsUnasked (H.may_hold rt.now) request.entry image.now) }
+    ensures status { IfErr result (IsUnasked (H.may_hold rt.now) (H.may_fail rt.now) request.entry image.now) }
 {
     let targets = targets_asked(rt, image, request, errors)?;
     let sources = sources_asked(rt, image, request, errors)?;
@@ -112,7 +115,7 @@ fn stops_asked<H: Files + ImageDisk<Image = H::File> + AllocGlobal, E: Write>(
 }
 
 // Writes the table that is asked for, if its window is good.
-fn make_table<H: OutDisk + AllocGlobal + Clock + Threads + Sync, O: Write, E: Write>(
+fn make_table<H: OutDisk + AllocGlobal + Clock + Threads + Sync, O: Watched, E: Write>(
     rt: &H,
     table: &TravelTable<'_>,
     request: MatrixRequest<'_>,
@@ -128,8 +131,8 @@ fn make_table<H: OutDisk + AllocGlobal + Clock + Threads + Sync, O: Write, E: Wr
         (O.contents output.new) }
     ensures refused { result ≡ REFUSED → IsBadWindow table.now.after table.now.until table.now.by
         (O.contents output.old) (O.contents output.new) }
-    ensures cut { result ≡ INPUT_OUTPUT → IsCutShort table.now request.entry.out.now (O.contents output.old)
-        (O.contents output.new) }
+    ensures cut { result ≡ INPUT_OUTPUT → IsCutShort (H.files rt.now) table.now request.entry.out.now
+        (O.noted output.new) (O.contents output.old) (O.contents output.new) }
     ensures spent { result ≡ OUT_OF_MEMORY → (O.contents output.new ≡ O.contents output.old)
         ⊎ (HasWindow table.now × IsSpent table.now request.entry.out.now (O.contents output.old)
         (O.contents output.new)) }
@@ -184,7 +187,7 @@ fn targets_asked<H: Files + ImageDisk<Image = H::File> + AllocGlobal, E: Write>(
 ) -> Result<Vec<Vec<u32>>, u8>
     ensures { MatchResult result
         (λ sets. AreOfList (H.may_hold rt.now) request.entry.to.now image.now sets.items)
-        (IsUnlisted (H.may_hold rt.now) request.entry.to.now image.now) }
+        (IsUnlisted (H.may_hold rt.now) (H.may_fail rt.now) request.entry.to.now image.now) }
 {
     let option = ListOption {
         name: "--to",
@@ -201,7 +204,7 @@ fn sources_asked<H: Files + ImageDisk<Image = H::File> + AllocGlobal, E: Write>(
     errors: &mut E,
 ) -> Result<Vec<Vec<u32>>, u8>
     ensures sets { IfOk result (λ sets. AreSources (H.may_hold rt.now) request.entry.from image.now sets.items) }
-    ensures status { IfErr result (AreNoSources (H.may_hold rt.now) request.entry.from image.now) }
+    ensures status { IfErr result (AreNoSources (H.may_hold rt.now) (H.may_fail rt.now) request.entry.from image.now) }
 {
     match request.from {
         Some(path) => {
@@ -219,7 +222,7 @@ fn sources_asked<H: Files + ImageDisk<Image = H::File> + AllocGlobal, E: Write>(
 }
 
 // Prints the refusal of a window, and says what is wrong.
-fn refuse_window<O: Write, E: Write>(
+fn refuse_window<O: Watched, E: Write>(
     alloc: Global,
     table: &TravelTable<'_>,
     output: &mut O,
@@ -231,6 +234,7 @@ fn refuse_window<O: Write, E: Write>(
     ensures begun { result ≡ INPUT_OUTPUT
         → IsBegun (O.contents output.old) (O.contents output.new) (refusal_line (Query BadWindow)) }
     ensures silent { result ≡ OUT_OF_MEMORY → O.contents output.new ≡ O.contents output.old }
+    ensures failed { result ≡ INPUT_OUTPUT → HasFault (O.noted output.new) }
 {
     let refusal = CommandRefusal::Query(QueryFault::BadWindow);
     let status = print_refusal(alloc, output, refusal);
@@ -242,7 +246,7 @@ fn refuse_window<O: Write, E: Write>(
 }
 
 // Writes the table to where it is asked for, and says how that ended.
-fn write_asked<H: OutDisk + AllocGlobal + Clock + Threads + Sync, O: Write, E: Write>(
+fn write_asked<H: OutDisk + AllocGlobal + Clock + Threads + Sync, O: Watched, E: Write>(
     rt: &H,
     table: &TravelTable<'_>,
     request: MatrixRequest<'_>,
@@ -256,8 +260,10 @@ fn write_asked<H: OutDisk + AllocGlobal + Clock + Threads + Sync, O: Write, E: W
     ensures shown { result ≡ ACCEPTED
         → IsTableShown (H.files rt.now) table.now request.entry.out.now (O.contents output.old)
         (O.contents output.new) }
-    ensures cut { result ≡ INPUT_OUTPUT → (O.contents output.new ≡ O.contents output.old)
-        ⊎ IsShownInPart table.now request.entry.out.now (O.contents output.old) (O.contents output.new) }
+    ensures cut { result ≡ INPUT_OUTPUT
+        → (IsUnwritable (H.files rt.now) request.entry.out.now × (O.contents output.new ≡ O.contents output.old))
+        ⊎ (HasFault (O.noted output.new)
+        × IsShownInPart table.now request.entry.out.now (O.contents output.old) (O.contents output.new)) }
     ensures spent { result ≡ OUT_OF_MEMORY → IsSpent table.now request.entry.out.now (O.contents output.old)
         (O.contents output.new) }
 {
@@ -277,7 +283,7 @@ fn write_asked<H: OutDisk + AllocGlobal + Clock + Threads + Sync, O: Write, E: W
 }
 
 // Writes the table to where it is asked for, and reports progress to `log`, if there is one.
-fn put_reported<'c, H: OutDisk + AllocGlobal + Clock + Threads + Sync, O: Write, E: Write>(
+fn put_reported<'c, H: OutDisk + AllocGlobal + Clock + Threads + Sync, O: Watched, E: Write>(
     rt: &'c H,
     table: &TravelTable<'_>,
     request: MatrixRequest<'_>,
@@ -294,6 +300,11 @@ fn put_reported<'c, H: OutDisk + AllocGlobal + Clock + Threads + Sync, O: Write,
     ensures begun { request.entry.out.now ≡ codes "-"
         → OnErr result (IsTableBegun table.now (O.contents output.old) (O.contents output.new)) }
     ensures kept { request.entry.out.now ≢ codes "-" → O.contents output.new ≡ O.contents output.old }
+    ensures failed { request.entry.out.now ≡ codes "-"
+        → IfErr result (λ error. error_kind error ≢ WasOutOfMemory → HasFault (O.noted output.new)) }
+    ensures unwritten { request.entry.out.now ≢ codes "-"
+        → IfErr result (λ error. error_kind error ≢ WasOutOfMemory
+        → IsUnwritable (H.files rt.now) request.entry.out.now) }
 {
     let mut progress = TableProgress::new(rt.alloc(), rt, log, is_terminal, table.targets.len());
     let workers = workers_of(rt, request.workers);
@@ -303,7 +314,7 @@ fn put_reported<'c, H: OutDisk + AllocGlobal + Clock + Threads + Sync, O: Write,
 }
 
 // Writes the table to a path, or to `output` if that is `-`.
-fn put_table<H: OutDisk + AllocGlobal + Threads + Sync, O: Write, P: TableReports>(
+fn put_table<H: OutDisk + AllocGlobal + Threads + Sync, O: Watched, P: TableReports>(
     rt: &H,
     table: &TravelTable<'_>,
     workers: TableWorkers,
@@ -320,6 +331,10 @@ fn put_table<H: OutDisk + AllocGlobal + Threads + Sync, O: Write, P: TableReport
     ensures begun { path.now ≡ codes "-"
         → OnErr result (IsTableBegun table.now (O.contents output.old) (O.contents output.new)) }
     ensures kept { path.now ≢ codes "-" → O.contents output.new ≡ O.contents output.old }
+    ensures failed { path.now ≡ codes "-"
+        → IfErr result (λ error. error_kind error ≢ WasOutOfMemory → HasFault (O.noted output.new)) }
+    ensures unwritten { path.now ≢ codes "-"
+        → IfErr result (λ error. error_kind error ≢ WasOutOfMemory → IsUnwritable (H.files rt.now) path.now) }
 {
     if path == "-" {
         return write_table(rt, table, workers.number, output, reports);
@@ -350,6 +365,7 @@ fn printed(outcome: io::Result<()>) -> u8
     ensures status { EndsWritten result }
     ensures done { IfOk outcome (λ _. result ≡ ACCEPTED) }
     ensures failed { IfErr outcome (λ _. result ≢ ACCEPTED) }
+    ensures cause { IfErr outcome (λ error. result ≡ INPUT_OUTPUT → error_kind error ≢ WasOutOfMemory) }
 {
     match outcome {
         Ok(()) => status::ACCEPTED,
@@ -361,13 +377,14 @@ fn printed(outcome: io::Result<()>) -> u8
 }
 
 // Prints how many sets of stops a table has.
-fn print_counts<O: Write>(alloc: Global, table: &TravelTable<'_>, output: &mut O) -> u8
+fn print_counts<O: Watched>(alloc: Global, table: &TravelTable<'_>, output: &mut O) -> u8
     ensures status { EndsWritten result }
     ensures printed { result ≡ ACCEPTED
         → Appends (O.contents output.old) (O.contents output.new) (counts_of table.now) }
     ensures begun { result ≡ INPUT_OUTPUT
         → IsBegun (O.contents output.old) (O.contents output.new) (counts_of table.now) }
     ensures silent { result ≡ OUT_OF_MEMORY → O.contents output.new ≡ O.contents output.old }
+    ensures failed { result ≡ INPUT_OUTPUT → HasFault (O.noted output.new) }
 {
     let line = counts_line(alloc, table.targets.len(), table.sources.len());
     status::write_line(output, line, status::ACCEPTED)

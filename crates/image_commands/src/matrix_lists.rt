@@ -2,6 +2,7 @@
 
 ghost use Rattle.std.specs.Prelude.{◌≡◌, ◌⊎◌, ◌∷◌, [], IfErr, IfOk, MatchResult};
 ghost use Rattle.std.specs.List.{AllZip, range_with_len};
+ghost use Rattle.std.specs.declared.io.ErrorKind.TheVariants.{OutOfMemory as WasOutOfMemory};
 ghost use Rattle.command_requests.specs.declared.statuses.TheConstants.{INPUT_OUTPUT, OUT_OF_MEMORY};
 ghost use Rattle.image_commands.specs.Matrices.{AreListedIn, AreOfList, IsUnlisted, IsUnlistedIn, fault_status};
 
@@ -32,7 +33,7 @@ pub fn sets_of_file<H: Files + ImageDisk<Image = H::File> + AllocGlobal, E: Writ
 ) -> Result<Vec<Vec<u32>>, u8>
     ensures { MatchResult result
         (λ sets. AreOfList (H.may_hold rt.now) option.entry.path.now image.now sets.items)
-        (IsUnlisted (H.may_hold rt.now) option.entry.path.now image.now) }
+        (IsUnlisted (H.may_hold rt.now) (H.may_fail rt.now) option.entry.path.now image.now) }
 {
     match text_at(rt, option.path) {
         Ok(text) => sets_of_list(rt.alloc(), image, option, text.as_str(), errors),
@@ -171,7 +172,8 @@ fn line_at(list: &str, number: usize) -> &str {
 
 // Says why the file can't be read, and returns the status.
 fn unread<H: Files, E: Write>(rt: &H, option: ListOption<'_>, kind: ErrorKind, errors: &mut E) -> u8
-    ensures { (result ≡ INPUT_OUTPUT) ⊎ (result ≡ OUT_OF_MEMORY) }
+    ensures either { (result ≡ INPUT_OUTPUT) ⊎ (result ≡ OUT_OF_MEMORY) }
+    ensures memory { kind ≡ WasOutOfMemory → result ≡ OUT_OF_MEMORY }
 {
     match kind {
         ErrorKind::OutOfMemory => status::OUT_OF_MEMORY,

@@ -3,7 +3,7 @@
 ghost use Rattle.std.specs.Prelude.{◌≡◌, ◌≢◌, IfErr, IfOk, OnOk};
 ghost use Rattle.command_requests.specs.declared.statuses.TheConstants.{INPUT_OUTPUT};
 ghost use Rattle.image_verifier.specs.declared.fault.ImageFault.TheVariants.{OutOfMemory as WasOutOfMemory};
-ghost use Rattle.image_files.specs.Held.{HoldsOfBytes};
+ghost use Rattle.image_files.specs.Held.{HoldsOfBytes, IsUnreadable};
 ghost use Rattle.command_endings.specs.Ending.{IsOutcome, PrintsRefusal};
 ghost use Rattle.image_commands.specs.Opening.{IsRefusedImage, SpellsImage};
 ghost use Rattle.image_commands.specs.Refusing.{refusal_line};
@@ -11,11 +11,11 @@ ghost use Rattle.image_commands.specs.declared.refusal.CommandRefusal.TheVariant
 
 use crate::refusal::{CommandRefusal, print_refusal};
 use command_endings::status;
-use image_files::{ImageDisk, ImageFileFault, image_words};
+use image_files::{ImageDisk, ImageFileFault, Watched, WatchedRead, image_words};
 use image_verifier::{ImageFault, Verified, verify};
 use std::alloc::Global;
 use std::fmt;
-use std::io::{Read, Write};
+use std::io::Write;
 use std::rt::Files;
 
 /// Why words are no image, as a message about their file.
@@ -46,18 +46,18 @@ fn has_header(fault: ImageFault) -> bool {
 /// Reads and verifies the image at the path, or the one on `input` if the path is `-`. An error is the command's
 /// status: `REFUSED` with the refusal printed, `INPUT_OUTPUT` if a read or a write fails, or `OUT_OF_MEMORY` with
 /// nothing printed.
-pub fn open_image<H: Files + ImageDisk<Image = H::File> + AllocGlobal, I: Read, O: Write, E: Write>(
-    rt: &H,
-    path: &str,
-    input: &mut I,
-    output: &mut O,
-    errors: &mut E,
-) -> Result<Verified, u8>
+pub fn open_image<
+    H: Files + ImageDisk<Image = H::File> + AllocGlobal,
+    I: WatchedRead,
+    O: Watched,
+    E: Write,
+>(rt: &H, path: &str, input: &mut I, output: &mut O, errors: &mut E) -> Result<Verified, u8>
     ensures image { IfOk result (λ image.
         HoldsOfBytes (H.may_hold rt.now) path.now (I.remaining input.old) (SpellsImage image)) }
     ensures silent { OnOk result (O.contents output.new ≡ O.contents output.old) }
     ensures refused { IfErr result (λ status. IsOutcome
-        (PrintsRefusal (IsRefusedImage (H.may_hold rt.now) path.now (I.remaining input.old))) status
+        (PrintsRefusal (IsRefusedImage (H.may_hold rt.now) path.now (I.remaining input.old)))
+        (IsUnreadable (H.may_fail rt.now) path.now (I.has_failed input.new)) (O.noted output.new) status
         (O.contents output.old) (O.contents output.new)) }
 {
     let words = match image_words(rt, path, input) {
@@ -97,7 +97,7 @@ fn report_unread<H: Files, E: Write>(rt: &H, path: &str, errors: &mut E) -> u8
 }
 
 // Prints why the words of the image at a path are refused, unless memory ran out while they were judged.
-fn refuse_words<O: Write, E: Write>(
+fn refuse_words<O: Watched, E: Write>(
     alloc: Global,
     path: &str,
     fault: ImageFault,
@@ -105,7 +105,8 @@ fn refuse_words<O: Write, E: Write>(
     errors: &mut E,
 ) -> u8
     ensures { IsOutcome
-        (PrintsRefusal (λ line. (fault ≢ WasOutOfMemory) × (line ≡ refusal_line (OfImage fault)))) result
+        (PrintsRefusal (λ line. (fault ≢ WasOutOfMemory) × (line ≡ refusal_line (OfImage fault)))) ⊥
+        (O.noted output.new) result
         (O.contents output.old) (O.contents output.new) }
 {
     if fault == ImageFault::OutOfMemory {
@@ -123,7 +124,7 @@ fn refuse_words<O: Write, E: Write>(
 }
 
 // Prints why the image at a path is refused, and says what is wrong.
-fn refuse<F: fmt::Display, O: Write, E: Write>(
+fn refuse<F: fmt::Display, O: Watched, E: Write>(
     alloc: Global,
     path: &str,
     refusal: CommandRefusal,
@@ -131,7 +132,7 @@ fn refuse<F: fmt::Display, O: Write, E: Write>(
     output: &mut O,
     errors: &mut E,
 ) -> u8
-    ensures { IsOutcome (PrintsRefusal (λ line. line ≡ refusal_line refusal)) result
+    ensures { IsOutcome (PrintsRefusal (λ line. line ≡ refusal_line refusal)) ⊥ (O.noted output.new) result
         (O.contents output.old) (O.contents output.new) }
 {
     let status = print_refusal(alloc, output, refusal);

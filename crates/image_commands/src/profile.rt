@@ -1,11 +1,12 @@
 //! `csa profile IMAGE --from STOP_ID.. --to STOP_ID.. --after .. --until .. --by .. --criterion NAME
 //! [--names | --json [--legs]] [--picture FILE [--rows N]]`.
 
-ghost use Rattle.std.specs.Prelude.{◌≡◌, IfOk, OnOk, string_bytes};
+ghost use Rattle.std.specs.Prelude.{◌≡◌, IfOk, OnErr, OnOk, string_bytes};
 ghost use Rattle.std.specs.Io.KnownBytes.{Appends};
 ghost use Rattle.profile_scan.specs.SetQuery.{IsAskableBetween, question};
 ghost use Rattle.command_requests.specs.declared.statuses.TheConstants.{INPUT_OUTPUT, OUT_OF_MEMORY, REFUSED};
-ghost use Rattle.image_commands.specs.Answering.{IsPicturePut, IsProfile, IsShown, IsShownBy};
+ghost use Rattle.image_commands.specs.Answering.{IsPicturePut, IsPictureUnwritable, IsProfile, IsShown, IsShownBy};
+ghost use Rattle.image_files.specs.Watching.{HasFault};
 ghost use Rattle.image_commands.specs.Commands.{PrintsProfile};
 ghost use Rattle.command_endings.specs.Ending.{EndsUndone, IsBegun, IsOutcome, PrintsOnly};
 ghost use Rattle.image_commands.specs.Listing.{form_text};
@@ -23,10 +24,10 @@ use command_requests::{AnswerForm, ProfileRequest};
 use criteria::{Arrival, ArrivalTrips, ArrivalTripsWalk, CriterionName, ShowsFigures};
 use droppable_sources::in_place;
 use feed_messages::explain;
-use image_files::{OutDisk, put_text_into};
+use image_files::{OutDisk, Watched, put_text_into};
 use image_verifier::Verified;
 use journeys::{Answer, Window};
-use profile_scan::SetQuery;
+use profile_scan::{Scanned, SetQuery};
 use station_answers::{NoQuestion, answer_between, question_between};
 use std::alloc::{AllocError, Global};
 use std::io;
@@ -43,14 +44,15 @@ pub struct Profile {
 /// Prints the answer in the form that is asked for: a line for each best departure of any pair of stops with a journey,
 /// then how many there are, how many connections were read, and the shortest direct footpath; or what a session would
 /// reply. A picture that is asked for is written first.
-pub fn run<H: OutDisk + AllocGlobal, O: Write, E: Write>(
+pub fn run<H: OutDisk + AllocGlobal, O: Watched, E: Write>(
     rt: &H,
     image: &Verified,
     request: &ProfileRequest<'_>,
     output: &mut O,
     errors: &mut E,
 ) -> u8
-    ensures { IsOutcome (PrintsProfile (H.files rt.now) image.now request.now) result
+    ensures { IsOutcome (PrintsProfile (H.files rt.now) image.now request.now)
+        (IsPictureUnwritable (H.files rt.now) request.now.picture) (O.noted output.new) result
         (O.contents output.old) (O.contents output.new) }
 {
     match profile_asked(rt.alloc(), image, request) {
@@ -61,7 +63,7 @@ pub fn run<H: OutDisk + AllocGlobal, O: Write, E: Write>(
 }
 
 /// Writes the picture, if there is one, and then prints the text.
-fn print_profile<H: OutDisk + AllocGlobal, O: Write, E: Write>(
+fn print_profile<H: OutDisk + AllocGlobal, O: Watched, E: Write>(
     rt: &H,
     profile: &Profile,
     request: &ProfileRequest<'_>,
@@ -69,7 +71,8 @@ fn print_profile<H: OutDisk + AllocGlobal, O: Write, E: Write>(
     errors: &mut E,
 ) -> u8
     ensures { IsOutcome (PrintsOnly (λ text. IsPicturePut (H.files rt.now) request.now.picture profile.now.picture
-        × (text ≡ string_bytes profile.now.text))) result
+        × (text ≡ string_bytes profile.now.text))) (IsPictureUnwritable (H.files rt.now) request.now.picture)
+        (O.noted output.new) result
         (O.contents output.old) (O.contents output.new) }
 {
     match put_picture(rt, request.picture, &profile.picture) {
@@ -83,7 +86,8 @@ fn print_profile<H: OutDisk + AllocGlobal, O: Write, E: Write>(
 
 /// Writes a picture into the file at its path, if there are both.
 fn put_picture<H: OutDisk>(rt: &H, path: Option<&str>, picture: &Option<String>) -> io::Result<()>
-    ensures { OnOk result (IsPicturePut (H.files rt.now) path.entry picture.now) }
+    ensures put { OnOk result (IsPicturePut (H.files rt.now) path.entry picture.now) }
+    ensures failed { OnErr result (IsPictureUnwritable (H.files rt.now) path.entry) }
 {
     match path {
         None => Ok(()),
@@ -137,7 +141,7 @@ fn profile_by_name(
 }
 
 /// Answers a question under a criterion: the text and the picture are of one and the same answer.
-fn profile_by<C: ShowsFigures>(
+fn profile_by<C: ShowsFigures + Scanned>(
     alloc: Global,
     image: &Verified,
     criterion: &C,
@@ -174,7 +178,7 @@ pub(crate) fn text_in_form<C: ShowsFigures>(
 }
 
 /// Prints why a question can't be asked of an image, and says in `errors` which stops or clocks are at fault.
-fn refuse<O: Write, E: Write>(
+fn refuse<O: Watched, E: Write>(
     alloc: Global,
     image: &Verified,
     request: &ProfileRequest<'_>,
@@ -188,6 +192,7 @@ fn refuse<O: Write, E: Write>(
     ensures silent { result ≡ OUT_OF_MEMORY → O.contents output.new ≡ O.contents output.old }
     ensures begun { result ≡ INPUT_OUTPUT
         → IsBegun (O.contents output.old) (O.contents output.new) (refusal_line (OfQuery fault)) }
+    ensures failed { result ≡ INPUT_OUTPUT → HasFault (O.noted output.new) }
 {
     let status = print_refusal(alloc, output, CommandRefusal::Query(fault));
     if status == status::REFUSED {

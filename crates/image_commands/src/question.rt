@@ -7,6 +7,7 @@ ghost use Rattle.journeys.specs.Questions.{Asks, IsRefused};
 ghost use Rattle.command_requests.specs.declared.statuses.TheConstants.{INPUT_OUTPUT, OUT_OF_MEMORY, REFUSED};
 ghost use Rattle.image_commands.specs.Asking.{window_of};
 ghost use Rattle.command_endings.specs.Ending.{EndsUndone, IsBegun};
+ghost use Rattle.image_files.specs.Watching.{HasFault};
 ghost use Rattle.image_commands.specs.Refusing.{refusal_line};
 ghost use Rattle.image_commands.specs.declared.refusal.CommandRefusal.TheVariants.{Query as OfQuery};
 
@@ -14,6 +15,7 @@ use crate::refusal::{CommandRefusal, print_refusal};
 use command_endings::status;
 use command_requests::Question;
 use feed_messages::{explain, quoted};
+use image_files::Watched;
 use image_verifier::Verified;
 use journeys::{Window, query_of};
 use std::alloc::Global;
@@ -41,7 +43,7 @@ pub fn query_asked(image: &Verified, question: &Question<'_>) -> Result<Query, Q
 }
 
 /// Prints why a question makes no query of an image, and says in `errors` which end or clock is at fault.
-pub fn refuse_question<O: Write, E: Write>(
+pub fn refuse_question<O: Watched, E: Write>(
     alloc: Global,
     image: &Verified,
     question: &Question<'_>,
@@ -55,6 +57,7 @@ pub fn refuse_question<O: Write, E: Write>(
     ensures silent { result ≡ OUT_OF_MEMORY → O.contents output.new ≡ O.contents output.old }
     ensures begun { result ≡ INPUT_OUTPUT
         → IsBegun (O.contents output.old) (O.contents output.new) (refusal_line (OfQuery fault)) }
+    ensures failed { result ≡ INPUT_OUTPUT → HasFault (O.noted output.new) }
 {
     let status = print_refusal(alloc, output, CommandRefusal::Query(fault));
     if status == status::REFUSED {

@@ -7,15 +7,16 @@ ghost use Rattle.journeys.specs.Numbers.{text_number};
 ghost use Rattle.journeys.specs.Texts.{number_text};
 ghost use Rattle.journeys.specs.declared.text_fault.TextFault.TheVariants.{BadText as OfText};
 ghost use Rattle.command_endings.specs.Ending.{EndsUndone, IsBegun};
+ghost use Rattle.image_files.specs.Watching.{HasFault};
 ghost use Rattle.image_commands.specs.Refusing.{image_positions, journey_positions, numbered_refusal};
 ghost use Rattle.image_commands.specs.Refusing.{refusal_line, refusal_positions};
 
 use command_endings::{begin_refusal, status};
+use image_files::Watched;
 use image_layout::WordsFault;
 use image_verifier::ImageFault;
 use journeys::{JourneyFault, TextFault};
 use std::alloc::{AllocError, Global};
-use std::io::Write;
 use text_pieces::{put_number, put_text};
 use timetable::QueryFault;
 
@@ -143,14 +144,16 @@ fn put_three(line: &mut String, a: usize, b: usize, c: usize) -> Result<(), Allo
 }
 
 /// Prints the line of a refusal. Returns `REFUSED`; or `INPUT_OUTPUT` if a write fails, and then a first part of the
-/// line, possibly empty, was written; or `OUT_OF_MEMORY` if memory runs out, and then nothing was written.
-pub fn print_refusal<O: Write>(alloc: Global, output: &mut O, refusal: CommandRefusal) -> u8
+/// line, possibly empty, was written, and the output has a fault; or `OUT_OF_MEMORY` if memory runs out, and then
+/// nothing was written.
+pub fn print_refusal<O: Watched>(alloc: Global, output: &mut O, refusal: CommandRefusal) -> u8
     ensures status { EndsUndone result }
     ensures printed { result ≡ REFUSED
         → Appends (O.contents output.old) (O.contents output.new) (refusal_line refusal) }
     ensures silent { result ≡ OUT_OF_MEMORY → O.contents output.new ≡ O.contents output.old }
     ensures begun { result ≡ INPUT_OUTPUT
         → IsBegun (O.contents output.old) (O.contents output.new) (refusal_line refusal) }
+    ensures failed { result ≡ INPUT_OUTPUT → HasFault (O.noted output.new) }
 {
     match refusal_line(alloc, refusal) {
         Ok(line) => status::write_text(output, line.as_str(), status::REFUSED),

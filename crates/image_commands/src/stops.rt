@@ -12,6 +12,7 @@ use command_requests::StopsRequest;
 use feed_messages::{explain, quoted};
 use feed_stations::is_in;
 use image_facts::stop_name;
+use image_files::Watched;
 use image_verifier::Verified;
 use std::alloc::{AllocError, Global};
 use std::io::Write;
@@ -19,14 +20,14 @@ use text_pieces::{put_comma, put_number, put_quoted, put_text, put_word};
 
 /// Prints the number and the name of each stop whose name contains the text, in order. If there is none, says so in
 /// `errors`. Never returns `REFUSED`.
-pub fn run<O: Write, E: Write>(
+pub fn run<O: Watched, E: Write>(
     alloc: Global,
     image: &Verified,
     request: StopsRequest<'_>,
     output: &mut O,
     errors: &mut E,
 ) -> u8
-    ensures { IsOutcome (PrintsOnly (AreStopsAsked image.now request.entry)) result
+    ensures { IsOutcome (PrintsOnly (AreStopsAsked image.now request.entry)) ⊥ (O.noted output.new) result
         (O.contents output.old) (O.contents output.new) }
 {
     match found_stops(alloc, image, request.text) {
@@ -50,15 +51,15 @@ fn explain_none<E: Write>(alloc: Global, text: &str, errors: &mut E) {
 }
 
 // Prints the stops. Never returns `REFUSED`.
-fn print_stops<O: Write>(
+fn print_stops<O: Watched>(
     alloc: Global,
     image: &Verified,
     found: &[u32],
     json: bool,
     output: &mut O,
 ) -> u8
-    ensures { IsOutcome (PrintsOnly (λ text. text ≡ stops_text json image.now.names found.now)) result
-        (O.contents output.old) (O.contents output.new) }
+    ensures { IsOutcome (PrintsOnly (λ text. text ≡ stops_text json image.now.names found.now)) ⊥
+        (O.noted output.new) result (O.contents output.old) (O.contents output.new) }
 {
     match text_of(alloc, image, found, json) {
         Ok(text) => status::write_text(output, text.as_str(), status::ACCEPTED),

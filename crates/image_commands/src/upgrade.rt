@@ -3,6 +3,7 @@
 ghost use Rattle.std.specs.Prelude.{◌≡◌, IfOk};
 ghost use Rattle.image_commands.specs.Commands.{IsUpgraded};
 ghost use Rattle.command_endings.specs.Ending.{IsOutcome, PrintsOnly};
+ghost use Rattle.image_files.specs.Writing.{IsUnwritable};
 ghost use Rattle.image_layout.specs.declared.layout.TheConstants.{LAYOUT};
 ghost use Rattle.image_layout.specs.Fields.{layout_of};
 ghost use Rattle.image_layout.specs.Image.{IsImage};
@@ -10,21 +11,22 @@ ghost use Rattle.image_layout.specs.Image.{IsImage};
 use crate::verify;
 use command_endings::status;
 use command_requests::UpgradeRequest;
-use image_files::{OutDisk, put_image};
+use image_files::{OutDisk, Watched, put_image};
 use image_verifier::Verified;
 use image_writer::write;
 use std::alloc::{AllocError, Global};
 use std::io::Write;
 
 /// Writes the image in the current layout, and prints its counts as `verify` does. Never returns `REFUSED`.
-pub fn run<H: OutDisk + AllocGlobal, O: Write, E: Write>(
+pub fn run<H: OutDisk + AllocGlobal, O: Watched, E: Write>(
     rt: &H,
     image: &Verified,
     request: UpgradeRequest<'_>,
     output: &mut O,
     errors: &mut E,
 ) -> u8
-    ensures { IsOutcome (PrintsOnly (IsUpgraded (H.files rt.now) image.now request.entry.out.now)) result
+    ensures { IsOutcome (PrintsOnly (IsUpgraded (H.files rt.now) image.now request.entry.out.now))
+        (IsUnwritable (H.files rt.now) request.entry.out.now) (O.noted output.new) result
         (O.contents output.old) (O.contents output.new) }
 {
     let Ok(words) = upgraded(rt.alloc(), image) else {

@@ -5,14 +5,14 @@ ghost use Rattle.image_commands.specs.Counting.{counts_line, numbers_text};
 ghost use Rattle.command_endings.specs.Ending.{IsOutcome, PrintsOnly};
 
 use command_endings::status;
+use image_files::Watched;
 use image_verifier::Verified;
 use std::alloc::{AllocError, Global};
-use std::io::Write;
 use text_pieces::{put_number, put_text};
 
 /// Prints the counts of an image. The image was verified when it was opened. Never returns `REFUSED`.
-pub fn run<O: Write>(alloc: Global, image: &Verified, output: &mut O) -> u8
-    ensures { IsOutcome (PrintsOnly (λ text. text ≡ counts_line image.now)) result
+pub fn run<O: Watched>(alloc: Global, image: &Verified, output: &mut O) -> u8
+    ensures { IsOutcome (PrintsOnly (λ text. text ≡ counts_line image.now)) ⊥ (O.noted output.new) result
         (O.contents output.old) (O.contents output.new) }
 {
     match counts(alloc, image) {

@@ -33,7 +33,7 @@ pub fn wanted_from<H: ImageDisk + AllocGlobal, E: Write>(
     errors: &mut E,
 ) -> Result<WantedStops, NoList>
     ensures { MatchResult result (IsWantedFrom (H.may_hold rt.now) path.entry image.now.names)
-        (IsNoListFrom (H.may_hold rt.now) path.entry image.now.names) }
+        (IsNoListFrom (H.may_hold rt.now) (H.may_fail rt.now) path.entry image.now.names) }
 {
     match path {
         None => Ok(WantedStops::All),
@@ -49,7 +49,7 @@ fn wanted_at<H: ImageDisk + AllocGlobal, E: Write>(
     errors: &mut E,
 ) -> Result<WantedStops, NoList>
     ensures { MatchResult result (IsListed (H.may_hold rt.now) path.now image.now.names)
-        (IsNoListAt (H.may_hold rt.now) path.now image.now.names) }
+        (IsNoListAt (H.may_hold rt.now) (H.may_fail rt.now) path.now image.now.names) }
 {
     match text_at(rt, path) {
         Ok(text) => {

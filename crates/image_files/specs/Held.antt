@@ -1,5 +1,5 @@
 -- Which bytes an image is read from.
-use Rattle.std.specs.Prelude.{◌≡◌, ◌≢◌, ℕ, List, Option, IfSome, codes}
+use Rattle.std.specs.Prelude.{◌≡◌, ◌≢◌, ◌⊎◌, ℕ, List, Option, IfSome, codes}
 
 -- Is holds of all bytes that are read, if they are known: those of the input for the path `-`, else those that a file at the path may hold
 pub record HoldsOfBytes (may_hold : List ℕ → Option (List ℕ) → Type 0) (path : List ℕ) (input : Option (List ℕ))
@@ -8,3 +8,7 @@ pub record HoldsOfBytes (may_hold : List ℕ → Option (List ℕ) → Type 0) (
   pub of_input : path ≡ codes "-" → held ≡ input
   pub of_file : path ≢ codes "-" → may_hold path held
   pub holds : IfSome held Is
+
+-- what is at the path may not be opened or read; or a read of the input failed, for the path `-`
+abbrev pub IsUnreadable : (List ℕ → Type 0) → List ℕ → Type 0 → Type 0
+IsUnreadable may_fail path has_input_failed = ((path ≡ codes "-") × has_input_failed) ⊎ ((path ≢ codes "-") × may_fail path)

@@ -9,7 +9,14 @@ pub record OutFiles : Type 1 where
   pub may_begin : List ℕ → Option (List ℕ) → Type 0
   -- a file that was made or opened at the first path, and is at the second, may have these contents there
   pub may_stand : List ℕ → List ℕ → Option (List ℕ) → Type 0
+  -- a file may not be made, opened or written at this path, or not be brought there
+  pub may_fail : List ℕ → Type 0
 
 -- nothing is known
 abbrev pub any_files : OutFiles
-any_files = record { special = λ path. Unit {0}; may_begin = λ path contents. Unit {0}; may_stand = λ write_path path contents. Unit {0} }
+any_files = record {
+  special = λ path. Unit {0};
+  may_begin = λ path contents. Unit {0};
+  may_stand = λ write_path path contents. Unit {0};
+  may_fail = λ path. Unit {0};
+}

@@ -1,9 +1,13 @@
 //! Makes files, and brings them to their places.
 
-ghost use Rattle.std.specs.Prelude.{◌≡◌, IfOk, OnOk, true};
+ghost use Rattle.std.specs.Prelude.{◌≡◌, IfErr, IfOk, OnErr, OnOk, true};
 ghost use Rattle.image_files.specs.Out.{OutFiles, any_files};
+ghost use Rattle.image_files.specs.Watching.{HasFault};
+ghost use Rattle.image_files.specs.declared.watching.WatchedWriter.{WatchedWriter as OutFile};
 
+use crate::watching::WatchedWriter;
 use std::fs::File;
+use std::io::Write;
 use std::rt::Files;
 use std::{fs, io};
 
@@ -17,16 +21,26 @@ pub trait OutDisk: Files {
         ensures { result ≡ true → (files self.now).special path.now };
 
     /// Makes a file at a path where there is nothing.
-    fn new_file(&self, path: &str) -> io::Result<Self::File>
-        ensures { IfOk result (λ file. (files self.now).may_begin path.now (Self.File.Write.contents file)) };
+    fn new_file(&self, path: &str) -> io::Result<WatchedWriter<Self::File>>
+        ensures begun { IfOk result (λ file. (files self.now).may_begin path.now
+            (⟦<WatchedWriter<Self::File> as Write>⟧.contents file)) }
+        ensures written { IfOk result (λ _. (file : OutFile Self.File) → HasFault file.fault
+            → (files self.now).may_fail path.now) }
+        ensures failed { IfErr result (λ _. (files self.now).may_fail path.now) };
 
     /// Opens what is at a path, or at the end of the link there. A plain file is emptied.
-    fn opened(&self, path: &str) -> io::Result<Self::File>
-        ensures { IfOk result (λ file. (files self.now).may_begin path.now (Self.File.Write.contents file)) };
+    fn opened(&self, path: &str) -> io::Result<WatchedWriter<Self::File>>
+        ensures begun { IfOk result (λ file. (files self.now).may_begin path.now
+            (⟦<WatchedWriter<Self::File> as Write>⟧.contents file)) }
+        ensures written { IfOk result (λ _. (file : OutFile Self.File) → HasFault file.fault
+            → (files self.now).may_fail path.now) }
+        ensures failed { IfErr result (λ _. (files self.now).may_fail path.now) };
 
     /// Moves a file from the path at which it was made or opened to another. It stays if that is the same.
-    fn brought(&self, file: &Self::File, from: &str, to: &str) -> io::Result<()>
-        ensures { OnOk result ((files self.now).may_stand from.now to.now (Self.File.Write.contents file.now)) };
+    fn brought(&self, file: &WatchedWriter<Self::File>, from: &str, to: &str) -> io::Result<()>
+        ensures stands { OnOk result ((files self.now).may_stand from.now to.now
+            (⟦<WatchedWriter<Self::File> as Write>⟧.contents file.now)) }
+        ensures failed { OnErr result ((files self.now).may_fail to.now) };
 }
 
 impl<H: Files> OutDisk for H {
@@ -40,15 +54,17 @@ impl<H: Files> OutDisk for H {
         }
     }
 
-    fn new_file(&self, path: &str) -> io::Result<H::File> {
-        File::create_new(self, path)
+    fn new_file(&self, path: &str) -> io::Result<WatchedWriter<H::File>> {
+        let file = File::create_new(self, path)?;
+        Ok(WatchedWriter::of(file))
     }
 
-    fn opened(&self, path: &str) -> io::Result<H::File> {
-        File::create(self, path)
+    fn opened(&self, path: &str) -> io::Result<WatchedWriter<H::File>> {
+        let file = File::create(self, path)?;
+        Ok(WatchedWriter::of(file))
     }
 
-    fn brought(&self, _file: &H::File, from: &str, to: &str) -> io::Result<()> {
+    fn brought(&self, _file: &WatchedWriter<H::File>, from: &str, to: &str) -> io::Result<()> {
         if from == to {
             return Ok(());
         }

@@ -1,22 +1,23 @@
 //! Reads words from bytes, piece by piece.
 
-ghost use Rattle.std.specs.Prelude.{◌≡◌, ◌≢◌, ◌<◌, ◌≤◌, ◌%◌, ◌*◌, ◌^◌, length, take, ◌++◌, IfOk, OnOk, IfSome};
+ghost use Rattle.std.specs.Prelude.{◌≡◌, ◌≢◌, ◌<◌, ◌≤◌, ◌%◌, ◌*◌, ◌^◌, length, take, ◌++◌};
+ghost use Rattle.std.specs.Prelude.{IfErr, IfOk, OnOk, IfSome};
 ghost use Rattle.std.specs.Io.KnownBytes.{Consumes, IsAtEnd};
 ghost use Rattle.image_layout.specs.Text.{bytes_of};
-ghost use Rattle.image_files.specs.Held.{HoldsOfBytes};
+ghost use Rattle.image_files.specs.Held.{HoldsOfBytes, IsUnreadable};
 
 use crate::disk::ImageDisk;
 use crate::fault::ImageFileFault;
+use crate::watching::{WatchedRead, is_interrupted};
 use std::alloc::{AllocError, Global};
 use std::fs::OpenFile;
 use std::io;
-use std::io::Read;
 
 /// How many words are read or written at once. So memory holds an image once, and not also as bytes.
 pub(crate) const PIECE_WORDS: usize = 16_384;
 
 /// Reads all words of the file at the path, or of the input if the path is `-`.
-pub fn image_words<H: ImageDisk + AllocGlobal, I: Read>(
+pub fn image_words<H: ImageDisk + AllocGlobal, I: WatchedRead>(
     rt: &H,
     path: &str,
     input: &mut I,
@@ -25,59 +26,60 @@ pub fn image_words<H: ImageDisk + AllocGlobal, I: Read>(
         (λ bytes. bytes_of words.items ≡ bytes)) }
     ensures odd { result ≡ Err ImageFileFault.OddLength
         → HoldsOfBytes (H.may_hold rt.now) path.now (I.remaining input.old) (λ bytes. length bytes % 4 ≢ 0) }
+    ensures failed { result ≡ Err ImageFileFault.Unreadable
+        → IsUnreadable (H.may_fail rt.now) path.now (I.has_failed input.new) }
 {
     let mut piece = new_piece(rt.alloc(), PIECE_WORDS)?;
     if path == "-" {
         return words_of(rt.alloc(), input, &mut piece, 0);
     }
     let mut file = rt.image_file(path)?;
-    let bytes = file.metadata()?.len();
-    let ahead = (bytes / 4) as usize;
+    let ahead = match file.metadata() {
+        Ok(metadata) => (metadata.len() / 4) as usize,
+        Err(_) => 0,
+    };
     words_of(rt.alloc(), &mut file, &mut piece, ahead)
 }
 
 /// Reads once, and again as long as the read is interrupted. Returns the number of bytes read.
-fn read_some<R: Read>(reader: &mut R, piece: &mut [u8]) -> io::Result<usize>
+fn read_some<R: WatchedRead>(reader: &mut R, piece: &mut [u8]) -> io::Result<usize>
     ensures within { IfOk result (λ n. n ≤ length piece.new) }
+    ensures same { length piece.new ≡ length piece.old }
     ensures bytes { IfOk result (λ n. Consumes (R.remaining reader.old) (R.remaining reader.new) (take n piece.new)) }
     ensures end { IfOk result (λ n. n ≡ 0 → 0 < length piece.new → IsAtEnd (R.remaining reader.new)) }
+    ensures failed { IfErr result (λ _. R.has_failed reader.new) }
 {
+    let mut result = reader.read_once(piece);
     for _ in 0..u64::MAX {
-        match reader.read(piece) {
-            Ok(n) => return Ok(n),
-            Err(error) => {
-                if error.kind() != io::ErrorKind::Interrupted {
-                    return Err(error);
-                }
-            }
+        if !is_interrupted(&result) {
+            return result;
         }
+        result = reader.read_once(piece);
     }
-    Err(io::Error::from(io::ErrorKind::TimedOut))
+    result
 }
 
 /// Reads until the piece is full or the reader ends. Returns the number of bytes read.
-fn fill<R: Read>(reader: &mut R, piece: &mut [u8]) -> io::Result<usize>
+pub(crate) fn fill<R: WatchedRead>(reader: &mut R, piece: &mut [u8]) -> io::Result<usize>
     ensures within { IfOk result (λ n. n ≤ length piece.new) }
     ensures bytes { IfOk result (λ n. Consumes (R.remaining reader.old) (R.remaining reader.new) (take n piece.new)) }
     ensures end { IfOk result (λ n. n < length piece.new → IsAtEnd (R.remaining reader.new)) }
+    ensures failed { IfErr result (λ _. R.has_failed reader.new) }
 {
     let mut at = 0;
-    'pieces: for _ in 0..u64::MAX {
-        if at == piece.len() {
-            return Ok(at);
-        }
+    'pieces: while at < piece.len() {
         let count = read_some(reader, &mut piece[at..])?;
         if count == 0 {
             return Ok(at);
         }
         at += count;
     }
-    Err(io::Error::from(io::ErrorKind::TimedOut))
+    Ok(at)
 }
 
 /// Reads a reader to its end, in pieces of whole words, and returns the words that its bytes spell, the
 /// least significant byte first. Memory for `ahead` words is taken at the start.
-fn words_of<R: Read>(
+fn words_of<R: WatchedRead>(
     alloc: Global,
     reader: &mut R,
     piece: &mut [u8],
@@ -87,6 +89,7 @@ fn words_of<R: Read>(
     ensures spelled { IfOk result (λ words. IfSome (R.remaining reader.old) (λ bytes. bytes_of words.items ≡ bytes)) }
     ensures odd { result ≡ Err ImageFileFault.OddLength
         → IfSome (R.remaining reader.old) (λ bytes. length bytes % 4 ≢ 0) }
+    ensures failed { result ≡ Err ImageFileFault.Unreadable → R.has_failed reader.new }
 {
     let mut words = Vec::with_capacity(alloc, ahead)?;
     'pieces: for _ in 0..u64::MAX {
@@ -99,7 +102,8 @@ fn words_of<R: Read>(
             return Ok(words);
         }
     }
-    Err(ImageFileFault::Unreadable)
+    // no memory has room for the bytes of so many pieces
+    Err(ImageFileFault::OutOfMemory)
 }
 
 /// A piece with room for this many words, as bytes.

@@ -1,12 +1,18 @@
 //! Writes files: beside the path first, so that what is there stays whole.
 
-ghost use Rattle.std.specs.Prelude.{◌≡◌, Err, IfErr, IfOk, OnOk, string_bytes};
+ghost use Rattle.std.specs.Prelude.{◌≡◌, ◌≢◌, Err, IfErr, IfOk, OnErr, OnOk, string_bytes};
 ghost use Rattle.std.specs.Io.KnownBytes.{Appends};
 ghost use Rattle.image_layout.specs.Text.{bytes_of};
-ghost use Rattle.image_files.specs.Writing.{IsNew, IsPut, IsPutInto, IsWholeImage, part_of, write_path_of};
+ghost use Rattle.std_io.specs.IoError.{error_kind};
+ghost use Rattle.std_io.specs.declared.io.kind.ErrorKind.TheVariants.{OutOfMemory};
+ghost use Rattle.image_files.specs.Watching.{HasFault};
+ghost use Rattle.image_files.specs.declared.watching.WatchedWriter.{WatchedWriter as OutFile};
+ghost use Rattle.image_files.specs.Writing.{IsNew, IsPut, IsPutInto, IsUnwritable, IsWholeImage, part_of};
+ghost use Rattle.image_files.specs.Writing.{write_path_of};
 
 use crate::out::OutDisk;
 use crate::reading::PIECE_WORDS;
+use crate::watching::{Watched, WatchedWriter, write_all};
 use image_layout::Words;
 use std::alloc::{AllocError, Global};
 use std::io::Write;
@@ -28,8 +34,12 @@ pub struct NewFile<'a, F> {
 pub fn new_file<'a, H: OutDisk + AllocGlobal>(
     rt: &H,
     path: &'a str,
-) -> io::Result<NewFile<'a, H::File>>
-    ensures { IfOk result (IsNew H.File.Write.contents (H.files rt.now) path.now) }
+) -> io::Result<NewFile<'a, WatchedWriter<H::File>>>
+    ensures new { IfOk result (IsNew ⟦<WatchedWriter<H::File> as Write>⟧.contents (H.files rt.now) path.now) }
+    ensures written { IfOk result (λ _. (file : OutFile H.File) → HasFault file.fault
+        → IsUnwritable (H.files rt.now) path.now) }
+    ensures failed { IfErr result (λ error. error_kind error ≢ OutOfMemory
+        → IsUnwritable (H.files rt.now) path.now) }
 {
     if rt.is_special(path) {
         let file = rt.opened(path)?;
@@ -63,12 +73,13 @@ fn part_of(alloc: Global, path: &str) -> Result<String, AllocError>
 /// Brings a file to its path, if it was written; or else removes it, and returns why it wasn't.
 pub fn settle<H: OutDisk>(
     rt: &H,
-    file: NewFile<'_, H::File>,
+    file: NewFile<'_, WatchedWriter<H::File>>,
     outcome: io::Result<()>,
 ) -> io::Result<()>
     ensures failed { IfErr outcome (λ error. result ≡ Err error) }
     ensures stands { OnOk result ((H.files rt.now).may_stand (write_path_of file.entry) file.entry.path.now
-        (H.File.Write.contents file.entry.file)) }
+        (⟦<WatchedWriter<H::File> as Write>⟧.contents file.entry.file)) }
+    ensures unmoved { OnOk outcome (OnErr result ((H.files rt.now).may_fail file.entry.path.now)) }
 {
     let NewFile { file, path, beside } = file;
     match beside {
@@ -80,13 +91,15 @@ pub fn settle<H: OutDisk>(
 // Moves a file that was written, or else removes it.
 fn settle_beside<H: OutDisk>(
     rt: &H,
-    file: &H::File,
+    file: &WatchedWriter<H::File>,
     beside: &str,
     path: &str,
     outcome: io::Result<()>,
 ) -> io::Result<()>
     ensures failed { IfErr outcome (λ error. result ≡ Err error) }
-    ensures stands { OnOk result ((H.files rt.now).may_stand beside.now path.now (H.File.Write.contents file.now)) }
+    ensures stands { OnOk result ((H.files rt.now).may_stand beside.now path.now
+        (⟦<WatchedWriter<H::File> as Write>⟧.contents file.now)) }
+    ensures unmoved { OnOk outcome (OnErr result ((H.files rt.now).may_fail path.now)) }
 {
     let outcome = brought(rt, file, beside, path, outcome);
     if outcome.is_err() {
@@ -98,13 +111,15 @@ fn settle_beside<H: OutDisk>(
 // Brings a file that was written from one path to another, which may be the same.
 fn brought<H: OutDisk>(
     rt: &H,
-    file: &H::File,
+    file: &WatchedWriter<H::File>,
     from: &str,
     to: &str,
     outcome: io::Result<()>,
 ) -> io::Result<()>
     ensures failed { IfErr outcome (λ error. result ≡ Err error) }
-    ensures stands { OnOk result ((H.files rt.now).may_stand from.now to.now (H.File.Write.contents file.now)) }
+    ensures stands { OnOk result ((H.files rt.now).may_stand from.now to.now
+        (⟦<WatchedWriter<H::File> as Write>⟧.contents file.now)) }
+    ensures unmoved { OnOk outcome (OnErr result ((H.files rt.now).may_fail to.now)) }
 {
     match outcome {
         Ok(()) => rt.brought(file, from, to),
@@ -114,7 +129,8 @@ fn brought<H: OutDisk>(
 
 /// Writes a text into the file at a path, which is made or emptied first, or into what else is there.
 pub fn put_text_into<H: OutDisk>(rt: &H, path: &str, text: &str) -> io::Result<()>
-    ensures { OnOk result (IsPutInto (H.files rt.now) path.now text.now) }
+    ensures put { OnOk result (IsPutInto (H.files rt.now) path.now text.now) }
+    ensures failed { OnErr result ((H.files rt.now).may_fail path.now) }
 {
     let mut file = rt.opened(path)?;
     write_text(&mut file, text)?;
@@ -122,17 +138,20 @@ pub fn put_text_into<H: OutDisk>(rt: &H, path: &str, text: &str) -> io::Result<(
 }
 
 // Writes the text, and nothing else.
-fn write_text<W: Write>(file: &mut W, text: &str) -> io::Result<()>
-    ensures { OnOk result (Appends (W.contents file.old) (W.contents file.new) text.now) }
+fn write_text<W: Watched>(file: &mut W, text: &str) -> io::Result<()>
+    ensures bytes { OnOk result (Appends (W.contents file.old) (W.contents file.new) text.now) }
+    ensures failed { OnErr result (HasFault (W.noted file.new)) }
 {
-    file.write_all(text.as_bytes())?;
-    file.flush()
+    write_all(file, text.as_bytes())?;
+    file.finish()
 }
 
 /// Writes an image's words to the path, by way of a `NewFile`.
 pub fn put_image<H: OutDisk + AllocGlobal>(rt: &H, path: &str, words: &[u32]) -> io::Result<()>
     requires { IsWholeImage words.now }
-    ensures { OnOk result (IsPut (H.files rt.now) path.now (bytes_of words.now)) }
+    ensures put { OnOk result (IsPut (H.files rt.now) path.now (bytes_of words.now)) }
+    ensures failed { IfErr result (λ error. error_kind error ≢ OutOfMemory
+        → IsUnwritable (H.files rt.now) path.now) }
 {
     let mut file = new_file(rt, path)?;
     let outcome = write_words(rt.alloc(), &mut file.file, words);
@@ -140,13 +159,14 @@ pub fn put_image<H: OutDisk + AllocGlobal>(rt: &H, path: &str, words: &[u32]) ->
 }
 
 // Writes the bytes of all words piece by piece, so that memory never holds all of them beside the words.
-fn write_words<W: Write>(alloc: Global, file: &mut W, words: &[u32]) -> io::Result<()>
+fn write_words<W: Watched>(alloc: Global, file: &mut W, words: &[u32]) -> io::Result<()>
     requires { IsWholeImage words.now }
-    ensures { OnOk result (Appends (W.contents file.old) (W.contents file.new) (bytes_of words.now)) }
+    ensures bytes { OnOk result (Appends (W.contents file.old) (W.contents file.new) (bytes_of words.now)) }
+    ensures failed { IfErr result (λ error. error_kind error ≢ OutOfMemory → HasFault (W.noted file.new)) }
 {
     for piece in words.chunks(PIECE_WORDS) {
         let bytes = Words::to_bytes(alloc, piece)?;
-        file.write_all(&bytes)?;
+        write_all(file, &bytes)?;
     }
-    file.flush()
+    file.finish()
 }

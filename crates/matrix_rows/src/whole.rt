@@ -1,9 +1,13 @@
 //! The rows of all targets, by several threads at once.
 
-ghost use Rattle.std.specs.Prelude.{◌≡◌, ◌≤◌, ◌<◌, ℕ, List, Contains, IfOk, IfSome, OnErr, OnOk, length};
+ghost use Rattle.std.specs.Prelude.{◌≡◌, ◌≢◌, ◌≤◌, ◌<◌, ℕ, List, Contains, IfErr, IfOk, IfSome, OnErr, OnOk};
+ghost use Rattle.std.specs.Prelude.{length};
 ghost use denote.Param.Send.{IsSync};
 ghost use Rattle.std.specs.Global.{Vec};
 ghost use Rattle.std.specs.Io.KnownBytes.{Appends};
+ghost use Rattle.std.specs.IoError.{error_kind};
+ghost use Rattle.std.specs.declared.io.ErrorKind.TheVariants.{OutOfMemory};
+ghost use Rattle.image_files.specs.Watching.{HasFault};
 ghost use Rattle.csv.specs.Writing.{default_writer, row_text};
 ghost use Rattle.travel_times.specs.Rows.{Adds, AreWhole};
 ghost use Rattle.matrix_rows.specs.Runs.{AreMade};
@@ -15,9 +19,9 @@ use crate::set_names::set_names;
 use crate::table::TravelTable;
 use crate::target::rows_to;
 use crate::turns::{TargetRows, run_made, text_made};
+use image_files::{Watched, write_all};
 use std::alloc::{AllocError, Global};
 use std::io;
-use std::io::{ErrorKind, Write};
 use std::thread::{Threads, join_mut};
 use travel_times::{Rows, put_pair_names, put_point_names};
 
@@ -33,7 +37,7 @@ pub trait TableReports {
 /// Writes the table: its first row, then the rows of each set of targets, in order, whatever the number of threads. As
 /// many sets are worked at at once, and nothing of an answer is kept but its rows, and those of one run, which are
 /// written and given up while the next run is worked on. If that fails, a first part of the table was written.
-pub fn write_table<R: Threads + Sync + AllocGlobal, W: Write, P: TableReports>(
+pub fn write_table<R: Threads + Sync + AllocGlobal, W: Watched, P: TableReports>(
     rt: &R,
     table: &TravelTable<'_>,
     workers: usize,
@@ -45,6 +49,7 @@ pub fn write_table<R: Threads + Sync + AllocGlobal, W: Write, P: TableReports>(
     ensures written { OnOk result ((text : List ℕ) × IsTable table.now text
         × Appends (W.contents out.old) (W.contents out.new) text) }
     ensures begun { OnErr result (IsTableBegun table.now (W.contents out.old) (W.contents out.new)) }
+    ensures failed { IfErr result (λ error. error_kind error ≢ OutOfMemory → HasFault (W.noted out.new)) }
 {
     let names = set_names(rt.alloc(), table.image, table.sources)?;
     let named = NamedTable {
@@ -55,7 +60,7 @@ pub fn write_table<R: Threads + Sync + AllocGlobal, W: Write, P: TableReports>(
 }
 
 // Writes the table. If that fails, a first part of it was written.
-fn write_named<R: Threads + Sync + AllocGlobal, W: Write, P: TableReports>(
+fn write_named<R: Threads + Sync + AllocGlobal, W: Watched, P: TableReports>(
     rt: &R,
     table: &NamedTable<'_>,
     workers: usize,
@@ -68,6 +73,7 @@ fn write_named<R: Threads + Sync + AllocGlobal, W: Write, P: TableReports>(
     ensures written { OnOk result ((text : List ℕ) × IsTable table.now.plain text
         × Appends (W.contents out.old) (W.contents out.new) text) }
     ensures begun { OnErr result (IsTableBegun table.now.plain (W.contents out.old) (W.contents out.new)) }
+    ensures failed { IfErr result (λ error. error_kind error ≢ OutOfMemory → HasFault (W.noted out.new)) }
 {
     let names = first_row(rt.alloc(), table.plain.each)?;
     write_bytes(out, &names)?;
@@ -80,7 +86,7 @@ fn write_named<R: Threads + Sync + AllocGlobal, W: Write, P: TableReports>(
         reports.note_targets(run.len());
     }
     write_run(rt.alloc(), table, run, &made, out)?;
-    out.flush()
+    out.finish()
 }
 
 // How many targets the threads have in a run together.
@@ -101,7 +107,7 @@ fn targets_at_once(sources: usize) -> usize
 
 // Writes the rows of a run, and gives them up, while those of the next are made. If it fails, nothing was written, or
 // the first of the rows.
-fn write_beside<R: Threads + Sync + AllocGlobal, W: Write>(
+fn write_beside<R: Threads + Sync + AllocGlobal, W: Watched>(
     rt: &R,
     table: &NamedTable<'_>,
     run: &[Vec<u32>],
@@ -117,6 +123,7 @@ fn write_beside<R: Threads + Sync + AllocGlobal, W: Write>(
     ensures written { OnOk result ((text : List ℕ) × AreRowsOf table.now.plain run.now text
         × Appends (W.contents out.old) (W.contents out.new) text) }
     ensures begun { IsRunBegun table.now.plain run.now (W.contents out.old) (W.contents out.new) }
+    ensures failed { IfErr result (λ error. error_kind error ≢ OutOfMemory → HasFault (W.noted out.new)) }
 {
     let alloc = rt.alloc();
     let mut make = || -> Result<Vec<Vec<TargetRows>>, AllocError>
@@ -131,6 +138,7 @@ fn write_beside<R: Threads + Sync + AllocGlobal, W: Write>(
             × Appends (W.contents out.entry.now) (W.contents out.exit.now) text) }
         ensures begun { IsRunBegun table.entry.now.plain run.entry.now (W.contents out.entry.now)
             (W.contents out.exit.now) }
+        ensures failed { IfErr result (λ error. error_kind error ≢ OutOfMemory → HasFault (W.noted out.exit.now)) }
     {
         let outcome = write_run(alloc, table, run, &made, out);
         made.clear();
@@ -142,7 +150,7 @@ fn write_beside<R: Threads + Sync + AllocGlobal, W: Write>(
 }
 
 // Writes the rows of a run's targets. If it fails, nothing was written, or the first of the rows.
-fn write_run<W: Write>(
+fn write_run<W: Watched>(
     alloc: Global,
     table: &NamedTable<'_>,
     run: &[Vec<u32>],
@@ -154,6 +162,7 @@ fn write_run<W: Write>(
     ensures written { OnOk result ((text : List ℕ) × AreRowsOf table.now.plain run.now text
         × Appends (W.contents out.old) (W.contents out.new) text) }
     ensures begun { IsRunBegun table.now.plain run.now (W.contents out.old) (W.contents out.new) }
+    ensures failed { IfErr result (λ error. error_kind error ≢ OutOfMemory → HasFault (W.noted out.new)) }
 {
     for index in 0..run.len() {
         write_target(alloc, table, &run[index], text_made(made, index), out)?;
@@ -163,7 +172,7 @@ fn write_run<W: Write>(
 
 // Writes the rows of a set of targets: these, or if there are none, those that are made now, which memory may allow
 // once no other thread needs any. If it fails, nothing was written, or a first part of the rows.
-fn write_target<W: Write>(
+fn write_target<W: Watched>(
     alloc: Global,
     table: &NamedTable<'_>,
     targets: &[u32],
@@ -176,6 +185,7 @@ fn write_target<W: Write>(
         × AreRowsBy table.now.plain.criterion table.now.plain targets.now text
         × Appends (W.contents out.old) (W.contents out.new) text) }
     ensures begun { OnErr result (IsTargetBegun table.now.plain targets.now (W.contents out.old) (W.contents out.new)) }
+    ensures failed { IfErr result (λ error. error_kind error ≢ OutOfMemory → HasFault (W.noted out.new)) }
 {
     match made {
         Some(rows) => write_bytes(out, rows),
@@ -184,7 +194,7 @@ fn write_target<W: Write>(
 }
 
 // Makes the rows of a set of targets, and writes them. If that fails, nothing was written, or a first part of the rows.
-fn write_anew<W: Write>(
+fn write_anew<W: Watched>(
     alloc: Global,
     table: &NamedTable<'_>,
     targets: &[u32],
@@ -195,32 +205,19 @@ fn write_anew<W: Write>(
         × AreRowsBy table.now.plain.criterion table.now.plain targets.now text
         × Appends (W.contents out.old) (W.contents out.new) text) }
     ensures begun { OnErr result (IsTargetBegun table.now.plain targets.now (W.contents out.old) (W.contents out.new)) }
+    ensures failed { IfErr result (λ error. error_kind error ≢ OutOfMemory → HasFault (W.noted out.new)) }
 {
     let rows = rows_to(alloc, table, targets)?;
     write_bytes(out, &rows)
 }
 
 // Writes the bytes. If it fails, a first part of them was written, possibly nothing or all of it.
-fn write_bytes<W: Write>(out: &mut W, bytes: &[u8]) -> io::Result<()>
+fn write_bytes<W: Watched>(out: &mut W, bytes: &[u8]) -> io::Result<()>
     ensures written { OnOk result (Appends (W.contents out.old) (W.contents out.new) bytes.now) }
     ensures begun { OnErr result (IsBegun (W.contents out.old) (W.contents out.new) bytes.now) }
+    ensures failed { OnErr result (HasFault (W.noted out.new)) }
 {
-    let mut done = 0;
-    for _ in 0..u64::MAX {
-        if done == bytes.len() {
-            return Ok(());
-        }
-        match out.write(&bytes[done..]) {
-            Ok(0) => return Err(io::Error::from(ErrorKind::WriteZero)),
-            Ok(written) => done += written,
-            Err(error) => {
-                if error.kind() != ErrorKind::Interrupted {
-                    return Err(error);
-                }
-            }
-        }
-    }
-    Err(io::Error::from(ErrorKind::TimedOut))
+    write_all(out, bytes)
 }
 
 fn first_row(alloc: Global, each: bool) -> Result<Vec<u8>, AllocError>

@@ -1,5 +1,5 @@
 use Rattle.std.proofs.Common.{ℕ, List, rules, subst}
-use Rattle.image_files.specs.Held.{HoldsOfBytes}
+use Rattle.image_files.specs.Held.{HoldsOfBytes, IsUnreadable}
 use Rattle.image_commands.specs.Commands.{PrintsAsked, path_of}
 use Rattle.command_endings.specs.Ending.{IsOutcome, PrintsRefusal}
 use Rattle.image_commands.specs.Opening.{IsRefusedImage, SpellsImage}
@@ -14,7 +14,7 @@ returns-in-Ok g c =
     let input = g.I.Read.remaining c.args.input.now in
     let image = c.in-Ok.image in
     let held : HoldsOfBytes may_hold (path_of asked) input (SpellsImage image) = search rules in
-    over_image may_hold (path_of asked) input (λ i. PrintsAsked may_hold disk i asked) _ _ image _ _ held c.in-Ok.ensures.silent c.answer.ensures
+    over_image may_hold (path_of asked) input (λ i. PrintsAsked may_hold disk i asked) _ _ _ _ _ image _ _ held c.in-Ok.ensures.silent c.answer.ensures
 
 pub returns-in-Err : goal.returns-in-Err
 returns-in-Err g c =
@@ -24,8 +24,13 @@ returns-in-Err g c =
     let input = g.I.Read.remaining c.args.input.now in
     let before = g.O.Write.contents c.args.output.now in
     let after = g.O.Write.contents c.open_image.new.output in
-    let ended : IsOutcome (PrintsRefusal (IsRefusedImage may_hold (path_of asked) input)) c.in-Err.status before after =
-    subst (λ (path : List ℕ). IsOutcome (PrintsRefusal (IsRefusedImage may_hold path input)) c.in-Err.status before after) c.path.ensures
+    let may_fail = g.H.ImageDisk.may_fail c.args.rt.now in
+    let input_failed = g.I.WatchedRead.has_failed c.open_image.new.input in
+    let fault = g.O.Watched.noted c.open_image.new.output in
+    let ended : IsOutcome (PrintsRefusal (IsRefusedImage may_hold (path_of asked) input)) (IsUnreadable may_fail (path_of asked) input_failed)
+    fault c.in-Err.status before after =
+    subst (λ (path : List ℕ). IsOutcome (PrintsRefusal (IsRefusedImage may_hold path input)) (IsUnreadable may_fail path input_failed)
+    fault c.in-Err.status before after) c.path.ensures
     c.in-Err.ensures.refused
     in
-    over_none may_hold (path_of asked) input (λ i. PrintsAsked may_hold disk i asked) _ _ _ ended
+    over_none may_hold (path_of asked) input (λ i. PrintsAsked may_hold disk i asked) _ _ _ _ _ _ ended

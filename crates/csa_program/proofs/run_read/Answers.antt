@@ -10,4 +10,4 @@ returns-in-Err-Help g c =
     let asks : c.args.asked ≡ Err (Help text) = search rules in
     let same : c.as_str.result.now ≡ string_bytes text = search rules in
     let wrote = c.write_text.ensures in
-    rw asks (text_told (string_bytes text) c.write_text.result c.as_str.result.now _ _ same wrote.status wrote.written wrote.begun)
+    rw asks (text_told (string_bytes text) _ c.write_text.result c.as_str.result.now _ _ same wrote.status wrote.written wrote.begun wrote.failed)

@@ -2,8 +2,8 @@
 
 use crate::tests::running::{Machine, Plain};
 use crate::tests::transcript::try_transcripts;
-use csa_program::{ShownWriter, WatchedWriter, explain_no_words, print_sources, run};
-use image_files::ImageDisk;
+use csa_program::{ShownWriter, explain_no_words, print_sources, run};
+use image_files::{ImageDisk, WatchedWriter};
 use image_layout::{Words, sample_words};
 use std::alloc::Global;
 use std::io;

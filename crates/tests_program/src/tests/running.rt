@@ -1,8 +1,8 @@
 //! One run of the program: words and input in, what it wrote and a status out.
 
 pub(crate) use csa_program::Machine;
-use csa_program::{WatchedWriter, run};
-use image_files::ImageDisk;
+use csa_program::run;
+use image_files::{ImageDisk, WatchedWriter};
 use std::io;
 use std::io::{IsTerminal, Write};
 use std::net::{Net, TcpListener, TcpStream};

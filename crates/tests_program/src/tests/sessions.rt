@@ -2,8 +2,8 @@
 
 use crate::tests::base_feed;
 use crate::tests::running::Machine;
-use csa_program::{WatchedWriter, run};
-use image_files::ImageDisk;
+use csa_program::run;
+use image_files::{ImageDisk, WatchedWriter};
 use image_layout::{Words, sample_words};
 use std::alloc::Global;
 use std::io::{IsTerminal, Read, Write};

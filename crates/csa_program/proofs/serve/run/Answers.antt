@@ -10,26 +10,27 @@ pub returns-in-Err-Refused : goal.returns-in-Err-Refused
 returns-in-Err-Refused g c =
     let may_hold = g.H.ImageDisk.may_hold c.args.rt.now in
     let figures = c.in-Err-Refused in
-    let judged = subst (λ (failure : PlanFailure). IsNoPlan may_hold c.args.request.plan failure) figures.field-0-is figures.ensures.refused in
+    let judged = subst (λ (failure : PlanFailure). IsNoPlan may_hold (g.H.ImageDisk.may_fail c.args.rt.now) c.args.request.plan failure)
+    figures.field-0-is figures.ensures.refused in
     let bad = subst (λ (fault : LoadFault). IsNoZoneOf may_hold c.args.request.plan fault) (sym figures.fault-is) judged in
     let done = c.refuse_feed.ensures in
-    zone_refused may_hold _ _ c.args.request _ _ _ _ bad done.status done.memory done.refused done.printed done.silent done.begun
+    zone_refused may_hold _ _ c.args.request _ _ _ _ _ bad done.status done.memory done.refused done.printed done.silent done.begun done.failed
 
 pub returns-in-Err-Unreadable : goal.returns-in-Err-Unreadable
 returns-in-Err-Unreadable g c =
-    unbegun (g.H.ImageDisk.may_hold c.args.rt.now) _ _ c.args.request _ _ _ (inl c.report_unread_zone.ensures) refl
+    unbegun (g.H.ImageDisk.may_hold c.args.rt.now) _ _ c.args.request _ _ _ _ (inl c.report_unread_zone.ensures) refl
 
 pub returns-in-Err : goal.returns-in-Err
 returns-in-Err g c =
-    image_refused (g.H.ImageDisk.may_hold c.args.rt.now) _ _ c.args.request _ _ _ _ (c.in-Ok.ensures.zone, (_, c.in-Ok.ensures.plan))
+    image_refused (g.H.ImageDisk.may_hold c.args.rt.now) _ _ c.args.request _ _ _ _ _ _ (c.in-Ok.ensures.zone, (_, c.in-Ok.ensures.plan))
     c.in-Err.ensures.refused
 
 pub returns-in-Err-bound_at : goal.returns-in-Err-bound_at
 returns-in-Err-bound_at g c =
-    unbegun (g.H.ImageDisk.may_hold c.args.rt.now) _ _ c.args.request _ _ _ c.none_received.ensures c.in-Ok-open_image.ensures.silent
+    unbegun (g.H.ImageDisk.may_hold c.args.rt.now) _ _ c.args.request _ _ _ _ c.none_received.ensures c.in-Ok-open_image.ensures.silent
 
 pub returns : goal.returns
 returns g c =
-    listened (g.H.ImageDisk.may_hold c.args.rt.now) _ _ c.args.request _ _ _ c.in-Ok-open_image.image _ c.in-Ok-bound_at.bound.port _
+    listened (g.H.ImageDisk.may_hold c.args.rt.now) _ _ c.args.request _ _ _ _ c.in-Ok-open_image.image _ c.in-Ok-bound_at.bound.port _
     (c.in-Ok.ensures.zone, (_, c.in-Ok.ensures.plan)) c.in-Ok-open_image.ensures.image c.in-Ok-bound_at.ensures.at
     c.in-Ok-bound_at.ensures.small c.in-Ok-open_image.ensures.silent c.serve_at.ensures

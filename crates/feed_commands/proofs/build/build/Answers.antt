@@ -1,7 +1,7 @@
 -- The image is that of the folder's files, and the fault is their first one.
-use Rattle.std.proofs.Common.{◌≡◌, [], None, rules}
-use Rattle.std.proofs.lemmas.Result.{IfOk-weaker}
-use Rattle.feed_commands.proofs.OfFolder.{build_refused, built_of}
+use Rattle.std.proofs.Common.{◌≡◌, [], None, inl, inr, rules}
+use Rattle.std.proofs.lemmas.Result.{IfErr-weaker, IfOk-weaker}
+use Rattle.feed_commands.proofs.OfFolder.{build_refused, built_of, unusable_weaker, zone_unreadable}
 use Rattle.feed_commands.proofs.build.build.Goals as goal
 
 pub returns-clause-built : goal.returns-clause-built
@@ -28,3 +28,8 @@ returns-clause-refused g c =
     asked.plan c.in-Ok.plan began.failed then.failed
     same unread whole c.in-Ok.ensures.plan then.given then.unread
     c.build_reported-built.ensures.refused
+
+pub returns-clause-unusable : goal.returns-clause-unusable
+returns-clause-unusable g c =
+    IfErr-weaker c.build_reported-built.result _ _ (λ failure is. unusable_weaker failure _ _ (λ unwritable. inr unwritable) is)
+    c.build_reported-built.ensures.unusable

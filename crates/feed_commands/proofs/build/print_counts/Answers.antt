@@ -8,4 +8,4 @@ returns-in-Ok g c =
     let report = c.args.report.now in
     let same : c.as_str.result.now ≡ report_asked c.args.json report = search rules in
     let wrote = c.write_text.ensures in
-    written (λ text. text ≡ report_asked c.args.json report) _ c.as_str.result.now _ _ same wrote.status wrote.written wrote.begun
+    written (λ text. text ≡ report_asked c.args.json report) _ _ c.as_str.result.now _ _ same wrote.status wrote.written wrote.begun wrote.failed

@@ -9,4 +9,4 @@ returns-in-Ok g c =
     let json = c.args.json in
     let days : IsDays json feed c.as_str.result.now = search rules in
     let wrote = c.write_text.ensures in
-    written (IsDays json feed) _ c.as_str.result.now _ _ days wrote.status wrote.written wrote.begun
+    written (IsDays json feed) _ _ c.as_str.result.now _ _ days wrote.status wrote.written wrote.begun wrote.failed

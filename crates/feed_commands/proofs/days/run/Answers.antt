@@ -12,8 +12,8 @@ returns-in-Ok g c =
     let folder = c.args.request.folder.now in
     let json = c.args.request.json in
     let feed = c.in-Ok.feed in
-    outcome_of (PrintsOnly (IsDays json feed)) (PrintsOfFeed (AreDaysOf gives folder json) (IsTablesRefusalOf gives folder)) _ _ _
-    (λ s text is. inl (is.0, (feed, c.in-Ok.ensures.feed, is.1))) c.print_days.ensures
+    outcome_of (PrintsOnly (IsDays json feed)) (PrintsOfFeed (AreDaysOf gives folder json) (IsTablesRefusalOf gives folder)) _ _ _ _ _ _
+    (λ s text is. inl (is.0, (feed, c.in-Ok.ensures.feed, is.1))) (λ none. absurd none) c.print_days.ensures
 
 pub returns-in-Err : goal.returns-in-Err
 returns-in-Err g c =
@@ -21,5 +21,5 @@ returns-in-Err g c =
     let folder = c.args.request.folder.now in
     let json = c.args.request.json in
     let done = c.refuse_feed.ensures in
-    feed_refused (AreDaysOf gives folder json) (IsTablesRefusalOf gives folder) c.in-Err.fault _ _ _ c.in-Err.ensures.refused
-    done.status done.memory done.refused done.printed done.silent done.begun
+    feed_refused (AreDaysOf gives folder json) (IsTablesRefusalOf gives folder) c.in-Err.fault _ _ _ _ c.in-Err.ensures.refused
+    done.status done.memory done.refused done.printed done.silent done.begun done.failed

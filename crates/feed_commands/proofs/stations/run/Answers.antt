@@ -14,9 +14,9 @@ returns-in-Ok g c =
     let same : c.as_str-in-Ok.result.now ≡ string_bytes c.in-Ok.text = search rules in
     let asked = subst (IsTextOf gives folder request) (sym same) c.in-Ok.ensures.text in
     let wrote = c.write_text.ensures in
-    outcome_of (PrintsOnly (IsTextOf gives folder request)) (PrintsOfFeed (IsTextOf gives folder request) (IsStopsRefusal gives folder)) _ _ _
-    (λ s text is. inl is)
-    (written (IsTextOf gives folder request) _ c.as_str-in-Ok.result.now _ _ asked wrote.status wrote.written wrote.begun)
+    outcome_of (PrintsOnly (IsTextOf gives folder request)) (PrintsOfFeed (IsTextOf gives folder request) (IsStopsRefusal gives folder)) _ _ _ _ _ _
+    (λ s text is. inl is) (λ none. none)
+    (written (IsTextOf gives folder request) _ _ c.as_str-in-Ok.result.now _ _ asked wrote.status wrote.written wrote.begun wrote.failed)
 
 pub returns-in-Err : goal.returns-in-Err
 returns-in-Err g c =
@@ -24,5 +24,5 @@ returns-in-Err g c =
     let request = c.args.request in
     let folder = request.folder.now in
     let done = c.refuse_feed.ensures in
-    feed_refused (IsTextOf gives folder request) (IsStopsRefusal gives folder) c.in-Err.fault _ _ _ c.in-Err.ensures.refused
-    done.status done.memory done.refused done.printed done.silent done.begun
+    feed_refused (IsTextOf gives folder request) (IsStopsRefusal gives folder) c.in-Err.fault _ _ _ _ c.in-Err.ensures.refused
+    done.status done.memory done.refused done.printed done.silent done.begun done.failed

@@ -7,4 +7,4 @@ pub returns-in-Ok : goal.returns-in-Ok
 returns-in-Ok g c =
     let same : c.as_str.result.now ≡ counts_asked c.args.json c.args.counts = search rules in
     let wrote = c.write_text.ensures in
-    written (λ text. text ≡ counts_asked c.args.json c.args.counts) _ c.as_str.result.now _ _ same wrote.status wrote.written wrote.begun
+    written (λ text. text ≡ counts_asked c.args.json c.args.counts) _ _ c.as_str.result.now _ _ same wrote.status wrote.written wrote.begun wrote.failed

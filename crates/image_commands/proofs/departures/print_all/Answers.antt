@@ -10,5 +10,5 @@ returns-in-Ok g c =
     let asked = question_to_any c.args.destinations.now in
     let shown : AreShownBy request.criterion request.form c.args.image.now asked c.args.wanted.now c.as_str.result.now = search rules in
     let wrote = c.write_text.ensures in
-    written (AreShownBy request.criterion request.form c.args.image.now asked c.args.wanted.now) _ c.as_str.result.now _ _ shown
-    wrote.status wrote.written wrote.begun
+    written (AreShownBy request.criterion request.form c.args.image.now asked c.args.wanted.now) _ _ c.as_str.result.now _ _ shown
+    wrote.status wrote.written wrote.begun wrote.failed

@@ -9,4 +9,4 @@ returns-in-Ok g c =
     let json = c.args.request.json in
     let info : IsInfo json image c.as_str.result.now = search rules in
     let wrote = c.write_text.ensures in
-    written (IsInfo json image) _ c.as_str.result.now _ _ info wrote.status wrote.written wrote.begun
+    written (IsInfo json image) _ _ c.as_str.result.now _ _ info wrote.status wrote.written wrote.begun wrote.failed

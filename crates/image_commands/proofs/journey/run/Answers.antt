@@ -14,8 +14,8 @@ returns-in-Ok-line_of g c =
     let text = c.args.request.text.now in
     let same : c.as_str.result.now ≡ times_line c.in-Ok.times = search rules in
     let wrote = c.write_text.ensures in
-    written_or (IsAccepted image question text) (IsFaulty image question text) _ c.as_str.result.now _ _ (c.in-Ok.times, c.in-Ok.ensures, same)
-    wrote.status wrote.written wrote.begun
+    written_or (IsAccepted image question text) (IsFaulty image question text) _ _ c.as_str.result.now _ _ (c.in-Ok.times, c.in-Ok.ensures, same)
+    wrote.status wrote.written wrote.begun wrote.failed
 
 pub returns-in-Err-BadQuery : goal.returns-in-Err-BadQuery
 returns-in-Err-BadQuery g c =
@@ -25,8 +25,8 @@ returns-in-Err-BadQuery g c =
     let fault = c.in-Err-BadQuery.fault in
     let verdict : IsVerdict image question text (Err (BadQuery fault)) = search rules in
     let done = c.refuse_question.ensures in
-    refused_or (IsAccepted image question text) (IsFaulty image question text) _ (refusal_line (OfQuery fault)) _ _
-    (BadQuery fault, OfQuery fault, verdict, refl, refl) done.status done.printed done.silent done.begun
+    refused_or (IsAccepted image question text) (IsFaulty image question text) _ _ (refusal_line (OfQuery fault)) _ _
+    (BadQuery fault, OfQuery fault, verdict, refl, refl) done.status done.printed done.silent done.begun done.failed
 
 pub returns-else-status-eq-REFUSED : goal.returns-else-status-eq-REFUSED
 returns-else-status-eq-REFUSED g c =
@@ -35,8 +35,8 @@ returns-else-status-eq-REFUSED g c =
     let text = c.args.request.text.now in
     let verdict : IsVerdict image question text (Err BadText) = search rules in
     let done = c.print_refusal-status.ensures in
-    refused_or (IsAccepted image question text) (IsFaulty image question text) _ (refusal_line OfText) _ _
-    (BadText, OfText, verdict, refl, refl) done.status done.printed done.silent done.begun
+    refused_or (IsAccepted image question text) (IsFaulty image question text) _ _ (refusal_line OfText) _ _
+    (BadText, OfText, verdict, refl, refl) done.status done.printed done.silent done.begun done.failed
 
 pub returns-else-status-eq-REFUSED-2 : goal.returns-else-status-eq-REFUSED-2
 returns-else-status-eq-REFUSED-2 g c =
@@ -46,5 +46,5 @@ returns-else-status-eq-REFUSED-2 g c =
     let fault = c.in-Err-Faulty.fault in
     let verdict : IsVerdict image question text (Err (Faulty fault)) = search rules in
     let done = c.print_refusal-status-in-Err-Faulty.ensures in
-    refused_or (IsAccepted image question text) (IsFaulty image question text) _ (refusal_line (OfJourney fault)) _ _
-    (Faulty fault, OfJourney fault, verdict, refl, refl) done.status done.printed done.silent done.begun
+    refused_or (IsAccepted image question text) (IsFaulty image question text) _ _ (refusal_line (OfJourney fault)) _ _
+    (Faulty fault, OfJourney fault, verdict, refl, refl) done.status done.printed done.silent done.begun done.failed

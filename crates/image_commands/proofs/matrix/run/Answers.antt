@@ -45,11 +45,12 @@ returns-in-Ok-clause-spent g c = λ is.
 
 pub returns-in-Err-clause-status : goal.returns-in-Err-clause-status
 returns-in-Err-clause-status g c =
-    (unasked_table (g.H.ImageDisk.may_hold c.args.rt.now) c.args.request c.args.image.now _ c.in-Err.ensures.status).0
+    (unasked_table (g.H.ImageDisk.may_hold c.args.rt.now) (g.H.ImageDisk.may_fail c.args.rt.now) c.args.request c.args.image.now _ c.in-Err.ensures.status).0
 
 pub returns-in-Err-clause-printed : goal.returns-in-Err-clause-printed
 returns-in-Err-clause-printed g c = λ is.
-    absurd ((unasked_table (g.H.ImageDisk.may_hold c.args.rt.now) c.args.request c.args.image.now _ c.in-Err.ensures.status).1 is)
+    absurd ((unasked_table (g.H.ImageDisk.may_hold c.args.rt.now) (g.H.ImageDisk.may_fail c.args.rt.now) c.args.request c.args.image.now _
+    c.in-Err.ensures.status).1 is)
 
 pub returns-in-Err-clause-refused : goal.returns-in-Err-clause-refused
 returns-in-Err-clause-refused g c = λ is. inr (c.in-Err.ensures.status.unknown is, refl)
@@ -58,7 +59,7 @@ pub returns-in-Err-clause-unlisted : goal.returns-in-Err-clause-unlisted
 returns-in-Err-clause-unlisted g c = λ is. (c.in-Err.ensures.status.bad is, refl)
 
 pub returns-in-Err-clause-cut : goal.returns-in-Err-clause-cut
-returns-in-Err-clause-cut g c = λ is. inl refl
+returns-in-Err-clause-cut g c = λ is. inl (c.in-Err.ensures.status.unread is, refl)
 
 pub returns-in-Err-clause-spent : goal.returns-in-Err-clause-spent
 returns-in-Err-clause-spent g c = λ is. inl refl

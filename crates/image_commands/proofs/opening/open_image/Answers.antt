@@ -29,7 +29,7 @@ returns-in-Err-clause-refused g c =
     let fault = c.in-Err.fault in
     let read = c.in-Ok.ensures.spelled in
     outcome_of (PrintsRefusal (λ line. (fault ≢ OutOfMemory) × (line ≡ refusal_line (Image fault))))
-    (PrintsRefusal (IsRefusedImage may_hold path input)) _ _ _
+    (PrintsRefusal (IsRefusedImage may_hold path input)) _ _ _ _ _ _
     (λ s line is.
     let first = is_first words fault c.in-Err.ensures.fault is.1.0 in
     let none : HoldsOfBytes may_hold path input (IsNoImage (Image fault)) = record {
@@ -39,4 +39,4 @@ returns-in-Err-clause-refused g c =
       holds = some_weaker read.held (λ bytes. bytes_of words ≡ bytes) (IsNoImage (Image fault)) (λ bytes same. (words, same, first)) read.holds;
     } in
     (is.0, (Image fault, is.1.0, none, is.1.1)))
-    c.refuse_words.ensures
+    (λ none. absurd none) c.refuse_words.ensures

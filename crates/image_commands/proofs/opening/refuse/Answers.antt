@@ -7,4 +7,4 @@ pub returns : goal.returns
 returns g c =
     let refusal = c.args.refusal in
     let done = c.print_refusal-status.ensures in
-    refused (λ line. line ≡ refusal_line refusal) _ (refusal_line refusal) _ _ refl done.status done.printed done.silent done.begun
+    refused (λ line. line ≡ refusal_line refusal) _ _ (refusal_line refusal) _ _ refl done.status done.printed done.silent done.begun done.failed

@@ -11,5 +11,5 @@ returns g c =
     let fault = c.args.fault in
     let other : fault ≢ OutOfMemory = search rules in
     outcome_of (PrintsRefusal (λ line. line ≡ refusal_line (Image fault)))
-    (PrintsRefusal (λ line. (fault ≢ OutOfMemory) × (line ≡ refusal_line (Image fault)))) _ _ _
-    (λ s line is. (is.0, (other, is.1))) c.refuse.ensures
+    (PrintsRefusal (λ line. (fault ≢ OutOfMemory) × (line ≡ refusal_line (Image fault)))) _ _ _ _ _ _
+    (λ s line is. (is.0, (other, is.1))) (λ none. none) c.refuse.ensures

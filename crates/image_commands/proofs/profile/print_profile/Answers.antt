@@ -1,7 +1,7 @@
 -- The picture is in its file before the text is printed.
 use Rattle.std.proofs.Common.{◌≡◌, List, ℕ, rules, string_bytes}
 use Rattle.image_commands.specs.Answering.{IsPicturePut}
-use Rattle.command_endings.proofs.Outcomes.{written}
+use Rattle.command_endings.proofs.Outcomes.{outcome_of, unusable, written}
 use Rattle.image_commands.proofs.profile.print_profile.Goals as goal
 
 pub returns-in-Ok : goal.returns-in-Ok
@@ -11,4 +11,10 @@ returns-in-Ok g c =
     let IsText : List ℕ → Type 0 = λ text. IsPicturePut disk c.args.request.now.picture profile.picture × (text ≡ string_bytes profile.text) in
     let is : IsText c.as_str.result.now = search rules in
     let wrote = c.write_text.ensures in
-    written IsText _ c.as_str.result.now _ _ is wrote.status wrote.written wrote.begun
+    outcome_of _ _ _ _ _ _ _ _ (λ s text is. is) (λ none. absurd none)
+    (written IsText _ _ c.as_str.result.now _ _ is wrote.status wrote.written wrote.begun wrote.failed)
+
+pub returns-in-Err : goal.returns-in-Err
+returns-in-Err g c =
+    let done = c.report_unwritten.ensures in
+    unusable _ _ _ _ c.report_unwritten.result _ done.memory done.either (λ other. c.in-Err.ensures.failed)

@@ -14,8 +14,8 @@ returns-in-Ok g c =
     let request = c.args.request.now in
     let profile = c.in-Ok.profile in
     outcome_of (PrintsOnly (λ text. IsPicturePut disk request.picture profile.picture × (text ≡ string_bytes profile.text)))
-    (PrintsProfile disk image request) _ _ _
-    (λ s text is. inl (is.0, (profile, c.in-Ok.ensures, is.1.0, is.1.1))) c.print_profile.ensures
+    (PrintsProfile disk image request) _ _ _ _ _ _
+    (λ s text is. inl (is.0, (profile, c.in-Ok.ensures, is.1.0, is.1.1))) (λ can. can) c.print_profile.ensures
 
 pub returns-in-Err-Bad : goal.returns-in-Err-Bad
 returns-in-Err-Bad g c =
@@ -24,5 +24,6 @@ returns-in-Err-Bad g c =
     let fault = c.in-Err-Bad.fault in
     let bad : HasFault image request fault = search rules in
     let done = c.refuse.ensures in
-    refused_or (IsAnswered (g.H.OutDisk.files c.args.rt.now) image request) (IsNoRequest image request) _ (refusal_line (Query fault)) _ _
-    (fault, bad, refl) done.status done.printed done.silent done.begun
+    outcome_of _ _ _ _ _ _ _ _ (λ s text is. is) (λ none. absurd none)
+    (refused_or (IsAnswered (g.H.OutDisk.files c.args.rt.now) image request) (IsNoRequest image request) _ _ (refusal_line (Query fault)) _ _
+    (fault, bad, refl) done.status done.printed done.silent done.begun done.failed)

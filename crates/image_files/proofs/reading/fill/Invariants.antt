@@ -1,4 +1,4 @@
-use Rattle.std.proofs.Common.{◌≡◌, ◌≤◌, length, take}
+use Rattle.std.proofs.Common.{◌≡◌, ◌≤◌, ◌-◌, length, take}
 use Rattle.std.specs.Io.KnownBytes.{Consumes}
 use Rattle.image_files.proofs.reading.fill.Given as goal
 
@@ -8,3 +8,6 @@ invariant-pieces g l = record {
   within : l.at ≤ length l.piece;
   filled : Consumes (g.R.Read.remaining l.initial.reader) (g.R.Read.remaining l.reader) (take l.at l.piece);
 }
+
+abbrev pub decreases-pieces : goal.decreases-pieces
+decreases-pieces g l = length l.piece - l.at

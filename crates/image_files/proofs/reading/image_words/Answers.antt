@@ -22,4 +22,4 @@ returns-clause-spelled g c =
     let other : c.args.path.now ≢ codes "-" = search rules in
     let held = g.H.Image.Read.remaining c.in_ok-file.file in
     IfOk-weaker c.words_of-2.result _ _ (λ words is.
-    of_file (g.H.ImageDisk.may_hold c.args.rt.now) _ _ held _ other c.in_ok-file.ensures is) c.words_of-2.ensures.spelled
+    of_file (g.H.ImageDisk.may_hold c.args.rt.now) _ _ held _ other c.in_ok-file.ensures.bytes is) c.words_of-2.ensures.spelled

@@ -1,7 +1,13 @@
-use Rattle.std.proofs.Common.{[]}
-use Rattle.std.specs.Io.KnownBytes.{Consumes}
+use Rattle.std.proofs.Common.{◌≡◌, IfErr, length}
+use Rattle.std.specs.Io.{ReadsAtMost}
+use Rattle.std.specs.Io.KnownBytes.{ReadConsumes}
 use Rattle.image_files.proofs.reading.read_some.Given as goal
 
--- an interrupted read takes nothing
+-- what the last read gave; an interrupted one takes nothing
 abbrev pub invariant-loop : goal.invariant-loop
-invariant-loop g l = Consumes (g.R.Read.remaining l.initial.reader) (g.R.Read.remaining l.reader) []
+invariant-loop g l = record {
+  same : length l.piece ≡ length l.initial.piece;
+  bound : ReadsAtMost l.result l.piece;
+  bytes : ReadConsumes (g.R.Read.remaining l.fn.reader) (g.R.Read.remaining l.reader) l.result l.piece;
+  failed : IfErr l.result (λ _. g.R.WatchedRead.has_failed l.reader);
+}

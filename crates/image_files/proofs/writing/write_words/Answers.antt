@@ -22,7 +22,7 @@ loop-piece-preserved g c =
     let done = written.0 in
     let piece = c.in-Some.piece.now in
     let is : c.deref.result.now ≡ bytes_of piece = c.deref.ensures.value ∙ c.in_ok-bytes.ensures in
-    let step = subst (Appends _ _) is c.in_ok-write_all.ensures.bytes in (
+    let step = subst (Appends _ _) is c.in_ok-write_all.ensures.written in (
       search rules,
       tt,
       (
@@ -32,11 +32,11 @@ loop-piece-preserved g c =
       ),
     )
 
-pub returns : goal.returns
-returns g c =
+pub returns-clause-bytes : goal.returns-clause-bytes
+returns-clause-bytes g c =
     let written = c.loop-piece.invariant.2 in
     let done = written.0 in
     let none = nil_from_length (chunks_rest c.loop-piece.piece-iterator) c.in-None.ensures.steps.1.0 in
     let all : done ≡ c.args.words.now = sym (append-nil done) ∙ ap (λ (t : List ℕ). done ++ t) (sym none) ∙ written.2 in
-    let appends : List ℕ → Type 0 = λ ws. Appends (g.W.Write.contents c.args.file.now) (g.W.Write.contents c.flush.new.self) (bytes_of ws) in
-    at_value c.flush.result (subst appends all (appended_and_kept _ _ _ (bytes_of done) written.1 c.flush.ensures.bytes))
+    let appends : List ℕ → Type 0 = λ ws. Appends (g.W.Write.contents c.args.file.now) (g.W.Write.contents c.finish.new.self) (bytes_of ws) in
+    at_value c.finish.result (subst appends all (appended_and_kept _ _ _ (bytes_of done) written.1 c.finish.ensures.bytes))

@@ -7,6 +7,7 @@ use Rattle.std.specs.Slice.Iter.{chunks_rest}
 use Rattle.csv.specs.Writing.{default_writer, row_text}
 use Rattle.matrix_rows.specs.Tables.{AreRowsOf, IsBegun, IsTableBegun, names_of}
 use Rattle.image_files.proofs.Appended.{appended_and_kept, appended_in_turns}
+use Rattle.image_files.proofs.Faults.{flush_failed, if_failed}
 use Rattle.matrix_rows.proofs.Joins.{at_error, at_value, begun_by_all, begun_by_nothing, in_middle, run_begun}
 use Rattle.matrix_rows.proofs.Targets.{no_targets, targets_joined}
 use Rattle.matrix_rows.proofs.whole.write_named.Goals as goal
@@ -68,7 +69,7 @@ returns-clause-written g c =
     let none = nil_from_length (chunks_rest c.loop-next.next-iterator) c.in-None.ensures.steps.1.0 in
     let all : done ++ run ≡ c.args.table.now.plain.targets.now =
     ap (λ (t : List (Vec ℕ)). done ++ t) (sym (append-nil run) ∙ ap (λ (t : List (Vec ℕ)). run ++ t) (sym none)) ∙ written.4 in
-    at_value c.flush.result (
+    at_value c.finish.result (
       names ++ (written.1 ++ more.0),
       record {
         rows = written.1 ++ more.0;
@@ -78,7 +79,7 @@ returns-clause-written g c =
       },
       appended_and_kept _ _ _ (names ++ (written.1 ++ more.0))
           (subst (Appends _ _) (append_assoc names written.1 more.0) (appended_in_turns _ _ _ (names ++ written.1) more.0 written.3 more.2))
-          c.flush.ensures.bytes,
+          c.finish.ensures.bytes,
     )
 
 pub returns-clause-begun : goal.returns-clause-begun
@@ -88,7 +89,7 @@ returns-clause-begun g c =
     let run = c.loop-next.run.now in
     let more = c.in_ok-write_run.ensures.written in
     let names = row_text default_writer (names_of c.args.table.now.plain.each) in
-    at_error c.flush.result (record {
+    at_error c.finish.result (record {
       first = done ++ run;
       others = chunks_rest c.loop-next.next-iterator;
       rows = written.1 ++ more.0;
@@ -97,7 +98,7 @@ returns-clause-begun g c =
       begun = begun_by_all _ _ _
           (appended_and_kept _ _ _ (names ++ (written.1 ++ more.0))
           (subst (Appends _ _) (append_assoc names written.1 more.0) (appended_in_turns _ _ _ (names ++ written.1) more.0 written.3 more.2))
-          c.flush.ensures.bytes);
+          c.finish.ensures.bytes);
     })
 
 pub returns-in_err-names-clause-begun : goal.returns-in_err-names-clause-begun
@@ -137,3 +138,6 @@ returns-in_err-write_run-clause-begun g c =
     let written = c.loop-next.invariant.3 in
     at_error _ (run_begun c.args.table.now.plain written.0 c.loop-next.run.now _ written.1 _ _ _ written.4 written.2 written.3
     c.in_err-write_run.ensures.begun)
+
+pub returns-clause-failed : goal.returns-clause-failed
+returns-clause-failed g c = if_failed _ _ c.finish.result (flush_failed _ _ c.finish.result c.finish.ensures.fault)
