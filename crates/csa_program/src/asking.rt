@@ -25,7 +25,7 @@ pub trait Asks {
 }
 
 impl<H: AllocGlobal> Asks for H {
-    // A request is the one that the words name, and words that name one get it, unless memory runs out.
+    // A request is the one that the words name, and words that name one get it.
     ghost may_ask = { λ _ words asked. IsRead words asked };
 
     fn asked<'a, S: AsStr>(

@@ -20,7 +20,6 @@ mod draining;
 mod explaining;
 mod folders;
 mod line_queue;
-mod listening;
 mod logging;
 mod machine;
 mod requests;
@@ -30,9 +29,7 @@ mod sockets;
 
 pub use crate::asking::Asks;
 pub use crate::explaining::Explains;
-pub use crate::listening::{BoundListener, Listens};
 pub use crate::machine::Machine;
-pub use crate::serve::{Hosts, Setup};
 pub use crate::showing::ShownWriter;
 use command_endings::status;
 use command_line::{NoCommand, wants_warnings};
@@ -45,6 +42,7 @@ use image_commands::{ImageRequest, answer, matrix, open_image};
 use image_files::{ImageDisk, OutDisk, Watched, WatchedRead};
 use std::convert::AsStr;
 use std::io::{ErrorKind, IsTerminal, Write};
+use std::net::{Net, TcpListener, TcpStream};
 use std::thread::Threads;
 use std::time::Clock;
 
@@ -57,7 +55,7 @@ use std::time::Clock;
 /// asks for nothing. `errors` also says that memory ran out, or why `output` can't be written, unless
 /// it is a pipe that nobody reads any more. Where `errors` is a terminal, progress is shown there.
 pub fn run<
-    H: Machine + ImageDisk<Image = H::File>,
+    H: Machine + ImageDisk<Image = H::File> + Net<Listener = TcpListener, Stream = TcpStream>,
     S: AsStr,
     I: WatchedRead,
     O: Watched,
@@ -66,9 +64,8 @@ pub fn run<
     ensures { (asked : Result CommandRequest NoCommand)
         × H.Asks.may_ask rt.now (map S.text words.now) asked
         × IsEndOf (H.ImageDisk.may_hold rt.now) (H.ImageDisk.may_fail rt.now) H.Disk.gives (H.OutDisk.files rt.now)
-        (H.WallClock.may_show rt.now) (H.Listens.may_refuse rt.now) (H.Hosts.may_host rt.now)
-        (I.Read.remaining input.old) (I.has_failed input.new) (O.noted output.new) asked result
-        (O.Write.contents output.old) (O.Write.contents output.new) }
+        (H.WallClock.may_show rt.now) (I.Read.remaining input.old) (I.has_failed input.new) (O.noted output.new)
+        asked result (O.Write.contents output.old) (O.Write.contents output.new) }
 {
     let notes = TableNotes {
         is_terminal: errors.is_terminal(),
@@ -136,7 +133,7 @@ fn explain_unwritten<E: Write>(errors: &mut E, fault: Option<ErrorKind>) {
 
 // Runs the request that was read, or says why there is none. The status says where memory ran out.
 fn run_read<
-    H: Machine + ImageDisk<Image = H::File>,
+    H: Machine + ImageDisk<Image = H::File> + Net<Listener = TcpListener, Stream = TcpStream>,
     S: AsStr,
     I: WatchedRead,
     O: Watched,
@@ -151,9 +148,8 @@ fn run_read<
     notes: TableNotes,
 ) -> u8
     ensures { IsEndOf (H.ImageDisk.may_hold rt.now) (H.ImageDisk.may_fail rt.now) H.Disk.gives (H.OutDisk.files rt.now)
-        (H.WallClock.may_show rt.now) (H.Listens.may_refuse rt.now) (H.Hosts.may_host rt.now)
-        (I.remaining input.old) (I.has_failed input.new) (O.noted output.new) asked.entry result
-        (O.contents output.old) (O.contents output.new) }
+        (H.WallClock.may_show rt.now) (I.remaining input.old) (I.has_failed input.new) (O.noted output.new)
+        asked.entry result (O.contents output.old) (O.contents output.new) }
 {
     match asked {
         Ok(request) => run_request(rt, request, input, output, errors, notes),
@@ -169,7 +165,7 @@ fn run_read<
 
 // Runs a request.
 fn run_request<
-    H: Machine + ImageDisk<Image = H::File>,
+    H: Machine + ImageDisk<Image = H::File> + Net<Listener = TcpListener, Stream = TcpStream>,
     I: WatchedRead,
     O: Watched,
     E: Write + Send,
@@ -182,9 +178,8 @@ fn run_request<
     notes: TableNotes,
 ) -> u8
     ensures { IsEnd (H.ImageDisk.may_hold rt.now) (H.ImageDisk.may_fail rt.now) H.Disk.gives (H.OutDisk.files rt.now)
-        (H.WallClock.may_show rt.now) (H.Listens.may_refuse rt.now) (H.Hosts.may_host rt.now)
-        (I.remaining input.old) (I.has_failed input.new) (O.noted output.new) request.entry result
-        (O.contents output.old) (O.contents output.new) }
+        (H.WallClock.may_show rt.now) (I.remaining input.old) (I.has_failed input.new) (O.noted output.new)
+        request.entry result (O.contents output.old) (O.contents output.new) }
 {
     let warnings = notes.warnings;
     match request {

@@ -25,7 +25,6 @@ use crate::client_sessions::{ClientSession, SessionRules};
 use crate::explaining::{Explains, warn_of_idle_feed};
 use crate::folders::warn_of_folders;
 use crate::line_queue::{LineQueue, LineWriter};
-use crate::listening::{BoundListener, Listens};
 use crate::logging::{Host, LoaderErrors, SharedErrors, log_load};
 use crate::machine::Machine;
 use crate::requests::Requests;
@@ -46,7 +45,7 @@ use orders::OpenGate;
 use std::alloc::{AllocError, Global};
 use std::io::{ErrorKind, Write};
 use std::marker::Brand;
-use std::net::TcpStream;
+use std::net::{Ipv4Addr, Net, TcpListener, TcpStream};
 use std::rt::Files;
 use std::sync::{Arc, Wait};
 use std::thread::Threads;
@@ -60,7 +59,7 @@ use workers::{
 
 /// What a server that is asked for is begun with, beside its image.
 #[derive(Drop)]
-pub struct Setup<'a> {
+struct Setup<'a> {
     alloc: Global,
     request: &'a ServeRequest<'a>,
     names: Vec<String>,
@@ -165,24 +164,10 @@ impl<'a, H: Disk + Explains + Clock + WallClock + Sync> Feeds for Folders<'a, H>
     }
 }
 
-/// A machine that servers run on.
-pub trait Hosts: WallClock + Threads + Wait + Sync {
+// A machine that servers run on.
+trait Hosts {
     // Whether a server that was asked for may have had sessions that ended so.
     ghost may_host: { Self → MayHost };
-
-    /// Serves whoever comes to the port, and then closes the queue into which the server's threads report. Returns how
-    /// many sessions ended in each way, and whether accepting failed; `None` if memory ran out.
-    fn host_until_closed(
-        &self,
-        bound: &BoundListener,
-        image: Verified,
-        setup: &Setup<'_>,
-        queue: &LineQueue,
-    ) -> Option<(SessionCounts, bool)>
-        requires { IsPlanBy (Self.may_show self.now) setup.now.request.now.plan setup.now.zone_bytes.items
-            setup.now.first }
-        ensures { IfSome result (λ end. may_host self.now setup.now.request.now image setup.now.zone_bytes.items
-            end.0 end.1) };
 }
 
 impl<'a, H: Disk + Explains + Clock + WallClock + Threads + Wait + Sync + 'a> Hosts for H {
@@ -198,33 +183,18 @@ impl<'a, H: Disk + Explains + Clock + WallClock + Threads + Wait + Sync + 'a> Ho
         (λ acceptor. acceptor.failed)
         (λ request zone_bytes folders. (folders.disk.now ≡ machine) × (folders.setup.now.request.now ≡ request)
         × (folders.setup.now.zone_bytes.items ≡ zone_bytes)) };
-
-    fn host_until_closed(
-        &self,
-        bound: &BoundListener,
-        image: Verified,
-        setup: &Setup<'_>,
-        queue: &LineQueue,
-    ) -> Option<(SessionCounts, bool)> {
-        let folders = Folders { disk: self, setup };
-        let shared = SharedErrors::of(self, setup.alloc, queue);
-        let end = host(bound, image, &folders, &shared);
-        queue.close(self);
-        end
-    }
 }
 
 /// Serves sessions until as many were served as are asked for, or prints the first thing that is wrong.
-pub fn run<H: Machine + ImageDisk<Image = H::File>, I: WatchedRead, O: Watched, E: Write + Send>(
-    rt: &H,
-    request: ServeRequest<'_>,
-    input: &mut I,
-    output: &mut O,
-    errors: &mut E,
-) -> u8
-    ensures { IsServeEnd (H.ImageDisk.may_hold rt.now) (H.ImageDisk.may_fail rt.now) (H.WallClock.may_show rt.now)
-        (H.Listens.may_refuse rt.now) (H.Hosts.may_host rt.now) (I.remaining input.old) (I.has_failed input.new)
-        request.entry (O.noted output.new) result (O.contents output.old) (O.contents output.new) }
+pub fn run<
+    H: Machine + ImageDisk<Image = H::File> + Net<Listener = TcpListener, Stream = TcpStream>,
+    I: WatchedRead,
+    O: Watched,
+    E: Write + Send,
+>(rt: &H, request: ServeRequest<'_>, input: &mut I, output: &mut O, errors: &mut E) -> u8
+    ensures { IsServeEnd (H.ImageDisk.may_hold rt.now) (H.WallClock.may_show rt.now)
+        (I.remaining input.old) request.entry (O.noted output.new) result
+        (O.contents output.old) (O.contents output.new) }
 {
     let alloc = rt.alloc();
     let (zone_bytes, first) = match zone_and_plan(rt, &request.plan) {
@@ -254,7 +224,7 @@ pub fn run<H: Machine + ImageDisk<Image = H::File>, I: WatchedRead, O: Watched, 
         warn_of_bases(alloc, &image, &setup.first, errors);
     }
     warn_of_folders(rt, &request.feeds, errors);
-    let bound = match rt.bound_at(request.port) {
+    let bound = match bound_at(rt, request.port) {
         Ok(bound) => bound,
         Err(error) => return none_received(alloc, errors, request.port, error.kind()),
     };
@@ -272,7 +242,11 @@ fn keep_freed_memory(alloc: Global) {
 }
 
 // Prints the port, serves whoever comes to it, and prints how many sessions there were.
-fn serve_at<H: Hosts, O: Watched, E: Write + Send>(
+fn serve_at<
+    H: Disk + Explains + Clock + WallClock + Threads + Wait + Sync,
+    O: Watched,
+    E: Write + Send,
+>(
     rt: &H,
     bound: &BoundListener,
     image: Verified,
@@ -282,8 +256,7 @@ fn serve_at<H: Hosts, O: Watched, E: Write + Send>(
 ) -> u8
     requires { IsPlanBy (H.WallClock.may_show rt.now) setup.now.request.now.plan setup.now.zone_bytes.items
         setup.now.first }
-    ensures { IsEndAt (H.Hosts.may_host rt.now setup.now.request.now image setup.now.zone_bytes.items)
-        bound.now.port (O.noted output.new) (O.contents output.old) (O.contents output.new) result }
+    ensures { IsEndAt bound.now.port (O.contents output.old) (O.contents output.new) result }
 {
     let alloc = setup.alloc;
     keep_freed_memory(alloc);
@@ -302,7 +275,7 @@ fn serve_at<H: Hosts, O: Watched, E: Write + Send>(
 
 // Serves whoever comes to the port, while a thread of its own writes what the server's threads report. Returns how many
 // sessions ended in each way, and whether accepting failed; `None` if memory ran out.
-fn host_reported<H: Hosts, E: Write + Send>(
+fn host_reported<H: Disk + Explains + Clock + WallClock + Threads + Wait + Sync, E: Write + Send>(
     rt: &H,
     bound: &BoundListener,
     image: Verified,
@@ -313,8 +286,6 @@ fn host_reported<H: Hosts, E: Write + Send>(
 ) -> Option<(SessionCounts, bool)>
     requires { IsPlanBy (H.WallClock.may_show rt.now) setup.now.request.now.plan setup.now.zone_bytes.items
         setup.now.first }
-    ensures { IfSome result (λ end. H.Hosts.may_host rt.now setup.now.request.now image setup.now.zone_bytes.items
-        end.0 end.1) }
 {
     let queue = &queue;
     let ((), end) = thread::join(
@@ -324,10 +295,28 @@ fn host_reported<H: Hosts, E: Write + Send>(
             requires shared { IsSync H.row }
             requires planned { IsPlanBy (H.WallClock.may_show rt.now) setup.now.request.now.plan
                 setup.now.zone_bytes.items setup.now.first }
-            ensures { IfSome result (λ end. H.Hosts.may_host rt.entry.now setup.entry.now.request.now image.entry
-                setup.entry.now.zone_bytes.items end.0 end.1) }
-        { rt.host_until_closed(bound, image, setup, queue) },
+        { host_until_closed(rt, bound, image, setup, queue) },
     );
+    end
+}
+
+// Serves whoever comes to the port, and then closes the queue into which the server's threads report.
+fn host_until_closed<H: Disk + Explains + Clock + WallClock + Threads + Wait + Sync>(
+    rt: &H,
+    bound: &BoundListener,
+    image: Verified,
+    setup: &Setup<'_>,
+    queue: &LineQueue,
+) -> Option<(SessionCounts, bool)>
+    requires { IsPlanBy (H.WallClock.may_show rt.now) setup.now.request.now.plan setup.now.zone_bytes.items
+        setup.now.first }
+    ensures { IfSome result (λ end. ⟦<H as Hosts>⟧.may_host rt.now setup.now.request.now image
+        setup.now.zone_bytes.items end.0 end.1) }
+{
+    let folders = Folders { disk: rt, setup };
+    let shared = SharedErrors::of(rt, setup.alloc, queue);
+    let end = host(bound, image, &folders, &shared);
+    queue.close(rt);
     end
 }
 
@@ -465,6 +454,30 @@ fn serve_all<
     )
 }
 
+/// What listens, and at which port.
+#[derive(Drop)]
+struct BoundListener {
+    listener: TcpListener,
+    port: u16,
+}
+
+// What listens at the port, if it is free; at any free one if the port is 0.
+fn bound_at<H: Net<Listener = TcpListener, Stream = TcpStream>>(
+    rt: &H,
+    port: u16,
+) -> io::Result<BoundListener>
+    ensures at { port ≢ 0 → IfOk result (λ bound. bound.port ≡ port) }
+    ensures small { IfOk result (λ bound. bound.port < 65_536) }
+{
+    let listener = TcpListener::bind(rt, (Ipv4Addr::LOCALHOST, port))?;
+    let port = if port == 0 {
+        listener.local_addr()?.port()
+    } else {
+        port
+    };
+    Ok(BoundListener { listener, port })
+}
+
 // In which form profiles are replied, for which windows, and whether between several stops.
 fn form_of(request: &ServeRequest<'_>) -> ReplyForm
     ensures { result ≡ form_asked request.now }
@@ -534,7 +547,7 @@ fn none_received<E: Write>(alloc: Global, errors: &mut E, port: u16, kind: Error
 // Prints at which port the server listens.
 fn tell_port<O: Watched>(alloc: Global, port: u16, output: &mut O) -> u8
     ensures { ((result ≡ ACCEPTED) × Appends (O.contents output.old) (O.contents output.new) (port_text port))
-        ⊎ IsNoServerEnd port (O.noted output.new) (O.contents output.old) (O.contents output.new) result }
+        ⊎ IsNoServerEnd port (O.contents output.old) (O.contents output.new) result }
 {
     match port_line(alloc, port) {
         Ok(line) => status::write_text(output, line.as_str(), status::ACCEPTED),
@@ -555,7 +568,7 @@ fn port_line(alloc: Global, port: u16) -> Result<String, AllocError>
 // line can't be printed.
 fn tell_served<O: Watched>(alloc: Global, ends: SessionCounts, is_deaf: bool, output: &mut O) -> u8
     ensures { (port : ℕ) (before : Option (List ℕ)) → Appends before (O.contents output.old) (port_text port)
-        → IsServerEnd port (O.noted output.new) before (O.contents output.new) ends is_deaf result }
+        → IsServerEnd port before (O.contents output.new) ends is_deaf result }
 {
     let status = ends.status(is_deaf);
     match served_line(alloc, ends) {

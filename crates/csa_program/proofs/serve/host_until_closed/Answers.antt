@@ -1,4 +1,4 @@
-use Rattle.csa_program.proofs.serve.AnyHosts.host_until_closed.Goals as goal
+use Rattle.csa_program.proofs.serve.host_until_closed.Goals as goal
 
 -- closing the queue changes nothing of it
 pub returns : goal.returns
