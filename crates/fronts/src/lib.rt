@@ -4,7 +4,6 @@
 //! ends each list.
 #![tactic(auto)]
 
-mod copying;
 mod entry;
 mod front_lists;
 mod insertion;
@@ -15,9 +14,10 @@ mod run_labels;
 mod search;
 mod slot_labels;
 mod valued;
+mod vectors;
 
-pub use copying::copies;
 pub use entry::{Boarding, FrontEntry, Item, RiddenLabel, Step};
 pub use front_lists::FrontLists;
 pub use labels::{Label, Labels, label_count, labels_of, no_labels, offer_label};
 pub use valued::{HasValue, some_no_worse};
+pub use vectors::{append, copies};

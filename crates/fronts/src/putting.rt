@@ -9,6 +9,7 @@ ghost use Rattle.fronts.specs.Putting.{Follows, left_by, outdoes_alone, MayPut, 
 
 use crate::entry::{FrontEntry, Item};
 use crate::valued::some_no_worse;
+use crate::vectors::append;
 use criteria::Criterion;
 use std::alloc::AllocError;
 
@@ -129,7 +130,7 @@ pub fn put<C: Criterion>(
         tag: first.tag,
         value: first.value,
     };
-    entries.push(entry)?;
+    append(entries, entry)?;
     Ok(new)
 }
 
@@ -161,6 +162,6 @@ pub fn put_alone<C: Criterion>(
         tag: point.tag,
         value: point.value,
     };
-    entries.push(entry)?;
+    append(entries, entry)?;
     Ok(new)
 }

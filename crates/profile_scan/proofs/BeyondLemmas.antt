@@ -30,7 +30,7 @@ use Rattle.profile_scan.specs.declared.by_trips.ByTrips.{ByTrips}
 use Rattle.profile_scan.specs.declared.hop.Hop.{Hop}
 use Rattle.profile_scan.specs.declared.in_lanes.InLanes.{InLanes}
 use Rattle.profile_scan.specs.declared.in_lanes.LaneExit.{LaneExit}
-use Rattle.profile_scan.specs.declared.in_lanes.LaneExit.TheVariants.{Goes as GoesBy}
+use Rattle.profile_scan.specs.declared.in_lanes.LaneExit.TheVariants.{ChangesToStep as ToStep}
 use Rattle.profile_scan.specs.declared.scan_records.Exit.TheVariants.{Changes}
 use Rattle.profile_scan.proofs.LaneExits.{exits_more}
 use Rattle.profile_scan.proofs.LanesLeft.{lane_spelled, still_are}
@@ -118,7 +118,7 @@ filled_before stops trips beyond are some = elim are [
 ]
 
 -- if there are no labels, there are no points
-pub no_points : (stops trips : ℕ) (beyond : Beyond) → 0 < trips → AreBeyond stops trips beyond → beyond.labels.items ≡ [] → (k : ℕ)
+no_points : (stops trips : ℕ) (beyond : Beyond) → 0 < trips → AreBeyond stops trips beyond → beyond.labels.items ≡ [] → (k : ℕ)
     → points_beyond beyond.points.items k ≡ []
 no_points stops trips beyond some are none k = elim are [
   | inl empty ↦ ap (λ (bs : List _). points_beyond bs k) empty.1
@@ -181,15 +181,15 @@ module _ (q : SetQueryValue) (hop : Hop TimeTrips) (old : ByTrips) (can : CanLea
       (inserted_takes trip_rules trip_laws (points_beyond filled.labels.items trip) news (record { departure = 0; value = value; tag = tag }) fits stands
       (label_is_bag filled trip) admitted inserted.stands_is inserted.inserted named)))
 
-  pub label_stands : exits.items ≡ old.lanes.exits.items ++ GoesBy hop.place step ∷ []
+  pub label_stands : exits.items ≡ old.lanes.exits.items ++ ToStep hop.place step ∷ []
       → TripTakesBut trip hop.bound.now (λ _. ⊥) (λ tags. one_way 0 value (IsExit tags (Changes hop.place step))) old new
   label_stands pushed = record {
-    are = record { in_lanes = still_are q hop old.lanes lanes_can old.lanes.trips exits (GoesBy hop.place step) pushed tt refl; beyond = are_beyond };
+    are = record { in_lanes = still_are q hop old.lanes lanes_can old.lanes.trips exits (ToStep hop.place step) pushed tt refl; beyond = are_beyond };
     stops = refl;
     points = points_same;
     bags = bags_more;
     writes = record {
-      exits = exits_more (tags_at old.lanes.stops) old.lanes.exits.items exits.items (GoesBy hop.place step) pushed;
+      exits = exits_more (tags_at old.lanes.stops) old.lanes.exits.items exits.items (ToStep hop.place step) pushed;
       steps = extends_none (steps_of old.lanes.stops);
     };
     other_trips = others_same;
@@ -197,7 +197,7 @@ module _ (q : SetQueryValue) (hop : Hop TimeTrips) (old : ByTrips) (can : CanLea
         let none_more : tag + 0 ≡ tag = omega arith in
         one_taken (IsExit (from_to (spelling_of walks before) (spelling_of walks all)) (Changes hop.place step))
         (λ _. subst (IsExit (from_to (spelling_of walks before) (spelling_of walks all)) (Changes hop.place step)) none_more
-        (lane_spelled q hop old.lanes lanes_can old.lanes.trips exits (GoesBy hop.place step) pushed tt walks set_outs before all first_grows then_grows tag 0
+        (lane_spelled q hop old.lanes lanes_can old.lanes.trips exits (ToStep hop.place step) pushed tt walks set_outs before all first_grows then_grows tag 0
         tag_is (omega arith)));
   }
 

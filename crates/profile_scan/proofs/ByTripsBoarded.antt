@@ -469,8 +469,8 @@ module _ (t : TimetableValue) (q : SetQueryValue) (known : Starts) (hop : Hop Ti
         (second.takes t.footpaths refl stop set_outs before all (grows_on before s0 s1 first_grows g01) then_grows);
   }
 
-  -- if there are none, there are no labels beyond lanes
-  pub lanes_boarded : old.beyond.labels.items ≡ [] → BoardsByTrips t hop old mid
+  -- if the trip has no labels beyond lanes
+  pub lanes_boarded : points_beyond old.beyond.labels.items hop.connection.trip ≡ [] → BoardsByTrips t hop old mid
   lanes_boarded none = record {
     are = record { in_lanes = first.are; beyond = can.are.beyond };
     labels = λ trip. ap (λ (ts : TripLanes). label_points (labels_at ts trip) ++ points_beyond old.beyond.labels.items trip) first.trips;
@@ -483,5 +483,5 @@ module _ (t : TimetableValue) (q : SetQueryValue) (known : Starts) (hop : Hop Ti
         (front_takes trip_rules (λ way. Excused way.label.value) (Boardings tags stop Lane) (points_at old.lanes.stops stop) (points_at lanes.stops stop)
         (points_beyond old.beyond.points.items stop) (first.takes stop set_outs before all first_grows then_grows))
         (but_none trip_rules (λ way. Excused way.label.value) (Boardings tags stop beyond) ((value_by_trips mid).bag stop)
-        (λ way opened. not_in_nil way.label (subst (λ (bags : List _). Contains (points_beyond bags hop.connection.trip) way.label) none opened.is_label)));
+        (λ way opened. not_in_nil way.label (subst (λ (ps : List (Point TimeTrips)). Contains ps way.label) none opened.is_label)));
   }

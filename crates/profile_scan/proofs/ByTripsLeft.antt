@@ -27,7 +27,7 @@ use Rattle.profile_scan.specs.declared.by_trips.ByTrips.{ByTrips}
 use Rattle.profile_scan.specs.declared.hop.Hop.{Hop}
 use Rattle.profile_scan.specs.declared.in_lanes.InLanes.{InLanes}
 use Rattle.profile_scan.specs.declared.scan_records.Exit.TheVariants.{Changes}
-use Rattle.profile_scan.proofs.BeyondLemmas.{no_points, point_is_bag}
+use Rattle.profile_scan.proofs.BeyondLemmas.{point_is_bag}
 use Rattle.profile_scan.proofs.LaneOffers.{as_point}
 use Rattle.profile_scan.proofs.LanesLeft.{ending_admits}
 use Rattle.profile_scan.proofs.Offers.{all_stand, but_as, excused_as, stands_in}
@@ -317,22 +317,15 @@ module _ (q : SetQueryValue) (hop : Hop TimeTrips) (old : ByTrips) (can : CanLea
       (λ p opened. takes.covered (p, tt) (all_stand Points n p all_of opened.0, (opened.1, tt))) takes)
       taken
 
--- whether there are bags
-module _ (q : SetQueryValue) (hop : Hop TimeTrips) (old : ByTrips) (can : CanLeaveByTrips q hop old) where
-  pub no_bags_changed : old.beyond.labels.items ≡ [] → TripTakesBut hop.connection.trip hop.bound.now (λ p. Excludes trip_rules hop.bound.now p.value)
-      (λ tags. changes_from tags hop.place hop.connection.arr (points_beyond old.beyond.points.items hop.connection.to)) old old
-  no_bags_changed none =
-      let trip = can.trip in
-      let empty = no_points (stops_of old.lanes.stops) (trips_of old.lanes.trips) old.beyond (omega (arith, trip)) can.are.beyond none hop.connection.to in
-      nothing_taken q hop old can (λ p. Excludes trip_rules hop.bound.now p.value)
-      (λ tags. changes_from tags hop.place hop.connection.arr (points_beyond old.beyond.points.items hop.connection.to))
-      (λ tags p opened. absurd (not_in_nil p (subst (λ (ps : List (Point TimeTrips)). Contains ps p) empty opened.0)))
-
-  pub has_bag : (old.beyond.labels.items ≡ [] → ⊥) → hop.connection.to < length old.beyond.points.items
-  has_bag some = elim can.are.beyond [
-    | inl none ↦ absurd (some none.0)
-    | inr long ↦ let stop = can.stop in let count = long.1 in omega (arith, stop, count)
-  ]
+-- no point beyond lanes, no change
+pub none_changed : (q : SetQueryValue) (hop : Hop TimeTrips) (old : ByTrips) → CanLeaveByTrips q hop old
+    → points_beyond old.beyond.points.items hop.connection.to ≡ []
+    → TripTakesBut hop.connection.trip hop.bound.now (λ p. Excludes trip_rules hop.bound.now p.value)
+    (λ tags. changes_from tags hop.place hop.connection.arr (points_beyond old.beyond.points.items hop.connection.to)) old old
+none_changed q hop old can none =
+    nothing_taken q hop old can (λ p. Excludes trip_rules hop.bound.now p.value)
+    (λ tags. changes_from tags hop.place hop.connection.arr (points_beyond old.beyond.points.items hop.connection.to))
+    (λ tags p opened. absurd (not_in_nil p (subst (λ (ps : List (Point TimeTrips)). Contains ps p) none opened.0)))
 
 -- changes by the points of two lists
 changes_chained : (q : SetQueryValue) (hop : Hop TimeTrips) (old : ByTrips) (can : CanLeaveByTrips q hop old) (mid new : ByTrips)

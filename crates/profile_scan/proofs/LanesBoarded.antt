@@ -32,7 +32,7 @@ use Rattle.profile_scan.specs.InLanes.{exits_in, value_of}
 use Rattle.profile_scan.specs.declared.hop.Hop.{Hop}
 use Rattle.profile_scan.specs.declared.in_lanes.InLanes.{InLanes}
 use Rattle.profile_scan.specs.declared.in_lanes.LaneExit.{LaneExit}
-use Rattle.profile_scan.specs.declared.in_lanes.LaneExit.TheVariants.{Ends as EndsLane, Changes as ChangesLane, Goes as GoesBy}
+use Rattle.profile_scan.specs.declared.in_lanes.LaneExit.TheVariants.{Ends as EndsLane, Changes as ChangesLane, ChangesToStep as ToStep}
 use Rattle.profile_scan.specs.declared.scan_records.Exit.{Exit}
 use Rattle.profile_scan.specs.declared.scan_records.SetOut.{SetOut}
 use Rattle.profile_scan.proofs.LaneOffers.{as_point}
@@ -45,7 +45,7 @@ use Rattle.profile_scan.proofs.ScanRecordLemmas.{grows_on, stays, step_spelled}
 same_exit : (tags other : ℕ → List ℕ) (entries : ℕ) (x : LaneExit) → LeadsWithin entries x → ((m : ℕ) → m < entries → other m ≡ tags m) → (k : ℕ)
     → exit_of other x k ≡ exit_of tags x k
 same_exit tags other entries (EndsLane last walk) leads same k = refl
-same_exit tags other entries (GoesBy last step) leads same k = refl
+same_exit tags other entries (ToStep last step) leads same k = refl
 same_exit tags other entries (ChangesLane last entry) leads same k =
     ap (λ ts. exit_of (λ _. ts) (ChangesLane last entry) k) (same entry leads)
 
@@ -67,7 +67,7 @@ same_exits tags other entries (x ∷ xs) leads same =
 -- an exit still names one of the entries
 still_within : (few many : ℕ) → few ≤ many → (x : LaneExit) → LeadsWithin few x → LeadsWithin many x
 still_within few many le (EndsLane last walk) leads = tt
-still_within few many le (GoesBy last step) leads = tt
+still_within few many le (ToStep last step) leads = tt
 still_within few many le (ChangesLane last entry) leads = omega (arith, leads, le)
 
 -- riding keeps a value admitted

@@ -20,7 +20,7 @@ use Rattle.profile_scan.specs.Keeping.{WritesOn}
 use Rattle.profile_scan.specs.declared.hop.Hop.{Hop}
 use Rattle.profile_scan.specs.declared.in_lanes.InLanes.{InLanes}
 use Rattle.profile_scan.specs.declared.in_lanes.LaneExit.{LaneExit}
-use Rattle.profile_scan.specs.declared.in_lanes.LaneExit.TheVariants.{Ends as EndsLane, Changes as ChangesLane, Goes as GoesBy}
+use Rattle.profile_scan.specs.declared.in_lanes.LaneExit.TheVariants.{Ends as EndsLane, Changes as ChangesLane, ChangesToStep as ToStep}
 use Rattle.profile_scan.specs.declared.scan_records.Exit.{Exit}
 use Rattle.profile_scan.specs.declared.scan_records.Exit.TheVariants.{Ends, Changes}
 use Rattle.profile_scan.specs.declared.scan_records.SetOut.{SetOut}
@@ -30,7 +30,7 @@ use Rattle.profile_scan.specs.declared.starts.Starts.{Starts}
 abbrev pub exit_of : (ℕ → List ℕ) → LaneExit → ℕ → Exit
 exit_of tags (EndsLane last walk) k = Ends last walk
 exit_of tags (ChangesLane last entry) k = Changes last (word_tag (tags entry) k)
-exit_of tags (GoesBy last step) k = Changes last step
+exit_of tags (ToStep last step) k = Changes last step
 
 -- eight exits of each
 abbrev pub exits_in : (ℕ → List ℕ) → List LaneExit → List Exit
@@ -51,7 +51,7 @@ value_of lanes = record {
 abbrev pub LeadsWithin : ℕ → LaneExit → Type 0
 LeadsWithin entries (EndsLane last walk) = Unit {0}
 LeadsWithin entries (ChangesLane last entry) = entry < entries
-LeadsWithin entries (GoesBy last step) = Unit {0}
+LeadsWithin entries (ToStep last step) = Unit {0}
 
 -- lanes for `stops` stops and `trips` trips; what their bound outdoes, these values exclude
 pub record AreInLanes (stops trips : ℕ) (values : List TimeTrips) (lanes : InLanes) : Type 0 where

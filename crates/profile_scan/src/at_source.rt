@@ -33,7 +33,7 @@ pub trait AtSource<C: Criterion>: Drop {
         ensures { IfOk result (IsNewSource IsUnder kept criterion.now stops) };
 
     /// Adds values to a bound: those of points that depart at `time` or later and were found for every question. What
-    /// the bound excluded stays excluded. Returns false only if the bound's values stay.
+    /// the bound excluded stays excluded. Returns whether points were looked at, so that the values may be others.
     fn renew(&self, criterion: &C, time: u32, bound: &mut Bound<C>) -> Result<bool, AllocError>
         requires under { (stops : ℕ) × IsUnder criterion.now stops self.now }
         requires values { (b : _) → Contains bound.old.values.items b → Admits (C.rules criterion.now) b }

@@ -48,7 +48,8 @@ impl<C: Criterion> Bound<C> {
 
     /// Adds the values of points found that depart at `time` or later and weren't read yet. `count` is how many points
     /// were ever found: if it hasn't changed since the last call, there are no new ones. What the bound excluded stays
-    /// excluded. Nothing is added unless the criterion says `riding_worsens`. Returns false only if the values stay.
+    /// excluded. Nothing is added unless the criterion says `riding_worsens`. Returns whether points were looked at, so
+    /// that the values may be others.
     #[inline(always)]
     pub fn renew(
         &mut self,

@@ -1,6 +1,6 @@
 //! Trips and stops kept by arrival and trips: in lanes, and what is worth more trips than there are lanes.
 
-ghost use Rattle.std.specs.Prelude.{◌≡◌, ◌<◌, [], ℕ, IfOk, length};
+ghost use Rattle.std.specs.Prelude.{◌≡◌, ◌<◌, [], ℕ, IfOk, false, length, true};
 ghost use Rattle.criteria.specs.Laws.{Admits};
 ghost use Rattle.lanes.specs.Lanes.{trip_rules};
 ghost use Rattle.profile_scan.specs.ByTrips.{IsInsertedAt, points_beyond};
@@ -155,7 +155,7 @@ impl ByTrips {
         let tag = first_tag(self.lanes.exits.len())?;
         let stands = insert_at(&mut self.beyond.labels, hop.connection.trip, 0, value, tag)?;
         if stands {
-            self.lanes.exits.push(LaneExit::Goes {
+            self.lanes.exits.push(LaneExit::ChangesToStep {
                 last: hop.place,
                 step,
             })?;
@@ -174,13 +174,13 @@ impl ByTrips {
         ensures { OnOk result (takes_changes hop.now (points_beyond self.old.beyond.points.items hop.now.connection.to)
             self.old self.new) }
     {
-        if self.beyond.labels.is_empty() {
+        if !has_any(&self.beyond.points, hop.connection.to) {
             return Ok(());
         }
         self.change_each(asked, hop)
     }
 
-    // The same if there are bags. It is rare, so it is a call and never inlined.
+    // The same if there is a bag for the stop. It is rare, so it is a call and never inlined.
     #[inline(never)]
     fn change_each(
         &mut self,
@@ -240,7 +240,7 @@ impl ByTrips {
         ensures { OnOk result (BoardsByTrips (S.timetable source.now) hop.now self.old self.new) }
     {
         self.lanes.board(asked, source, hop)?;
-        if self.beyond.labels.is_empty() {
+        if !has_any(&self.beyond.labels, hop.connection.trip) {
             return Ok(());
         }
         self.board_beyond(asked, source, hop)
@@ -360,6 +360,18 @@ impl ByTrips {
             self.lanes.stops.push_step_beyond(boarding, number)?;
         }
         Ok(())
+    }
+}
+
+/// Whether bag k, if there is one, has a point.
+#[inline(always)]
+pub fn has_any(bags: &[Bag<ArrivalTrips>], k: u32) -> bool
+    ensures none { result ≡ false → points_beyond bags.now k ≡ [] }
+    ensures some { result ≡ true → k < length bags.now }
+{
+    match bags.get(k as usize) {
+        None => false,
+        Some(bag) => bag.len() > 0,
     }
 }
 

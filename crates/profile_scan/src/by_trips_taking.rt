@@ -1,6 +1,6 @@
 //! Trips and stops kept by arrival and trips: how a scan takes a connection in.
 
-ghost use Rattle.std.specs.Prelude.{◌≡◌, ◌++◌, [], false, Contains, OnOk};
+ghost use Rattle.std.specs.Prelude.{◌≡◌, ◌++◌, Contains, OnOk};
 ghost use Rattle.criteria.specs.Laws.{Admits};
 ghost use Rattle.bags.specs.Bag.{points_of};
 ghost use Rattle.lanes.specs.Lanes.{trip_rules};
@@ -8,7 +8,7 @@ ghost use Rattle.profile_scan.specs.ByTrips.{points_beyond};
 ghost use Rattle.profile_scan.specs.TakenByTrips.{IsFrontOf, point_labels};
 
 use crate::at_source::AtSource;
-use crate::by_trips::{Beyond, ByTrips};
+use crate::by_trips::{Beyond, ByTrips, has_any};
 use crate::final_walks::FinalWalk;
 use crate::hop::{Hop, ScanQuery};
 use crate::in_lanes::{InLanes, LaneExit};
@@ -241,22 +241,11 @@ impl InLanes {
                 last,
                 step: self.stops.tag(entry, lane) as usize,
             },
-            LaneExit::Goes { last, step } => Exit::Changes {
+            LaneExit::ChangesToStep { last, step } => Exit::Changes {
                 last,
                 step: step as usize,
             },
         }
-    }
-}
-
-// Whether bag k, if there is one, has a point.
-#[inline(always)]
-fn has_any(bags: &[Bag<ArrivalTrips>], k: u32) -> bool
-    ensures { result ≡ false → points_beyond bags.now k ≡ [] }
-{
-    match bags.get(k as usize) {
-        None => false,
-        Some(bag) => bag.len() > 0,
     }
 }
 

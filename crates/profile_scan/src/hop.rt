@@ -34,6 +34,7 @@ pub struct Hop<'a, V> {
     // stop's point isn't offered to labels, nor a label to stops, if a value of the bound is no worse than the point's
     // or label's value with the ride. Empty in a scan for all sources
     pub bound: &'a [V],
-    // false only if those values are the same as when the last connection was taken in
+    // whether the points found were looked at for new values. If not, what was made of the bound at an earlier
+    // connection may be used again: it excludes nothing that these values don't
     pub renewed: bool,
 }

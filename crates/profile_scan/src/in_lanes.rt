@@ -19,7 +19,7 @@ use timetable::Footpath;
 pub enum LaneExit {
     Ends { last: u32, walk: Option<Footpath> },
     Changes { last: u32, entry: u32 },
-    Goes { last: u32, step: u32 },
+    ChangesToStep { last: u32, step: u32 },
 }
 
 /// Labels of trips and points of stops in lanes. A label's tag is eight times the index of its exit, and its number of

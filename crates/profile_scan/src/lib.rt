@@ -32,11 +32,15 @@
 //! A leg is counted where its trip is boarded, in 2 and 3: a label's value doesn't include it.
 //!
 //! What a scan keeps of trips and stops has the trait `Keeping`, so that a criterion can have a form of its own, which
-//! it names by `Scanned`: `ByTrips` is that of arrival and trips; `InLists`, of which 1 and 3 speak, serves any. What
-//! it keeps where journeys set out has the trait `AtSource`. `profile_between` answers one question, and keeps an
-//! `Origin`: one list of the points found, from all sources together. `profiles_to_any`, which answers from every stop
-//! to any of several targets, and `profiles_to`, to a single one, keep `Origins`: a list for each stop. All else is the
-//! same scan. Clauses speak of the question at an `index`: for `Origins` the index is a stop; `Origin` has one
+//! it names by `Scanned`. `InLists`, whose functions 1 and 3 name, serves any criterion. `ByTrips` is the form of
+//! arrival and trips. It takes the same steps with all values of a front at once: `InLanes::change` compares a trip's
+//! lanes with those of the stop's front, and lowers them; `InLanes::board` does so with a stop's front. What has more
+//! trips than there are lanes is kept beside them, in bags (`Beyond`), and offered to these one by one.
+//!
+//! What a scan keeps where journeys set out has the trait `AtSource`. `profile_between` answers one question, and keeps
+//! an `Origin`: one list of the points found, from all sources together. `profiles_to_any`, which answers from every
+//! stop to any of several targets, and `profiles_to`, to a single one, keep `Origins`: a list for each stop. All else
+//! is the same scan. Clauses speak of the question at an `index`: for `Origins` the index is a stop; `Origin` has one
 //! question, whatever the index.
 //!
 //! `hop.bound` has values of points found that depart no earlier than the connection. 1 leaves out a point of the stop,
@@ -59,9 +63,10 @@
 //!
 //! A tag is an index: of a label, into `Trips::exits`; of a stop's point, into the steps of `Stops::lists`; of a point
 //! found, into `Origin::set_outs`, and once it is in `Found`, into its nodes. An offer's tag is the vector's length
-//! before the offer, and the record is pushed only if the offer is accepted; these vectors only grow while a scan runs,
-//! so a tag keeps its meaning. `spelling_of` (specs/ScanRecords.antt) says what a tag spells; `journey_nodes` makes
-//! nodes of it, and `journeys::extract` a journey of these.
+//! before the offer, and the record is pushed only if the offer is accepted. In lanes a record stands for the eight
+//! values of an offer: a tag is eight times the record's index, and the lane. All these vectors only grow while a scan
+//! runs, so a tag keeps its meaning. `spelling_of` (specs/ScanRecords.antt) says what a tag spells; `journey_nodes`
+//! makes nodes of it, and `journeys::extract` a journey of these.
 #![tactic(auto)]
 
 mod answering;

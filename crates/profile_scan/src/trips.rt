@@ -22,7 +22,7 @@ use crate::set_query::SetQuery;
 use crate::stops::Stops;
 use bags::Point;
 use criteria::Criterion;
-use fronts::{Labels, labels_of, offer_label, some_no_worse};
+use fronts::{Labels, append, labels_of, offer_label, some_no_worse};
 use std::alloc::AllocError;
 use timetable::{Connection, Footpath};
 
@@ -55,7 +55,7 @@ impl<C: Criterion> Trips<C> {
         let tag = self.exits.len();
         let stands = offer_label(criterion, &mut self.labels, trip, value, tag)?;
         if stands {
-            self.exits.push(exit)?;
+            append(&mut self.exits, exit)?;
         }
         Ok(())
     }

@@ -1,17 +1,18 @@
+use Rattle.std.proofs.Common.{◌≡◌, ◌<◌, [], ap, arith, length, subst}
 use Rattle.std.proofs.lemmas.Result.{on_ok_weaker}
 use Rattle.profile_scan.specs.SetQuery.{question}
-use Rattle.profile_scan.proofs.BeyondLemmas.{is_none, is_some}
+use Rattle.profile_scan.specs.ByTrips.{points_beyond}
 use Rattle.profile_scan.proofs.ByTripsBoarded.{all_boarded, can_board_beyond, has_bags_still, lanes_boarded}
 use Rattle.profile_scan.proofs.by_trips.ByTrips.board.Goals as goal
 
 pub board-requires : goal.board-requires
 board-requires g c = record { hop = c.requires.hop; are = c.requires.are.in_lanes }
 
-pub returns-then-is_empty : goal.returns-then-is_empty
-returns-then-is_empty g c =
+pub returns-then-not-has_any : goal.returns-then-not-has_any
+returns-then-not-has_any g c =
     lanes_boarded (g.S.ConnSource.timetable c.args.source.now) (question c.args.asked.now.query) c.args.asked.now.starts c.args.hop.now c.args.self.now
     c.requires c.board.new.self c.in_ok-board.ensures
-    (is_none c.args.self.now.beyond.labels c.is_empty.result c.is_empty.ensures c.if-is_empty.true)
+    (subst (λ bags. points_beyond bags c.args.hop.now.connection.trip ≡ []) c.deref.ensures.value (c.has_any.ensures.none c.if-not-has_any.true))
 
 pub board_beyond-requires-clause-can : goal.board_beyond-requires-clause-can
 board_beyond-requires-clause-can g c =
@@ -22,7 +23,10 @@ pub board_beyond-requires-clause-has : goal.board_beyond-requires-clause-has
 board_beyond-requires-clause-has g c =
     has_bags_still (g.S.ConnSource.timetable c.args.source.now) (question c.args.asked.now.query) c.args.asked.now.starts c.args.hop.now c.args.self.now
     c.requires c.board.new.self c.in_ok-board.ensures
-    (is_some c.args.self.now.beyond.labels c.is_empty.result c.is_empty.ensures c.if-is_empty.false)
+    (λ none.
+        let there = subst (λ bags. c.args.hop.now.connection.trip < length bags) c.deref.ensures.value (c.has_any.ensures.some c.if-not-has_any.false) in
+        let empty = ap (λ bags. length bags) none in
+        omega (arith, there, empty))
 
 pub returns : goal.returns
 returns g c =

@@ -1,17 +1,17 @@
+use Rattle.std.proofs.Common.{◌≡◌, ◌<◌, [], length, subst}
 use Rattle.profile_scan.specs.SetQuery.{question}
-use Rattle.profile_scan.proofs.BeyondLemmas.{is_none, is_some}
-use Rattle.profile_scan.proofs.ByTripsLeft.{has_bag, no_bags_changed}
+use Rattle.profile_scan.specs.ByTrips.{points_beyond}
+use Rattle.profile_scan.proofs.ByTripsLeft.{none_changed}
 use Rattle.profile_scan.proofs.by_trips.ByTrips.change_beyond.Goals as goal
 
-pub returns-then-is_empty : goal.returns-then-is_empty
-returns-then-is_empty c =
-    no_bags_changed (question c.args.asked.now.query) c.args.hop.now c.args.self.now c.requires
-    (is_none c.args.self.now.beyond.labels c.is_empty.result c.is_empty.ensures c.if-is_empty.true)
+pub returns-then-not-has_any : goal.returns-then-not-has_any
+returns-then-not-has_any c =
+    none_changed (question c.args.asked.now.query) c.args.hop.now c.args.self.now c.requires
+    (subst (λ bags. points_beyond bags c.args.hop.now.connection.to ≡ []) c.deref.ensures.value (c.has_any.ensures.none c.if-not-has_any.true))
 
 pub change_each-requires-clause-can : goal.change_each-requires-clause-can
 change_each-requires-clause-can c = c.requires
 
 pub change_each-requires-clause-stop : goal.change_each-requires-clause-stop
 change_each-requires-clause-stop c =
-    has_bag (question c.args.asked.now.query) c.args.hop.now c.args.self.now c.requires
-    (is_some c.args.self.now.beyond.labels c.is_empty.result c.is_empty.ensures c.if-is_empty.false)
+    subst (λ bags. c.args.hop.now.connection.to < length bags) c.deref.ensures.value (c.has_any.ensures.some c.if-not-has_any.false)

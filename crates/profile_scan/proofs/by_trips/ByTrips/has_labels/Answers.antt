@@ -7,4 +7,4 @@ pub returns : goal.returns
 returns c = λ none.
     let self = c.args.self.now in
     ap (λ labels. label_points labels ++ points_beyond self.beyond.labels.items c.args.trip) (c.has_labels.ensures c.if-has_labels.false)
-    ∙ subst (λ bags. points_beyond bags c.args.trip ≡ []) c.deref.ensures.value (c.has_any.ensures none)
+    ∙ subst (λ bags. points_beyond bags c.args.trip ≡ []) c.deref.ensures.value (c.has_any.ensures.none none)

@@ -8,12 +8,12 @@ use Rattle.profile_scan.proofs.LabelLemmas.{offered_takes, trip_admitted}
 use Rattle.profile_scan.proofs.ScanRecordLemmas.{exit_next}
 use Rattle.profile_scan.proofs.trips.Trips.offer.Goals as goal
 
-pub returns-in_ok-push : goal.returns-in_ok-push
-returns-in_ok-push g c = record {
+pub returns-in_ok-append : goal.returns-in_ok-append
+returns-in_ok-append g c = record {
   trip =
       record {
         labels = record { labels = c.in_ok-stands.ensures.labels; long = c.in_ok-stands.ensures.long; same = c.in_ok-stands.ensures.taken.elsewhere };
-        exits = extends_one c.args.self.now.exits.items c.push.new.self.items c.args.exit c.in_ok-push.ensures.items;
+        exits = extends_one c.args.self.now.exits.items c.append.new.items.items c.args.exit c.in_ok-append.ensures.added;
       };
   takes = λ walks steps set_outs before all ext_before ext.
       let rules = g.C.Criterion.rules c.args.criterion.now in
@@ -24,8 +24,8 @@ returns-in_ok-push g c = record {
       c.in_ok-stands.stands (trip_admitted rules c.args.self.now.labels c.requires.trip.sound c.args.trip)
       c.requires.admitted c.in_ok-stands.ensures.taken.judged c.in_ok-stands.ensures.taken.taken
       (λ _. subst (IsExit (from_to (spelling_of walks before) (spelling_of walks all)) c.args.exit) (sym tag_is)
-      (exit_next walks c.args.self.now.exits.items c.push.new.self.items steps set_outs before all c.args.exit
-      c.in_ok-push.ensures.items ext_before ext));
+      (exit_next walks c.args.self.now.exits.items c.append.new.items.items steps set_outs before all c.args.exit
+      c.in_ok-append.ensures.added ext_before ext));
 }
 
 pub returns-else-stands : goal.returns-else-stands

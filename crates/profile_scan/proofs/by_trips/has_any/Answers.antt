@@ -4,15 +4,18 @@ use Rattle.std.proofs.lemmas.List.{nil_from_length}
 use Rattle.bags.specs.Bag.{points_of}
 use Rattle.profile_scan.specs.ByTrips.{bag_points}
 use Rattle.profile_scan.proofs.ByTripsTaken.{bag_at, no_bag}
-use Rattle.profile_scan.proofs.by_trips_taking.has_any.Goals as goal
+use Rattle.profile_scan.proofs.by_trips.has_any.Goals as goal
 
-pub returns-in-None : goal.returns-in-None
-returns-in-None c = λ none. ap bag_points (no_bag c.args.bags.now c.args.k c.in-None.ensures.lookup.3)
+pub returns-in-None-clause-none : goal.returns-in-None-clause-none
+returns-in-None-clause-none c = λ none. ap bag_points (no_bag c.args.bags.now c.args.k c.in-None.ensures.lookup.3)
 
-pub returns-in-Some : goal.returns-in-Some
-returns-in-Some c = λ none.
+pub returns-in-Some-clause-none : goal.returns-in-Some-clause-none
+returns-in-Some-clause-none c = λ none.
     let bag = c.in-Some.bag.now in
     let few = ltb-false 0 c.len.result none in
     let long = c.len.ensures in
     ap bag_points (bag_at c.args.bags.now c.args.k bag c.in-Some.ensures.lookup.3.0 c.in-Some.ensures.lookup.1)
     ∙ nil_from_length (points_of bag) (omega (arith, few, long))
+
+pub returns-in-Some-clause-some : goal.returns-in-Some-clause-some
+returns-in-Some-clause-some c = λ some. c.in-Some.ensures.lookup.3.0

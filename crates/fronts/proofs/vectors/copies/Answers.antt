@@ -1,6 +1,6 @@
 use Rattle.std.proofs.Common.{◌++◌, ◌∷◌, [], ◌∙◌, ap}
 use Rattle.std.proofs.lemmas.List.{replicate-append-replicate}
-use Rattle.fronts.proofs.copying.copies.Goals as goal
+use Rattle.fronts.proofs.vectors.copies.Goals as goal
 
 pub loop-k-preserved : goal.loop-k-preserved
 loop-k-preserved g c =

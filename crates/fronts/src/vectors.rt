@@ -1,0 +1,30 @@
+//! Vectors of copies, and how they grow.
+
+ghost use Rattle.std.specs.Prelude.{◌≡◌, ◌++◌, ◌∷◌, [], IfOk, OnErr, OnOk, replicate};
+
+use std::alloc::{AllocError, Global};
+
+/// Returns `count` copies of an item. The kit's `vec!` clones, and contracts know less of a clone than of a copy.
+pub fn copies<T: Copy>(alloc: Global, item: T, count: usize) -> Result<Vec<T>, AllocError>
+    ensures { IfOk result (λ items. items.items ≡ replicate count item) }
+{
+    let mut items = Vec::with_capacity(alloc, count)?;
+    for k in 0..count {
+        items.push(item)?;
+    }
+    Ok(items)
+}
+
+/// Appends an item. Mostly there is room for it, and then nothing is called. If memory runs out, the items stay.
+#[inline(always)]
+pub fn append<T: Copy>(items: &mut Vec<T>, item: T) -> Result<(), AllocError>
+    ensures added { OnOk result (items.new.items ≡ items.old.items ++ item ∷ []) }
+    ensures same { OnErr result (items.new.items ≡ items.old.items) }
+{
+    if items.len() < items.capacity() {
+        items.push_reserved(item);
+        return Ok(());
+    }
+    items.push(item)?;
+    Ok(())
+}
