@@ -1,7 +1,7 @@
 //! Lists the connections of all runs in the order of a timetable: by departure, then by arrival, then by run.
 
 ghost use Rattle.std.specs.Prelude.{◌≡◌, ◌≤◌, ◌<◌, ◌-◌, ◌^◌, ◌⊎◌, ℤ, min, length, map, IfOk, IfErr, OnOk, OnErr};
-ghost use Rattle.std.specs.Prelude.{All, Contains, IsPermutation, true};
+ghost use Rattle.std.specs.Prelude.{All, Contains, IsPermutation, [], true};
 ghost use Rattle.std.specs.Prelude.{slice_index_or};
 ghost use Rattle.gtfs_tables.specs.Joined.{HasTimedEnds, makes_connections as makes};
 ghost use Rattle.gtfs_tables.specs.Joined.{rows_of as rows_between};
@@ -130,16 +130,15 @@ fn list_run(
     }
 }
 
-// Returns the connections of the runs, by run; room is made for `count` of them. Or returns the first run that has a
-// time out of range.
+// Adds the connections of the runs, by run, to an empty list. Or returns the first run that has a time out of range.
 fn connections_by_run(
-    alloc: Global,
+    mut connections: Vec<Connection>,
     feed: &Feed,
     times: &[TripTimes],
     days: &[ServiceDay],
     runs: &[Run],
-    count: usize,
 ) -> Result<Vec<Connection>, RunsFault>
+    requires empty { connections.items ≡ [] }
     requires times { AreTimesOf feed.now.stop_times.items feed.now.trips.items times.now }
     requires trips { All (IsTripRun feed.now.trips.items) runs.now }
     requires days { All (λ run. Contains (map (λ d. d.day) days.now) run.day) runs.now }
@@ -153,9 +152,6 @@ fn connections_by_run(
         → IfErr result (λ fault. IsWantOfMemory fault
         ⊎ ((run : TripRun) × (fault ≡ run_fault run) × IsFirstOutside feed.now zone base runs.now run)) }
 {
-    let Ok(mut connections) = Vec::with_capacity(alloc, count) else {
-        return Err(out_of_memory());
-    };
     let first = days[0];
     for (number, run) in runs.iter().enumerate() {
         let start = start_of(days, run.day);
@@ -230,10 +226,14 @@ pub fn runs_of(
     if count > MAX_CONNECTIONS as usize {
         return Err(too_many(Table::StopTimes));
     }
+    // The times are made behind this room, so the memory that they give back is next to what is still free.
+    let Ok(room) = Vec::with_capacity(alloc, count) else {
+        return Err(out_of_memory());
+    };
     let Ok(times) = times_of_trips(alloc, feed) else {
         return Err(out_of_memory());
     };
-    let mut connections = match connections_by_run(alloc, feed, &times, &days, &runs, count) {
+    let mut connections = match connections_by_run(room, feed, &times, &days, &runs) {
         Ok(connections) => connections,
         Err(fault) => return Err(fault),
     };

@@ -31,6 +31,7 @@ pub(crate) fn add_key(keys: &mut Ids, key: String) -> Result<(usize, bool), Faul
 
 // Returns the index of an id, which is added at the end if it isn't there yet. The likely index is tried first.
 // Memory may run out.
+#[inline(always)]
 #[tactic(auto, using(crate::proofs::KeyLemmas::stands_among))]
 pub(crate) fn index_of(
     alloc: Global,
@@ -46,6 +47,18 @@ pub(crate) fn index_of(
     if let Some(index) = id_at(ids, likely, id) {
         return Ok(index);
     }
+    looked_up(alloc, ids, id)
+}
+
+// Returns the same without a likely index. It is never inlined, so that a likely index costs only its comparison.
+#[inline(never)]
+#[tactic(auto, using(crate::proofs::KeyLemmas::stands_among))]
+fn looked_up(alloc: Global, ids: &mut Ids, id: &str) -> Result<u32, FaultKind>
+    ensures more { OnOk result (map string_bytes ids.new.keys ≡ seen_also (map string_bytes ids.old.keys) id.now) }
+    ensures ok { IfOk result (λ index. StandsAt (map string_bytes ids.new.keys) index id.now) }
+    ensures err { IfErr result (λ kind. kind ≡ FaultKind.OutOfMemory) }
+    ensures hash { OnOk result (hasher_of ids.new ≡ hasher_of ids.old) }
+{
     if let Some(index) = find_id(ids, id) {
         return as_index(index);
     }

@@ -146,8 +146,20 @@ fn civil(day: Day) -> Option<Day>
 }
 
 /// Returns the number of a text: one to nine decimal digits, after which a point and one or more zeros may follow.
-#[tactic(auto, using(crate::proofs::ValueLemmas::take_passes))]
 pub fn number(text: &[u8]) -> Option<u32>
+    ensures { result ≡ number_of text.now }
+{
+    match text {
+        [] => None,
+        [units] => digit(*units),
+        [tens, units] => two_digits(*tens, *units),
+        _ => longer_number(text),
+    }
+}
+
+// Returns the number of a text, whatever its length.
+#[tactic(auto, using(crate::proofs::ValueLemmas::take_passes))]
+fn longer_number(text: &[u8]) -> Option<u32>
     ensures { result ≡ number_of text.now }
 {
     let digits = leading_digits(text);

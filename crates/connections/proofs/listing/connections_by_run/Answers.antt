@@ -1,4 +1,4 @@
-use Rattle.std.proofs.Common.{◌≡◌, ℕ, ℤ, pos, length, get_or, All, None, Some, inl, sym, ap, ◌∙◌, subst, arith, rules, FitsSigned, w64, to_z, of_z}
+use Rattle.std.proofs.Common.{◌≡◌, ℕ, ℤ, pos, length, get_or, All, None, Some, sym, ap, ◌∙◌, subst, arith, rules, FitsSigned, w64, to_z, of_z}
 use Rattle.std.specs.List.{slice_get}
 use Rattle.std.proofs.lemmas.Int.{to_z-of_z}
 use Rattle.std.proofs.lemmas.List.{get_or_default}
@@ -19,11 +19,8 @@ no_day = record { day = record { year = 0; month = 0; day = 0 }; start = pos 0 }
 abbrev no_run : Run
 no_run = record { day = record { year = 0; month = 0; day = 0 }; trip = 0; repeat = 0; start = None }
 
-pub returns-in_default-clause-err : goal.returns-in_default-clause-err
-returns-in_default-clause-err c zone base d e starts = inl c.out_of_memory.ensures
-
 pub loop-number-init : goal.loop-number-init
-loop-number-init c zone base d e starts = rw c.in-Ok.ensures.items (by_run_none c.args.feed.now zone base c.args.runs.now)
+loop-number-init c zone base d e starts = rw c.requires.empty (by_run_none c.args.feed.now zone base c.args.runs.now)
 
 pub start_of-start-requires : goal.start_of-start-requires
 start_of-start-requires c = c.requires.days c.loop-number.number no_run c.loop-number-test.true
@@ -67,7 +64,7 @@ loop-number-preserved c zone base d e starts =
     let none : ServiceDay = record { day = record { year = 0; month = 0; day = 0 }; start = pos 0 } in
     let first : ℤ = (get_or c.args.days.now 0 none).start in
     let fits : FitsSigned w64 first = search rules in
-    let adds = c.in-Ok-list_run.ensures.ok zone (starts_then known zone starts) in
+    let adds = c.in-Ok.ensures.ok zone (starts_then known zone starts) in
     by_run_more c.args.feed.now zone base c.args.runs.now c.loop-number.number (run_of known) c.loop-number.connections.items
     c.list_run.new.connections.items (run_at known) (c.loop-number.invariant zone base d e starts)
     (subst (λ (z : ℤ). AddsRun c.args.feed.now zone z (run_of known) c.loop-number.number c.loop-number.connections.items c.list_run.new.connections.items)
