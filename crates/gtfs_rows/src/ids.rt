@@ -50,7 +50,8 @@ pub(crate) fn index_of(
     looked_up(alloc, ids, id)
 }
 
-// Returns the same without a likely index. It is never inlined, so that a likely index costs only its comparison.
+// Returns the index of an id, which is added at the end if it isn't there yet. Memory may run out. This is never
+// inlined, so that a likely index costs no more than its comparison.
 #[inline(never)]
 #[tactic(auto, using(crate::proofs::KeyLemmas::stands_among))]
 fn looked_up(alloc: Global, ids: &mut Ids, id: &str) -> Result<u32, FaultKind>

@@ -23,24 +23,24 @@ impl Time {
     pub fn parse(text: &[u8]) -> Result<u32, TimeFault>
         ensures { result_ok result ≡ time_of text.now }
     {
-        let seconds = match text {
-            [h, c, m, n, d, s, t] => clock(
-                digit(*h),
-                *c,
-                two_digits(*m, *n),
-                *d,
-                two_digits(*s, *t),
-            ),
-            [g, h, c, m, n, d, s, t] => clock(
-                two_digits(*g, *h),
-                *c,
-                two_digits(*m, *n),
-                *d,
-                two_digits(*s, *t),
-            ),
-            _ => None,
-        };
-        seconds.ok_or(TimeFault)
+        seconds_of(text).ok_or(TimeFault)
+    }
+}
+
+// Returns the seconds of a text `H:MM:SS` or `HH:MM:SS`, none of any other.
+fn seconds_of(text: &[u8]) -> Option<u32>
+    ensures { result ≡ time_of text.now }
+{
+    match text {
+        [h, c, m, n, d, s, t] => {
+            let hours = digit(*h)?;
+            clock(hours, *c, two_digits(*m, *n)?, *d, two_digits(*s, *t)?)
+        }
+        [g, h, c, m, n, d, s, t] => {
+            let hours = two_digits(*g, *h)?;
+            clock(hours, *c, two_digits(*m, *n)?, *d, two_digits(*s, *t)?)
+        }
+        _ => None,
     }
 }
 
@@ -53,19 +53,10 @@ pub(crate) fn clock_time(text: &[u8]) -> Result<u32, FaultKind>
 }
 
 // Returns hours, minutes and seconds as seconds; none if a separator isn't a colon, or minutes or seconds exceed 59.
-fn clock(
-    hours: Option<u32>,
-    colon: u8,
-    minutes: Option<u32>,
-    second_colon: u8,
-    seconds: Option<u32>,
-) -> Option<u32>
-    requires { IfSome hours (λ h. h < 100) }
-    ensures { result ≡ clock_of hours colon minutes second_colon seconds }
+fn clock(hours: u32, colon: u8, minutes: u32, second_colon: u8, seconds: u32) -> Option<u32>
+    requires { hours < 100 }
+    ensures { result ≡ clock_of (Some hours) colon (Some minutes) second_colon (Some seconds) }
 {
-    let hours = hours?;
-    let minutes = minutes?;
-    let seconds = seconds?;
     if colon == b':' && second_colon == b':' && minutes <= 59 && seconds <= 59 {
         Some(hours * 3600 + minutes * 60 + seconds)
     } else {
@@ -157,7 +148,7 @@ pub fn number(text: &[u8]) -> Option<u32>
     }
 }
 
-// Returns the number of a text, whatever its length.
+// Returns the number of a text of any length.
 #[tactic(auto, using(crate::proofs::ValueLemmas::take_passes))]
 fn longer_number(text: &[u8]) -> Option<u32>
     ensures { result ≡ number_of text.now }

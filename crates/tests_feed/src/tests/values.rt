@@ -33,11 +33,22 @@ date|20240100|none
 date|2024011|none
 date|2024-1-1|none
 number|0|0
+number|9|9
+number|42|42
+number|07|7
+number|120|120
 number|007|7
 number|7.000|7
 number|999999999|999999999
 number|0.0|0
 number||none
+number|x|none
+number|/|none
+number|:0|none
+number|4:|none
+number| 4|none
+number|4 |none
+number|12x|none
 number|.0|none
 number|7.|none
 number|2.5|none
