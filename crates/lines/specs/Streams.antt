@@ -3,15 +3,15 @@ use Rattle.std.specs.Prelude.{◌≡◌, ◌≢◌, ◌⊎◌, ◌++◌, ◌∷�
 use Rattle.std.specs.Io.KnownBytes.{Consumes, Keeps}
 use Rattle.lines.specs.declared.counted.Counted.{Counted}
 
--- what contracts say of a stream: its bytes, if they are known, and what one call makes of it
+-- what contracts say of a stream: its bytes, if they are known, and how one call may change its state
 pub record StreamWords (X : Type 0) : Type 1 where
   pub bytes : X → Option (List ℕ)  -- that are to be read, or were written
-  pub works : X → X → Type 0  -- from one state to the next by a read or a write that succeeded
-  pub flushes : X → X → Type 0  -- by a flush that succeeded
-  pub fails : X → X → Type 0  -- by a call that failed
+  pub works : X → X → Type 0  -- a read or a write that succeeds may lead from the first state to the second
+  pub flushes : X → X → Type 0  -- a flush that succeeds may
+  pub fails : X → X → Type 0  -- a call that fails may
 
--- of any reader or writer with these bytes: of its calls nothing is said. A function that is generic over streams keeps its contract for all words, so
--- it can't rest on that
+-- for the readers and writers of std, whose contracts say nothing of calls but the bytes: any call may lead from any state to any other. A function that
+-- is generic over streams is proved for all words, so it can't make use of that
 abbrev pub words_of : {X : Type 0} → (X → Option (List ℕ)) → StreamWords X
 words_of bytes = record { bytes = bytes; works = λ x y. ⊤; flushes = λ x y. ⊤; fails = λ x y. ⊤ }
 

@@ -14,8 +14,9 @@ pub struct ReadFailed;
 #[derive(Clone, Copy, Debug, PartialEq, Eq)]
 pub struct WriteFailed;
 
-/// A reader. Code that is generic over readers doesn't know what `words` says of calls: that a read failed, or that
-/// none did, is proved only of the reads that were made.
+/// A reader. Its `words` name what a read that succeeds, and one that fails, makes of it. Generic code knows of these
+/// relations only what [`read_once`](Self::read_once) ensures: so if its contract says that a read failed, it made that
+/// read, and the read failed.
 pub trait ReadStream {
     // What is to be read, and what calls make of the reader.
     ghost words: { StreamWords Self };
@@ -30,8 +31,9 @@ pub trait ReadStream {
         ensures call { MatchResult result (λ _. words.works self.old self.new) (λ _. words.fails self.old self.new) };
 }
 
-/// A writer. Code that is generic over writers doesn't know what `words` says of calls: that a write or a flush failed,
-/// or that none did, is proved only of the calls that were made.
+/// A writer. Its `words` name what a write or a flush that succeeds, and one that fails, makes of it. Generic code
+/// knows of these relations only what the two functions ensure: so if its contract says that a line was flushed, or
+/// that a call failed, it made these calls, and they ended so.
 pub trait WriteStream {
     // What was written, and what calls make of the writer.
     ghost words: { StreamWords Self };

@@ -164,6 +164,7 @@ pub(crate) fn answer_channel<N: Drop>(
     ensures { IfOk result (λ ends. ends.0 ≡ ends.1) }
 {
     let (sender, receiver, mut pass) = bounded_with(alloc, 1)?;
+    // The pass of a new channel is split: the part that stays with `pass` sends, the other one receives.
     let receiving = sender.another::<SplitsInTwo>(&mut pass);
     let awaited = AnswerReceiver {
         receiver,

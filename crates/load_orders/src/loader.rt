@@ -77,9 +77,10 @@ impl<N: Drop> Model for UsedLoader<N> {
     } };
 }
 
-/// A permit to draw the files of one feed, which uses it up. The loader gets one with each order that it takes from the
-/// queue that was made with this leave to load. A server has one such leave: so it draws files once at most for each
-/// order of its own queue, and for nothing else.
+/// A permit to draw the files of one feed. Drawing takes it by value, so it can be used once. Only
+/// [`LoaderOrders::next`] makes permits: one with each order that it takes from its queue. `V` is the type of the leave
+/// that the queue was made with. A server has one leave of its type, and so one queue: it draws files at most once for
+/// each order of that queue, and never without an order.
 #[derive(Drop)]
 pub struct DrawPermit<V> {
     leave: PhantomData<V>,

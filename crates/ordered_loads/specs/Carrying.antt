@@ -44,7 +44,7 @@ pub record HandledOrder (D N : Type 0) : Type 0 where
 abbrev pub handled_order_of : {D N : Type 0} → Order N → List (Order N) → Option (DrawnFiles D N) → AnsweredValue N → HandledOrder D N
 handled_order_of order taken files answered = record { order = order; taken = taken; files = files; answered = answered }
 
--- what the loader leaves: its end of the queue of orders, and the files that it used, order after order
+-- what the loader returns: its end of the queue of orders, and the files that it used, order after order
 pub record LoadsValue (D N : Type 0) : Type 0 where
   pub orders : LoaderOrdersValue N
   pub used : List (Option (DrawnFiles D N))

@@ -1,4 +1,4 @@
--- Where the loader works, and what it leaves there.
+-- Where the loader works, and what it returns.
 use Rattle.std.specs.Prelude.{◌≡◌}
 use Rattle.load_orders.specs.Keeping.{QueueId}
 use Rattle.ordered_loads.specs.Carrying.{AreLoaded, LoadsValue, load_input_of}
@@ -14,7 +14,7 @@ pub record LoaderPostValue (T L F N : Type 0) : Type 0 where
 abbrev pub loader_post_of : {T L F N : Type 0} → T → L → F → QueueId N → LoaderPostValue T L F N
 loader_post_of shelves seat feeds queue = record { shelves = shelves; seat = seat; feeds = feeds; queue = queue }
 
--- what the loader leaves of its post: its end of the queue of orders, its seat, which still fits the shelves, and the loads that were ordered
+-- what the loader returns: its end of the queue of orders, its seat, which still fits the shelves, and the loads that were ordered
 pub record IsLoaderDone {F D T L N : Type 0} (words : LoadWords F D T L N) (post : LoaderPostValue T L F N) (loads : LoadsValue D N) (b : L)
     : Type 0 where
   pub queue : loads.orders.queue ≡ post.queue

@@ -17,7 +17,8 @@ use std::time::Instant;
 pub trait Feeds {
     type Files: FeedFiles + Send + Drop;
 
-    /// The leave to load these feeds. A server is given one, and makes its queue of orders with it.
+    /// The leave, or permission, to load these feeds. A server has one, and uses it up when it makes its queue of
+    /// orders.
     type Leave: Send + Drop;
 
     // Their names, by index; whether these are the files of the feed at an index; and whether a feed may be loaded by
@@ -35,8 +36,8 @@ pub trait Feeds {
             (λ _. (plan : Plan) × words.is_plan self.now plan) }
         ensures days { IfOk result HasDays };
 
-    /// The files of the feed at the index, of which no read has failed yet. None only where there is no such feed. The
-    /// permit came with an order of the server's queue.
+    /// The files of the feed at the index, of which no read has failed yet. None only if there is no such feed. The
+    /// permit is used up: the server's queue of orders gives one with each order, and nothing else makes any.
     fn files(&self, index: usize, permit: DrawPermit<Self::Leave>) -> Option<Self::Files>
         ensures { MatchOption result (length (words.named self.now) ≤ index)
             (λ files. (Self.Files.words.failed files ≡ [])

@@ -1,4 +1,4 @@
--- Where the workers of a server work, and what they leave there.
+-- Where the workers of a server work, and what they return.
 use Rattle.std.specs.Prelude.{◌≡◌, ◌++◌, ◌∷◌, ℕ, List, [], All, length, true}
 use Rattle.client_queue.specs.Ends.{DealerValue, nothing_put, with_back}
 use Rattle.handoff.specs.Ends.{QueueId as ClientQueueId, TakerValue}
@@ -34,7 +34,7 @@ post_of place seat = record { place = place; seat = seat }
 abbrev pub route_at : {T C N F D : Type 0} → FeedWords F D → PlaceValue T C N F → OrderRoute N
 route_at feeds place = route_to (feeds.named place.feeds) place.orders
 
--- what a worker leaves of its post: its end of the queue of clients, its seat, which still fits the shelves, and the sessions of the clients that it
+-- what a worker returns: its end of the queue of clients, its seat, which still fits the shelves, and the sessions of the clients that it
 -- took there
 pub record IsWorked {C R W T S N F D : Type 0} (words : SessionWords C R W T S N) (feeds : FeedWords F D) (post : PostValue T S C N F)
     (taker : TakerValue C) (share : ShareValue R W S N) : Type 0 where
@@ -50,7 +50,7 @@ pub record QueuesValue (C N : Type 0) : Type 0 where
 abbrev pub queues_of : {C N : Type 0} → DealerValue C → KeeperValue N → QueuesValue C N
 queues_of clients orders = record { clients = clients; orders = orders }
 
--- a worker is joined for whom the queue of clients was closed: its ends of both queues are back, and what it leaves of its post is added to the work
+-- a worker is joined for whom the queue of clients was closed: its ends of both queues are back, and what it returns is added to the work
 pub record IsJoined {C R W T S N F D : Type 0} (words : SessionWords C R W T S N) (feeds : FeedWords F D) (post : PostValue T S C N F)
     (a b : QueuesValue C N × WorkValue R W S N) : Type 0 where
   pub taker : TakerValue C

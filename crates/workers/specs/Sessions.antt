@@ -39,7 +39,7 @@ worker_start seat route = record { seat = seat; route = route }
 abbrev pub worker_starts : {S N : Type 0} → List S → OrderRoute N → List (WorkerStart S N)
 worker_starts seats route = map (λ seat. worker_start seat route) seats
 
--- what a worker leaves: its clients' sessions, its seat, and its orders
+-- what a worker returns: its clients' sessions, its seat, and its orders
 pub record ShareValue (R W S N : Type 0) : Type 0 where
   pub sessions : List (Session R W S)
   pub seat : S
@@ -48,7 +48,7 @@ pub record ShareValue (R W S N : Type 0) : Type 0 where
 abbrev pub share_of : {R W S N : Type 0} → List (Session R W S) → S → WorkerOrdersValue N → ShareValue R W S N
 share_of sessions seat orders = record { sessions = sessions; seat = seat; orders = orders }
 
--- what all workers leave: the sessions, worker after worker; and each one's seat and orders
+-- what all workers return: the sessions, worker after worker; and each one's seat and orders
 pub record WorkValue (R W S N : Type 0) : Type 0 where
   pub sessions : List (Session R W S)
   pub seats : List S
@@ -176,7 +176,7 @@ module _ {C R W T S N : Type 0} (words : SessionWords C R W T S N) where
   AreShares (start ∷ starts) (hand ∷ hands) (share ∷ shares) = IsShare start hand share × AreShares starts hands shares
   AreShares _ _ _ = ⊥
 
-  -- the clients are dealt to the workers at these posts, each to one and once; and what the workers leave is each one's share, end to end: one
+  -- the clients are dealt to the workers at these posts, each to one and once; and what the workers return is each one's share, end to end: one
   -- session for each client
   pub record AreAllServed (clients : List C) (starts : List (WorkerStart S N)) (work : WorkValue R W S N) : Type 0 where
     pub hands : List (List C)

@@ -199,7 +199,7 @@ fn run_in<
 
 // Has all clients served, by a worker at each of these seats: starts the worker of the last seat, calls itself for the
 // other seats, and joins that worker. Without a seat, it deals all clients and closes their queue for so many takers.
-// Returns the clients' source, and what these workers leave.
+// Returns the clients' source, and what these workers return.
 fn serve_at<
     's,
     A,

@@ -1,10 +1,10 @@
-//! What workers leave.
+//! What workers return.
 
 use crate::served::Served;
 use client_queue::Taker;
 use load_orders::{GhostList, UsedOrders};
 
-/// What a worker leaves: its clients' sessions, its end of the queue of clients, and its seat.
+/// What a worker returns: its clients' sessions, its end of the queue of clients, and its seat.
 #[derive(Drop)]
 pub(crate) struct Share<C: Drop, I, O, S> {
     pub served: Served<I, O, S>,
@@ -12,7 +12,7 @@ pub(crate) struct Share<C: Drop, I, O, S> {
     pub seat: S,
 }
 
-/// What several workers leave: their clients' sessions, their seats, and the orders of each.
+/// What several workers return: their clients' sessions, their seats, and the orders of each.
 #[derive(Drop)]
 pub(crate) struct Work<I, O, S, N: Drop> {
     pub served: Served<I, O, S>,
