@@ -22,7 +22,8 @@ use std::marker::{Brand, Model, PhantomData};
 use std::sync::Arc;
 
 /// A name of shelves: a type that stands for one table, so that the type of a seat, a notice or a loader says to which
-/// table it belongs. `Brand` gives a fresh one for each call.
+/// table it belongs. Code that is generic over names is proved for every table. It is called with the kit's marker type
+/// `Brand`, for which the caller's proof picks a table at each call, in place of the one in the `impl` below.
 pub trait ShelvesName {
     ghost use Rattle.atomic_table.specs.Seated.{TableId};
 

@@ -96,6 +96,7 @@ impl ShelfLoader {
         ensures noted { self.new ≡ record self.old { view = gives_notice self.old.view } }
         ensures notice { (result.table ≡ self.old.table) × (result.version ≡ self.old.current) }
     {
+        // This reads a field so that the proof knows the invariant of the struct; it does nothing.
         let _ = &self.current;
         let table_seat = note(table, &mut self.table_seat);
         Notice::of(table_seat, self.current)

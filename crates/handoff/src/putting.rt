@@ -74,6 +74,7 @@ impl<I: Drop, P: PutRule<I>> PutEnd<I, P> {
         ensures refused { IfErr result (λ fault. IsTurnedAway P.Protocol.holds P.room self.old fault
             × (self.new ≡ once_tried self.old)) }
     {
+        // Counts the try in what contracts see of this end: splitting its pass is the step by which that may change.
         drop(self.sender.another::<Tries>(&mut self.pass));
         match self
             .sender

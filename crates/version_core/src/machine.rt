@@ -291,6 +291,7 @@ impl Core {
         ensures { MatchOption result ((k : ℕ)
             → ¬ (IsFree self.now k)) (λ k. IsFree self.now k × ((j : ℕ) → j < k → ¬ (IsFree self.now j))) }
     {
+        // This reads a field so that the proof knows the invariant of the struct; it does nothing.
         let _ = &self.current;
         for k in 0..8 {
             if self.is_free(k) {
