@@ -9,9 +9,9 @@ ghost use Rattle.criteria.specs.Laws.{Admits};
 ghost use Rattle.fronts.specs.Offered.{TakesOffer, LosesOffer};
 ghost use Rattle.fronts.specs.Labels.{AreLabels, HasTrip, labels_at, trips_of};
 
-use crate::vectors::copies;
 use crate::run_labels::{RunLabels, offer_run};
 use crate::slot_labels::{NO_TAG, count_at, label_of, offer_slot};
+use crate::vectors::copies;
 use criteria::Criterion;
 use std::alloc::{AllocError, Global};
 

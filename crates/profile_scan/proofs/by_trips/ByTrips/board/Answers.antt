@@ -24,9 +24,9 @@ board_beyond-requires-clause-has g c =
     has_bags_still (g.S.ConnSource.timetable c.args.source.now) (question c.args.asked.now.query) c.args.asked.now.starts c.args.hop.now c.args.self.now
     c.requires c.board.new.self c.in_ok-board.ensures
     (λ none.
-        let there = subst (λ bags. c.args.hop.now.connection.trip < length bags) c.deref.ensures.value (c.has_any.ensures.some c.if-not-has_any.false) in
-        let empty = ap (λ bags. length bags) none in
-        omega (arith, there, empty))
+    let there = subst (λ bags. c.args.hop.now.connection.trip < length bags) c.deref.ensures.value (c.has_any.ensures.some c.if-not-has_any.false) in
+    let empty = ap (λ bags. length bags) none in
+    omega (arith, there, empty))
 
 pub returns : goal.returns
 returns g c =
