@@ -17,9 +17,9 @@ grown : (g : given.Over) (c : goal.In_ok-leave_front g) → Extends c.args.items
 grown g c = extends_on c.args.items.now.items c.push_others.new.items.items c.leave_front.new.items.items
     (_, c.in_ok-push_others.ensures) (_, c.in_ok-leave_front.ensures)
 
-pub returns-in_err-append_others : goal.returns-in_err-append_others
-returns-in_err-append_others g c =
-    match_err _ _ c.from_residual-in_err-append_others.result c.from_residual-in_err-append_others.ensures.1
+pub returns-in_err-push_others : goal.returns-in_err-push_others
+returns-in_err-push_others g c =
+    match_err _ _ c.from_residual-in_err-push_others.result c.from_residual-in_err-push_others.ensures.1
     (items_added (g.C.Criterion.rules c.args.criterion.now) c.args.entries.now.items c.args.items.now.items
     c.push_others.new.items.items c.requires.may.sound c.in_err-push_others.ensures)
 
