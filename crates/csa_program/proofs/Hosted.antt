@@ -1,5 +1,5 @@
 -- The run of a server, once it has ended.
-use Rattle.std.proofs.Common.{◌≡◌, ℕ, List, [], Bool, length, subst, sym}
+use Rattle.std.proofs.Common.{◌≡◌, ℕ, List, [], Bool, false, length, subst, sym}
 use Rattle.atomic_table.specs.Seated.{TableId}
 use Rattle.command_requests.specs.declared.ends.SessionCounts.{SessionCounts}
 use Rattle.command_requests.specs.declared.requests.ServeRequest.{ServeRequest}
@@ -32,12 +32,13 @@ module _ {C R W K F D : Type 0} (words : ReplyForm → SessionWords C R W TableI
   -- the run of a server that began with these clients, shelves and feeds, and ended so
   pub hosted_run : (table : TableId) (seats : List ShelfSeatValue) (loader : ShelfLoaderValue) (clients : K) (feeds : F) (IsWanted : ℕ → Type 0)
       (ends : SessionCounts) (is_deaf : Bool)
-      → loader ≡ first_loader table image → SeatsHanded table request.workers.number seats → source.came clients ≡ [] → keeps request clients
+      → loader ≡ first_loader table image → SeatsHanded table request.workers.number seats → source.came clients ≡ [] → has_failed clients ≡ false
+      → keeps request clients
       → are_feeds request zone_bytes feeds → IsWanted request.sessions
       → IsRunTo {D = D} (IsRunAt (words (form_asked request)) source loads (server_input_of clients table seats loader feeds)) IsWanted has_failed
       ends is_deaf
       → IsHosted words source loads keeps has_failed are_feeds request image zone_bytes ends is_deaf
-  hosted_run table seats loader clients feeds IsWanted ends is_deaf first new none kept asked wanted to = record {
+  hosted_run table seats loader clients feeds IsWanted ends is_deaf first new none whole kept asked wanted to = record {
     table = table;
     seats = seats;
     clients = clients;
@@ -45,6 +46,7 @@ module _ {C R W K F D : Type 0} (words : ReplyForm → SessionWords C R W TableI
     ran = to.ran;
     new = new;
     none_came = none;
+    whole = whole;
     kept = kept;
     asked = asked;
     run = subst (λ (l : ShelfLoaderValue). IsRunAt (words (form_asked request)) source loads (server_input_of clients table seats l feeds) to.ran)

@@ -1,5 +1,5 @@
 -- A server's whole run, as it was asked for.
-use Rattle.std.specs.Prelude.{◌≡◌, ℕ, List, [], Bool, length}
+use Rattle.std.specs.Prelude.{◌≡◌, ℕ, List, [], Bool, false, length}
 use Rattle.atomic_table.specs.Seated.{TableId}
 use Rattle.command_requests.specs.declared.ends.SessionCounts.{SessionCounts}
 use Rattle.command_requests.specs.declared.requests.ServeRequest.{ServeRequest}
@@ -47,7 +47,7 @@ module _ {C R W K F D : Type 0} (words : ReplyForm → SessionWords C R W TableI
     (loads : LoadWords F D TableId ShelfLoaderValue NoticeValue) (keeps : ServeRequest → K → Type 0) (has_failed : K → Bool)
     (are_feeds : ServeRequest → List ℕ → F → Type 0) where
   -- a whole run of a server over new shelves that hold the image as version 1, of the feeds, at the seats of the workers and with the form of replies that are
-  -- asked for. As many clients came and were served as are asked for, unless accepting failed, and their sessions ended in these ways
+  -- asked for. Accepting hadn't failed before. As many clients came and were served as are asked for, unless it failed, and their sessions ended in these ways
   pub record IsHosted (request : ServeRequest) (image : ImageValue) (zone_bytes : List ℕ) (ends : SessionCounts) (is_deaf : Bool) : Type 0 where
     pub table : TableId
     pub seats : List ShelfSeatValue
@@ -56,6 +56,7 @@ module _ {C R W K F D : Type 0} (words : ReplyForm → SessionWords C R W TableI
     pub ran : ServingOutcome R W K ShelfSeatValue ShelfLoaderValue NoticeValue D
     pub new : SeatsHanded table request.workers.number seats
     pub none_came : source.came clients ≡ []
+    pub whole : has_failed clients ≡ false
     pub kept : keeps request clients
     pub asked : are_feeds request zone_bytes feeds
     pub run : IsRunAt (words (form_asked request)) source loads (server_input_of clients table seats (first_loader table image) feeds) ran

@@ -26,11 +26,11 @@ use Rattle.image_commands.specs.Opening.{IsRefusedImage, PrintsOver, SpellsImage
 use Rattle.feed_commands.specs.Refusing.{IsFeedRefusal, PrintsOfFeed}
 use Rattle.feed_loader.specs.declared.plan.Plan.{Plan}
 use Rattle.feed_plans.specs.Planning.{IsPlanBy}
-use Rattle.feed_plans.specs.Zoning.{AreZoneBytes, IsNoZoneOf}
+use Rattle.feed_plans.specs.Zoning.{AreZoneBytes, IsNoZoneOf, IsZoneUnreadable}
 use Rattle.feed_commands.specs.Stations.{IsStopsRefusal, IsTextOf}
 use Rattle.feed_commands.specs.Tabling.{IsCounts}
 use Rattle.image_commands.specs.declared.asked.ImageRequest.TheVariants as images
-use Rattle.csa_program.specs.Serving.{IsEndAt}
+use Rattle.csa_program.specs.Serving.{IsEndAt, MayHost}
 
 -- a text was printed; or the output has a fault, and a first part of it was
 abbrev pub IsTextEnd : List ℕ → Option ErrorKind → ℕ → Option (List ℕ) → Option (List ℕ) → Type 0
@@ -62,8 +62,11 @@ pub record IsTableEnd (may_hold : List ℕ → Option (List ℕ) → Type 0) (ma
       ⊎ ((image : ImageValue) × HoldsOfBytes may_hold request.image.now input (SpellsImage image)
       × IsTableSpent may_hold image request before after)
 
--- `may_hold` says what a file at a path may hold, and the path `-` is the input; `may_show` what the clock may show
-module _ (may_hold : List ℕ → Option (List ℕ) → Type 0) (may_show : Option ℤ → Type 0) (input : Option (List ℕ)) (request : ServeRequest) where
+-- `may_hold` says what a file at a path may hold, and `may_fail` that it may not be read; the path `-` is the input, of which it is said whether a read
+-- failed; `may_show` says what the clock may show, `may_refuse` that nothing may listen at a port, and `may_host` in which ways a server's sessions may have
+-- ended
+module _ (may_hold : List ℕ → Option (List ℕ) → Type 0) (may_fail : List ℕ → Type 0) (may_show : Option ℤ → Type 0) (may_refuse : ℕ → Type 0)
+    (may_host : MayHost) (input : Option (List ℕ)) (input_failed : Type 0) (request : ServeRequest) where
   -- the bytes are those of the zone's file, and a plan was made of them as it is asked for
   abbrev pub IsPlanned : List ℕ → Type 0
   IsPlanned zone_bytes = AreZoneBytes may_hold request.plan.zone zone_bytes × ((plan : Plan) × IsPlanBy may_show request.plan zone_bytes plan)
@@ -74,7 +77,7 @@ module _ (may_hold : List ℕ → Option (List ℕ) → Type 0) (may_show : Opti
       ⊎ ((zone_bytes : List ℕ) × IsPlanned zone_bytes × PrintsRefusal (IsRefusedImage may_hold request.image.now input) status line)
 
   -- a server ended so, at the port that is asked for, if one is; at its path was this image, and its plan was made of these bytes of its zone's file
-  pub record IsServed (status : ℕ) (before after : Option (List ℕ)) : Type 0 where
+  pub record IsServed (fault : Option ErrorKind) (status : ℕ) (before after : Option (List ℕ)) : Type 0 where
     pub image : ImageValue
     pub zone_bytes : List ℕ
     pub port : ℕ
@@ -82,11 +85,15 @@ module _ (may_hold : List ℕ → Option (List ℕ) → Type 0) (may_show : Opti
     pub held : HoldsOfBytes may_hold request.image.now input (SpellsImage image)
     pub at : request.port ≢ 0 → port ≡ request.port
     pub small : port < 65_536
-    pub ended : IsEndAt port before after status
+    pub ended : IsEndAt (may_host request image zone_bytes) port fault before after status
 
-  -- a server was refused, or can't be begun, for whatever reason, or ended so
+  -- a server can't be begun: its zone's file or its image may not be read, or nothing may listen at its port
+  abbrev pub IsUnservable : Type 0
+  IsUnservable = IsZoneUnreadable may_fail request.plan.zone ⊎ IsUnreadable may_fail request.image.now input_failed ⊎ may_refuse request.port
+
+  -- a server was refused, or can't be begun, or ended so
   abbrev pub IsServeEnd : Option ErrorKind → ℕ → Option (List ℕ) → Option (List ℕ) → Type 0
-  IsServeEnd fault status before after = IsOutcome IsServeRefusal (Unit {0}) fault status before after ⊎ IsServed status before after
+  IsServeEnd fault status before after = IsOutcome IsServeRefusal IsUnservable fault status before after ⊎ IsServed fault status before after
 
 -- the image that a command is over may not be read, or a file that it needs besides may not be read or written
 abbrev pub IsUnusableOver : (List ℕ → Option (List ℕ) → Type 0) → (List ℕ → Type 0) → OutFiles → Type 0 → ImageRequest → Type 0
@@ -94,9 +101,11 @@ IsUnusableOver may_hold may_fail disk input_failed asked =
     IsUnreadable may_fail (path_of asked) input_failed ⊎ IsUnusable may_fail may_hold disk asked
 
 -- `gives` says what a disk of some kind may give for a folder in some state and the name of a file, and `disk` what is known of files that are written;
--- `may_fail` that a file at a path may not be read, and `input_failed` that a read of the input failed; `fault` is that of the output
+-- `may_fail` that a file at a path may not be read, `may_refuse` that nothing may listen at a port, `may_host` in which ways a server's sessions may have
+-- ended, and `input_failed` that a read of the input failed; `fault` is that of the output
 module _ {D : Type 0} (may_hold : List ℕ → Option (List ℕ) → Type 0) (may_fail : List ℕ → Type 0) (gives : Gives D) (disk : OutFiles)
-    (may_show : Option ℤ → Type 0) (input : Option (List ℕ)) (input_failed : Type 0) (fault : Option ErrorKind) where
+    (may_show : Option ℤ → Type 0) (may_refuse : ℕ → Type 0) (may_host : MayHost) (input : Option (List ℕ)) (input_failed : Type 0)
+    (fault : Option ErrorKind) where
   -- a command ended so, over the image at its path, or over the files of its folder
   abbrev pub IsEnd : CommandRequest → ℕ → Option (List ℕ) → Option (List ℕ) → Type 0
   IsEnd (requests.Verify image) = IsOutcome (PrintsOver may_hold image.now input (λ i. PrintsAsked may_hold disk i (images.Verify image)))
@@ -122,7 +131,7 @@ module _ {D : Type 0} (may_hold : List ℕ → Option (List ℕ) → Type 0) (ma
       (IsUnusableOver may_hold may_fail disk input_failed (images.Stops request)) fault
   IsEnd (requests.Upgrade request) = IsOutcome (PrintsOver may_hold request.image.now input (λ i. PrintsAsked may_hold disk i (images.Upgrade request)))
       (IsUnusableOver may_hold may_fail disk input_failed (images.Upgrade request)) fault
-  IsEnd (requests.Serve request) = IsServeEnd may_hold may_show input request fault
+  IsEnd (requests.Serve request) = IsServeEnd may_hold may_fail may_show may_refuse may_host input input_failed request fault
 
   -- a command line ended so: the request that it makes, or the help; or it makes none, or memory ran out, and nothing was printed
   abbrev pub IsEndOf : Result CommandRequest NoCommand → ℕ → Option (List ℕ) → Option (List ℕ) → Type 0

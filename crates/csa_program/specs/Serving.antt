@@ -1,11 +1,13 @@
 -- What a server counts and prints, and in which form it replies.
 use Rattle.std.specs.Prelude.{◌≡◌, ◌⊎◌, List, ℕ, ◌++◌, Bool, true, false, Option, codes, decimal, take}
 use Rattle.std.specs.Io.KnownBytes.{Appends}
+use Rattle.std.specs.declared.io.ErrorKind.{ErrorKind}
 use Rattle.command_endings.specs.Ending.{IsBegun}
 use Rattle.command_requests.specs.Ending.{sessions_in, status_of}
 use Rattle.command_requests.specs.declared.statuses.TheConstants.{INPUT_OUTPUT, OUT_OF_MEMORY}
 use Rattle.command_requests.specs.declared.ends.SessionCounts.{SessionCounts}
 use Rattle.command_requests.specs.declared.requests.ServeRequest.{ServeRequest}
+use Rattle.image_files.specs.Watching.{HasFault}
 use Rattle.image_layout.specs.Image.{ImageValue}
 use Rattle.std.specs.Option.{option_map}
 use Rattle.answer_replies.specs.declared.point_form.PointForm.{PointForm}
@@ -35,19 +37,19 @@ abbrev pub served_text : SessionCounts → List ℕ
 served_text ends = (codes "served " ++ decimal (sessions_in ends)) ++ codes "\n"
 
 -- how a server at this port ended whose sessions ended in these ways, and of which it is said whether accepting failed: with the status that follows from
--- that, once it has printed its port and the number of the sessions; or a write failed, or memory ran out, once it has printed its port, and of the
+-- that, once it has printed its port and the number of the sessions; or the output has a fault, or memory ran out, once it has printed its port, and of the
 -- number's line a first part, or nothing
-abbrev pub IsServerEnd : ℕ → Option (List ℕ) → Option (List ℕ) → SessionCounts → Bool → ℕ → Type 0
-IsServerEnd port before after ends is_deaf status =
+abbrev pub IsServerEnd : ℕ → Option ErrorKind → Option (List ℕ) → Option (List ℕ) → SessionCounts → Bool → ℕ → Type 0
+IsServerEnd port fault before after ends is_deaf status =
     ((status ≡ status_of is_deaf ends) × Appends before after (port_text port ++ served_text ends))
-    ⊎ ((status ≡ INPUT_OUTPUT) × (count : ℕ) × Appends before after (port_text port ++ take count (served_text ends)))
+    ⊎ ((status ≡ INPUT_OUTPUT) × HasFault fault × (count : ℕ) × Appends before after (port_text port ++ take count (served_text ends)))
     ⊎ ((status ≡ OUT_OF_MEMORY) × Appends before after (port_text port))
 
--- how a server at this port ended that served nobody: a write failed, and of its port's line it has printed a first part; or memory ran out, and it has
--- printed that line or nothing
-abbrev pub IsNoServerEnd : ℕ → Option (List ℕ) → Option (List ℕ) → ℕ → Type 0
-IsNoServerEnd port before after status =
-    ((status ≡ INPUT_OUTPUT) × IsBegun before after (port_text port))
+-- how a server at this port ended that served nobody: the output has a fault, and of its port's line it has printed a first part; or memory ran out, and it
+-- has printed that line or nothing
+abbrev pub IsNoServerEnd : ℕ → Option ErrorKind → Option (List ℕ) → Option (List ℕ) → ℕ → Type 0
+IsNoServerEnd port fault before after status =
+    ((status ≡ INPUT_OUTPUT) × HasFault fault × IsBegun before after (port_text port))
     ⊎ ((status ≡ OUT_OF_MEMORY) × ((after ≡ before) ⊎ Appends before after (port_text port)))
 
 -- whether a server of this image that was asked for, with these bytes of its zone's file, may have had sessions that ended in these ways, and may have failed
@@ -55,8 +57,8 @@ IsNoServerEnd port before after status =
 abbrev pub MayHost : Type 1
 MayHost = ServeRequest → ImageValue → List ℕ → SessionCounts → Bool → Type 0
 
--- one or the other
-abbrev pub IsEndAt : ℕ → Option (List ℕ) → Option (List ℕ) → ℕ → Type 0
-IsEndAt port before after status =
-    IsNoServerEnd port before after status
-    ⊎ ((ends : SessionCounts) × (is_deaf : Bool) × IsServerEnd port before after ends is_deaf status)
+-- one or the other; `may_end` says in which ways the server's sessions may have ended
+abbrev pub IsEndAt : (SessionCounts → Bool → Type 0) → ℕ → Option ErrorKind → Option (List ℕ) → Option (List ℕ) → ℕ → Type 0
+IsEndAt may_end port fault before after status =
+    IsNoServerEnd port fault before after status
+    ⊎ ((ends : SessionCounts) × (is_deaf : Bool) × may_end ends is_deaf × IsServerEnd port fault before after ends is_deaf status)

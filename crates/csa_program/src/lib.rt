@@ -20,6 +20,7 @@ mod draining;
 mod explaining;
 mod folders;
 mod line_queue;
+mod listening;
 mod logging;
 mod machine;
 mod requests;
@@ -29,7 +30,9 @@ mod sockets;
 
 pub use crate::asking::Asks;
 pub use crate::explaining::Explains;
+pub use crate::listening::{BoundListener, FolderLeave, Listens};
 pub use crate::machine::Machine;
+pub use crate::serve::Hosts;
 pub use crate::showing::ShownWriter;
 use command_endings::status;
 use command_line::{NoCommand, wants_warnings};
@@ -42,7 +45,6 @@ use image_commands::{ImageRequest, answer, matrix, open_image};
 use image_files::{ImageDisk, OutDisk, Watched, WatchedRead};
 use std::convert::AsStr;
 use std::io::{ErrorKind, IsTerminal, Write};
-use std::net::{Net, TcpListener, TcpStream};
 use std::thread::Threads;
 use std::time::Clock;
 
@@ -55,7 +57,7 @@ use std::time::Clock;
 /// asks for nothing. `errors` also says that memory ran out, or why `output` can't be written, unless
 /// it is a pipe that nobody reads any more. Where `errors` is a terminal, progress is shown there.
 pub fn run<
-    H: Machine + ImageDisk<Image = H::File> + Net<Listener = TcpListener, Stream = TcpStream>,
+    H: Machine + ImageDisk<Image = H::File>,
     S: AsStr,
     I: WatchedRead,
     O: Watched,
@@ -64,8 +66,9 @@ pub fn run<
     ensures { (asked : Result CommandRequest NoCommand)
         × H.Asks.may_ask rt.now (map S.text words.now) asked
         × IsEndOf (H.ImageDisk.may_hold rt.now) (H.ImageDisk.may_fail rt.now) H.Disk.gives (H.OutDisk.files rt.now)
-        (H.WallClock.may_show rt.now) (I.Read.remaining input.old) (I.has_failed input.new) (O.noted output.new)
-        asked result (O.Write.contents output.old) (O.Write.contents output.new) }
+        (H.WallClock.may_show rt.now) (H.Listens.may_refuse rt.now) (⟦<H as Hosts>⟧.may_host rt.now)
+        (I.Read.remaining input.old) (I.has_failed input.new) (O.noted output.new) asked result
+        (O.Write.contents output.old) (O.Write.contents output.new) }
 {
     let notes = TableNotes {
         is_terminal: errors.is_terminal(),
@@ -133,7 +136,7 @@ fn explain_unwritten<E: Write>(errors: &mut E, fault: Option<ErrorKind>) {
 
 // Runs the request that was read, or says why there is none. The status says where memory ran out.
 fn run_read<
-    H: Machine + ImageDisk<Image = H::File> + Net<Listener = TcpListener, Stream = TcpStream>,
+    H: Machine + ImageDisk<Image = H::File>,
     S: AsStr,
     I: WatchedRead,
     O: Watched,
@@ -148,8 +151,9 @@ fn run_read<
     notes: TableNotes,
 ) -> u8
     ensures { IsEndOf (H.ImageDisk.may_hold rt.now) (H.ImageDisk.may_fail rt.now) H.Disk.gives (H.OutDisk.files rt.now)
-        (H.WallClock.may_show rt.now) (I.remaining input.old) (I.has_failed input.new) (O.noted output.new)
-        asked.entry result (O.contents output.old) (O.contents output.new) }
+        (H.WallClock.may_show rt.now) (H.Listens.may_refuse rt.now) (⟦<H as Hosts>⟧.may_host rt.now)
+        (I.remaining input.old) (I.has_failed input.new) (O.noted output.new) asked.entry result
+        (O.contents output.old) (O.contents output.new) }
 {
     match asked {
         Ok(request) => run_request(rt, request, input, output, errors, notes),
@@ -165,7 +169,7 @@ fn run_read<
 
 // Runs a request.
 fn run_request<
-    H: Machine + ImageDisk<Image = H::File> + Net<Listener = TcpListener, Stream = TcpStream>,
+    H: Machine + ImageDisk<Image = H::File>,
     I: WatchedRead,
     O: Watched,
     E: Write + Send,
@@ -178,8 +182,9 @@ fn run_request<
     notes: TableNotes,
 ) -> u8
     ensures { IsEnd (H.ImageDisk.may_hold rt.now) (H.ImageDisk.may_fail rt.now) H.Disk.gives (H.OutDisk.files rt.now)
-        (H.WallClock.may_show rt.now) (I.remaining input.old) (I.has_failed input.new) (O.noted output.new)
-        request.entry result (O.contents output.old) (O.contents output.new) }
+        (H.WallClock.may_show rt.now) (H.Listens.may_refuse rt.now) (⟦<H as Hosts>⟧.may_host rt.now)
+        (I.remaining input.old) (I.has_failed input.new) (O.noted output.new) request.entry result
+        (O.contents output.old) (O.contents output.new) }
 {
     let warnings = notes.warnings;
     match request {

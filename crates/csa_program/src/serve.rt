@@ -25,6 +25,7 @@ use crate::client_sessions::{ClientSession, SessionRules};
 use crate::explaining::{Explains, warn_of_idle_feed};
 use crate::folders::warn_of_folders;
 use crate::line_queue::{LineQueue, LineWriter};
+use crate::listening::{BoundListener, FolderLeave, Listens};
 use crate::logging::{Host, LoaderErrors, SharedErrors, log_load};
 use crate::machine::Machine;
 use crate::requests::Requests;
@@ -45,12 +46,12 @@ use orders::OpenGate;
 use std::alloc::{AllocError, Global};
 use std::io::{ErrorKind, Write};
 use std::marker::Brand;
-use std::net::{Ipv4Addr, Net, TcpListener, TcpStream};
+use std::net::{TcpListener, TcpStream};
 use std::rt::Files;
 use std::sync::{Arc, Wait};
+use std::thread;
 use std::thread::Threads;
 use std::time::{Clock, Instant};
-use std::{io, thread};
 use text_pieces::{put_number, put_text};
 use workers::{
     Client, Clients, DrawPermit, Feeds, LoadRefusal, LoadedVersion, PointForm, ReplyForm, Served,
@@ -70,10 +71,6 @@ struct Setup<'a> {
     ghost named: { length names.items ≡ length request.now.feeds.items },
     ghost texts: { map string_bytes names.items ≡ map (λ feed. feed.name.now) request.now.feeds.items },
 }
-
-/// The leave to load the feeds of a server's folders.
-#[derive(Drop)]
-struct FolderLeave(());
 
 /// The feeds that may be loaded: those that the command line names.
 #[derive(Drop)]
@@ -118,7 +115,7 @@ impl<'a, H: Disk + Explains + Clock + WallClock + Sync> Feeds for Folders<'a, H>
         }
     }
 
-    // The trait's clause, which `rattle check` can't give to a method with its associated type in a parameter.
+    // The trait's clause: a method with its associated type in a parameter has to repeat it.
     fn files(&self, index: usize, _permit: DrawPermit<FolderLeave>) -> Option<FolderFiles<'a, H>>
         ensures { MatchOption result (length self.now.setup.now.names.items ≤ index)
             (λ files. (⟦<FolderFiles<'a, H> as FeedFiles>⟧.words.failed files ≡ [])
@@ -164,8 +161,8 @@ impl<'a, H: Disk + Explains + Clock + WallClock + Sync> Feeds for Folders<'a, H>
     }
 }
 
-// A machine that servers run on.
-trait Hosts {
+/// A machine that servers run on. It has no code: contracts say by it how the sessions of a server may have ended.
+pub trait Hosts {
     // Whether a server that was asked for may have had sessions that ended so.
     ghost may_host: { Self → MayHost };
 }
@@ -186,14 +183,16 @@ impl<'a, H: Disk + Explains + Clock + WallClock + Threads + Wait + Sync + 'a> Ho
 }
 
 /// Serves sessions until as many were served as are asked for, or prints the first thing that is wrong.
-pub fn run<
-    H: Machine + ImageDisk<Image = H::File> + Net<Listener = TcpListener, Stream = TcpStream>,
-    I: WatchedRead,
-    O: Watched,
-    E: Write + Send,
->(rt: &H, request: ServeRequest<'_>, input: &mut I, output: &mut O, errors: &mut E) -> u8
-    ensures { IsServeEnd (H.ImageDisk.may_hold rt.now) (H.WallClock.may_show rt.now)
-        (I.remaining input.old) request.entry (O.noted output.new) result
+pub fn run<H: Machine + ImageDisk<Image = H::File>, I: WatchedRead, O: Watched, E: Write + Send>(
+    rt: &H,
+    request: ServeRequest<'_>,
+    input: &mut I,
+    output: &mut O,
+    errors: &mut E,
+) -> u8
+    ensures { IsServeEnd (H.ImageDisk.may_hold rt.now) (H.ImageDisk.may_fail rt.now) (H.WallClock.may_show rt.now)
+        (H.Listens.may_refuse rt.now) (⟦<H as Hosts>⟧.may_host rt.now) (I.remaining input.old)
+        (I.has_failed input.new) request.entry (O.noted output.new) result
         (O.contents output.old) (O.contents output.new) }
 {
     let alloc = rt.alloc();
@@ -224,11 +223,11 @@ pub fn run<
         warn_of_bases(alloc, &image, &setup.first, errors);
     }
     warn_of_folders(rt, &request.feeds, errors);
-    let bound = match bound_at(rt, request.port) {
+    let bound = match rt.bound_at(request.port) {
         Ok(bound) => bound,
         Err(error) => return none_received(alloc, errors, request.port, error.kind()),
     };
-    serve_at(rt, &bound, image, &setup, output, errors)
+    serve_at(rt, bound, image, &setup, output, errors)
 }
 
 // The largest block whose return glibc's malloc takes note of, less the room that it needs itself.
@@ -241,14 +240,14 @@ fn keep_freed_memory(alloc: Global) {
     drop(block);
 }
 
-// Prints the port, serves whoever comes to it, and prints how many sessions there were.
+// Prints the port, serves the clients that come to it, and prints how many sessions there were.
 fn serve_at<
     H: Disk + Explains + Clock + WallClock + Threads + Wait + Sync,
     O: Watched,
     E: Write + Send,
 >(
     rt: &H,
-    bound: &BoundListener,
+    bound: BoundListener,
     image: Verified,
     setup: &Setup<'_>,
     output: &mut O,
@@ -256,7 +255,8 @@ fn serve_at<
 ) -> u8
     requires { IsPlanBy (H.WallClock.may_show rt.now) setup.now.request.now.plan setup.now.zone_bytes.items
         setup.now.first }
-    ensures { IsEndAt bound.now.port (O.contents output.old) (O.contents output.new) result }
+    ensures { IsEndAt (⟦<H as Hosts>⟧.may_host rt.now setup.now.request.now image setup.now.zone_bytes.items)
+        bound.port (O.noted output.new) (O.contents output.old) (O.contents output.new) result }
 {
     let alloc = setup.alloc;
     keep_freed_memory(alloc);
@@ -273,11 +273,11 @@ fn serve_at<
     }
 }
 
-// Serves whoever comes to the port, while a thread of its own writes what the server's threads report. Returns how many
-// sessions ended in each way, and whether accepting failed; `None` if memory ran out.
+// Serves the clients that come to the port, while a thread of its own writes what the server's threads report. Returns
+// how many sessions ended in each way, and whether accepting failed; `None` if memory ran out.
 fn host_reported<H: Disk + Explains + Clock + WallClock + Threads + Wait + Sync, E: Write + Send>(
     rt: &H,
-    bound: &BoundListener,
+    bound: BoundListener,
     image: Verified,
     setup: &Setup<'_>,
     queue: LineQueue,
@@ -286,6 +286,8 @@ fn host_reported<H: Disk + Explains + Clock + WallClock + Threads + Wait + Sync,
 ) -> Option<(SessionCounts, bool)>
     requires { IsPlanBy (H.WallClock.may_show rt.now) setup.now.request.now.plan setup.now.zone_bytes.items
         setup.now.first }
+    ensures { IfSome result (λ end. ⟦<H as Hosts>⟧.may_host rt.now setup.now.request.now image
+        setup.now.zone_bytes.items end.0 end.1) }
 {
     let queue = &queue;
     let ((), end) = thread::join(
@@ -300,10 +302,11 @@ fn host_reported<H: Disk + Explains + Clock + WallClock + Threads + Wait + Sync,
     end
 }
 
-// Serves whoever comes to the port, and then closes the queue into which the server's threads report.
+// Serves the clients that come to the port, and then closes the queue into which the server's threads report. Returns
+// how many sessions ended in each way, and whether accepting failed; `None` if memory ran out.
 fn host_until_closed<H: Disk + Explains + Clock + WallClock + Threads + Wait + Sync>(
     rt: &H,
-    bound: &BoundListener,
+    bound: BoundListener,
     image: Verified,
     setup: &Setup<'_>,
     queue: &LineQueue,
@@ -313,9 +316,14 @@ fn host_until_closed<H: Disk + Explains + Clock + WallClock + Threads + Wait + S
     ensures { IfSome result (λ end. ⟦<H as Hosts>⟧.may_host rt.now setup.now.request.now image
         setup.now.zone_bytes.items end.0 end.1) }
 {
+    let BoundListener {
+        listener,
+        port: _,
+        leave,
+    } = bound;
     let folders = Folders { disk: rt, setup };
     let shared = SharedErrors::of(rt, setup.alloc, queue);
-    let end = host(bound, image, &folders, &shared);
+    let end = host(&listener, leave, image, &folders, &shared);
     queue.close(rt);
     end
 }
@@ -337,10 +345,11 @@ fn name_of(alloc: Global, feed: &NamedFolder<'_>) -> Result<String, AllocError>
     String::from_str(alloc, feed.name)
 }
 
-// Serves whoever comes to the port. Returns how many sessions ended in each way, and whether accepting failed; `None`
-// if memory ran out. Whatever the server's threads report goes into one queue.
+// Serves the clients that come to the listener. Returns how many sessions ended in each way, and whether accepting
+// failed; `None` if memory ran out. Whatever the server's threads report goes into one queue.
 fn host<'d, 'f, 'e, H: Disk + Explains + Clock + WallClock + Threads + Wait + Sync>(
-    bound: &'d BoundListener,
+    listener: &'d TcpListener,
+    leave: FolderLeave,
     image: Verified,
     folders: &Folders<'f, H>,
     errors: &'d SharedErrors<'e, H>,
@@ -356,9 +365,9 @@ fn host<'d, 'f, 'e, H: Disk + Explains + Clock + WallClock + Threads + Wait + Sy
         idle: request.idle,
         log: request.log,
     };
-    let acceptor = Acceptor::new(&bound.listener, request.sessions, rules, errors);
+    let acceptor = Acceptor::new(listener, request.sessions, rules, errors);
     let loader_errors = LoaderErrors::of(errors.another());
-    match serve_accepted::<Brand, _, _, _>(acceptor, made, folders, loader_errors) {
+    match serve_accepted::<Brand, _, _, _>(acceptor, made, folders, leave, loader_errors) {
         Ok(end) => Some(end),
         Err(_) => None,
     }
@@ -377,6 +386,7 @@ fn serve_accepted<
     acceptor: Acceptor<'d, L>,
     made: (Shelves, ShelfLoader, Vec<ShelfSeat>),
     folders: &Folders<'f, H>,
+    leave: FolderLeave,
     errors: E,
 ) -> Result<(SessionCounts, bool), WorkersFault<Acceptor<'d, L>>>
     requires named { made.0 ≡ B.table }
@@ -396,7 +406,7 @@ fn serve_accepted<
         acceptor.entry.is_endless acceptor.entry.failed []) (λ left. left.failed) end.0 end.1) }
 {
     let form = form_of(folders.setup.request);
-    let run_result = serve_all::<B, _, _, _, _>(acceptor, made, folders, form, errors)?;
+    let run_result = serve_all::<B, _, _, _, _>(acceptor, made, folders, leave, form, errors)?;
     Ok((ends_of(&run_result.served), run_result.clients.has_failed()))
 }
 
@@ -413,6 +423,7 @@ fn serve_all<
     clients: K,
     made: (Shelves, ShelfLoader, Vec<ShelfSeat>),
     folders: &Folders<'f, H>,
+    leave: FolderLeave,
     form: ReplyForm,
     errors: E,
 ) -> Result<
@@ -447,35 +458,11 @@ fn serve_all<
         seats,
         loader,
         folders,
-        FolderLeave(()),
+        leave,
         &OpenGate,
         form,
         errors,
     )
-}
-
-/// What listens, and at which port.
-#[derive(Drop)]
-struct BoundListener {
-    listener: TcpListener,
-    port: u16,
-}
-
-// What listens at the port, if it is free; at any free one if the port is 0.
-fn bound_at<H: Net<Listener = TcpListener, Stream = TcpStream>>(
-    rt: &H,
-    port: u16,
-) -> io::Result<BoundListener>
-    ensures at { port ≢ 0 → IfOk result (λ bound. bound.port ≡ port) }
-    ensures small { IfOk result (λ bound. bound.port < 65_536) }
-{
-    let listener = TcpListener::bind(rt, (Ipv4Addr::LOCALHOST, port))?;
-    let port = if port == 0 {
-        listener.local_addr()?.port()
-    } else {
-        port
-    };
-    Ok(BoundListener { listener, port })
 }
 
 // In which form profiles are replied, for which windows, and whether between several stops.
@@ -547,7 +534,7 @@ fn none_received<E: Write>(alloc: Global, errors: &mut E, port: u16, kind: Error
 // Prints at which port the server listens.
 fn tell_port<O: Watched>(alloc: Global, port: u16, output: &mut O) -> u8
     ensures { ((result ≡ ACCEPTED) × Appends (O.contents output.old) (O.contents output.new) (port_text port))
-        ⊎ IsNoServerEnd port (O.contents output.old) (O.contents output.new) result }
+        ⊎ IsNoServerEnd port (O.noted output.new) (O.contents output.old) (O.contents output.new) result }
 {
     match port_line(alloc, port) {
         Ok(line) => status::write_text(output, line.as_str(), status::ACCEPTED),
@@ -568,7 +555,7 @@ fn port_line(alloc: Global, port: u16) -> Result<String, AllocError>
 // line can't be printed.
 fn tell_served<O: Watched>(alloc: Global, ends: SessionCounts, is_deaf: bool, output: &mut O) -> u8
     ensures { (port : ℕ) (before : Option (List ℕ)) → Appends before (O.contents output.old) (port_text port)
-        → IsServerEnd port before (O.contents output.new) ends is_deaf result }
+        → IsServerEnd port (O.noted output.new) before (O.contents output.new) ends is_deaf result }
 {
     let status = ends.status(is_deaf);
     match served_line(alloc, ends) {
