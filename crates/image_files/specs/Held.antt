@@ -9,6 +9,6 @@ pub record HoldsOfBytes (may_hold : List ℕ → Option (List ℕ) → Type 0) (
   pub of_file : path ≢ codes "-" → may_hold path held
   pub holds : IfSome held Is
 
--- what is at the path may not be opened or read; or a read of the input failed, for the path `-`
+-- what is at the path may not be opened or read; or a read of the input may fail, for the path `-`
 abbrev pub IsUnreadable : (List ℕ → Type 0) → List ℕ → Type 0 → Type 0
-IsUnreadable may_fail path has_input_failed = ((path ≡ codes "-") × has_input_failed) ⊎ ((path ≢ codes "-") × may_fail path)
+IsUnreadable may_fail path may_input_fail = ((path ≡ codes "-") × may_input_fail) ⊎ ((path ≢ codes "-") × may_fail path)

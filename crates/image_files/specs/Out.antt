@@ -9,8 +9,12 @@ pub record OutFiles : Type 1 where
   pub may_begin : List ℕ → Option (List ℕ) → Type 0
   -- a file that was made or opened at the first path, and is at the second, may have these contents there
   pub may_stand : List ℕ → List ℕ → Option (List ℕ) → Type 0
-  -- a file may not be made, opened or written at this path, or not be brought there
-  pub may_fail : List ℕ → Type 0
+  -- a file may not be made at this path, or not be written once it is made there
+  pub may_not_make : List ℕ → Type 0
+  -- what is at this path may not be opened, or not be written once it is
+  pub may_not_open : List ℕ → Type 0
+  -- a file may not be moved to this path
+  pub may_not_move : List ℕ → Type 0
 
 -- nothing is known
 abbrev pub any_files : OutFiles
@@ -18,5 +22,7 @@ any_files = record {
   special = λ path. Unit {0};
   may_begin = λ path contents. Unit {0};
   may_stand = λ write_path path contents. Unit {0};
-  may_fail = λ path. Unit {0};
+  may_not_make = λ path. Unit {0};
+  may_not_open = λ path. Unit {0};
+  may_not_move = λ path. Unit {0};
 }

@@ -34,9 +34,14 @@ write_path_of file = path_beside file.path.now file.beside
 abbrev pub IsWritePath : OutFiles → List ℕ → List ℕ → Type 0
 IsWritePath disk path write_path = (write_path ≡ part_of path) ⊎ ((write_path ≡ path) × disk.special path)
 
--- a file that is to be at the path may not be written, or not be brought there
+-- a file that is to be at the path may not be made or written beside it, or not be moved there; or at the path is something else than a plain file, which may
+-- not be opened or written
 abbrev pub IsUnwritable : OutFiles → List ℕ → Type 0
-IsUnwritable disk path = disk.may_fail path ⊎ disk.may_fail (part_of path)
+IsUnwritable disk path = disk.may_not_make (part_of path) ⊎ disk.may_not_move path ⊎ (disk.special path × disk.may_not_open path)
+
+-- what is at the path may not be opened or written
+abbrev pub IsUnwritableInto : OutFiles → List ℕ → Type 0
+IsUnwritableInto disk path = disk.may_not_open path ⊎ disk.may_not_move path
 
 -- a file was made or opened so that it will be at the path
 pub record IsNew {F : Type 0} (contents : F → Option (List ℕ)) (disk : OutFiles) (path : List ℕ) (made : NewFile F) : Type 0 where

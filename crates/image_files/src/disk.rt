@@ -20,8 +20,7 @@ pub trait ImageDisk {
     /// Opens the file at a path, at its first byte.
     fn image_file(&self, path: &str) -> io::Result<Self::Image>
         ensures bytes { IfOk result (λ file. may_hold self.now path.now (Self.Image.remaining file)) }
-        ensures read { IfOk result (λ _. (file : Self.Image) → Self.Image.has_failed file
-            → may_fail self.now path.now) }
+        ensures read { IfOk result (λ file. Self.Image.may_fail file → may_fail self.now path.now) }
         ensures failed { IfErr result (λ _. may_fail self.now path.now) };
 }
 

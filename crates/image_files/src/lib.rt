@@ -14,5 +14,5 @@ pub use fault::ImageFileFault;
 pub use out::OutDisk;
 pub use reading::image_words;
 pub use texts::{bytes_at, text_at};
-pub use watching::{Watched, WatchedRead, WatchedWriter, write_all};
+pub use watching::{HeardWrite, Watched, WatchedRead, WatchedWriter, write_all};
 pub use writing::{NewFile, new_file, put_image, put_text_into, settle};

@@ -25,22 +25,22 @@ pub trait OutDisk: Files {
         ensures begun { IfOk result (λ file. (files self.now).may_begin path.now
             (⟦<WatchedWriter<Self::File> as Write>⟧.contents file)) }
         ensures written { IfOk result (λ _. (file : OutFile Self.File) → HasFault file.fault
-            → (files self.now).may_fail path.now) }
-        ensures failed { IfErr result (λ _. (files self.now).may_fail path.now) };
+            → (files self.now).may_not_make path.now) }
+        ensures failed { IfErr result (λ _. (files self.now).may_not_make path.now) };
 
     /// Opens what is at a path, or at the end of the link there. A plain file is emptied.
     fn opened(&self, path: &str) -> io::Result<WatchedWriter<Self::File>>
         ensures begun { IfOk result (λ file. (files self.now).may_begin path.now
             (⟦<WatchedWriter<Self::File> as Write>⟧.contents file)) }
         ensures written { IfOk result (λ _. (file : OutFile Self.File) → HasFault file.fault
-            → (files self.now).may_fail path.now) }
-        ensures failed { IfErr result (λ _. (files self.now).may_fail path.now) };
+            → (files self.now).may_not_open path.now) }
+        ensures failed { IfErr result (λ _. (files self.now).may_not_open path.now) };
 
     /// Moves a file from the path at which it was made or opened to another. It stays if that is the same.
     fn brought(&self, file: &WatchedWriter<Self::File>, from: &str, to: &str) -> io::Result<()>
         ensures stands { OnOk result ((files self.now).may_stand from.now to.now
             (⟦<WatchedWriter<Self::File> as Write>⟧.contents file.now)) }
-        ensures failed { OnErr result ((files self.now).may_fail to.now) };
+        ensures failed { OnErr result ((files self.now).may_not_move to.now) };
 }
 
 impl<H: Files> OutDisk for H {

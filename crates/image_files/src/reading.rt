@@ -27,7 +27,7 @@ pub fn image_words<H: ImageDisk + AllocGlobal, I: WatchedRead>(
     ensures odd { result ≡ Err ImageFileFault.OddLength
         → HoldsOfBytes (H.may_hold rt.now) path.now (I.remaining input.old) (λ bytes. length bytes % 4 ≢ 0) }
     ensures failed { result ≡ Err ImageFileFault.Unreadable
-        → IsUnreadable (H.may_fail rt.now) path.now (I.has_failed input.new) }
+        → IsUnreadable (H.may_fail rt.now) path.now (I.may_fail input.old) }
 {
     let mut piece = new_piece(rt.alloc(), PIECE_WORDS)?;
     if path == "-" {
@@ -47,7 +47,8 @@ fn read_some<R: WatchedRead>(reader: &mut R, piece: &mut [u8]) -> io::Result<usi
     ensures same { length piece.new ≡ length piece.old }
     ensures bytes { IfOk result (λ n. Consumes (R.remaining reader.old) (R.remaining reader.new) (take n piece.new)) }
     ensures end { IfOk result (λ n. n ≡ 0 → 0 < length piece.new → IsAtEnd (R.remaining reader.new)) }
-    ensures failed { IfErr result (λ _. R.has_failed reader.new) }
+    ensures failed { IfErr result (λ _. R.may_fail reader.old) }
+    ensures later { R.may_fail reader.new → R.may_fail reader.old }
 {
     let mut result = reader.read_once(piece);
     for _ in 0..u64::MAX {
@@ -64,7 +65,8 @@ pub(crate) fn fill<R: WatchedRead>(reader: &mut R, piece: &mut [u8]) -> io::Resu
     ensures within { IfOk result (λ n. n ≤ length piece.new) }
     ensures bytes { IfOk result (λ n. Consumes (R.remaining reader.old) (R.remaining reader.new) (take n piece.new)) }
     ensures end { IfOk result (λ n. n < length piece.new → IsAtEnd (R.remaining reader.new)) }
-    ensures failed { IfErr result (λ _. R.has_failed reader.new) }
+    ensures failed { IfErr result (λ _. R.may_fail reader.old) }
+    ensures later { R.may_fail reader.new → R.may_fail reader.old }
 {
     let mut at = 0;
     'pieces: while at < piece.len() {
@@ -89,7 +91,7 @@ fn words_of<R: WatchedRead>(
     ensures spelled { IfOk result (λ words. IfSome (R.remaining reader.old) (λ bytes. bytes_of words.items ≡ bytes)) }
     ensures odd { result ≡ Err ImageFileFault.OddLength
         → IfSome (R.remaining reader.old) (λ bytes. length bytes % 4 ≢ 0) }
-    ensures failed { result ≡ Err ImageFileFault.Unreadable → R.has_failed reader.new }
+    ensures failed { result ≡ Err ImageFileFault.Unreadable → R.may_fail reader.old }
 {
     let mut words = Vec::with_capacity(alloc, ahead)?;
     'pieces: for _ in 0..u64::MAX {

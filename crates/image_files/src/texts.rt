@@ -40,7 +40,7 @@ const PIECE_BYTES: usize = 65_536;
 // Reads a reader to its end.
 fn bytes_of<R: WatchedRead>(alloc: Global, reader: &mut R) -> io::Result<Vec<u8>>
     ensures bytes { IfOk result (λ bytes. IfSome (R.remaining reader.old) (λ held. bytes.items ≡ held)) }
-    ensures failed { IfErr result (λ error. error_kind error ≢ OutOfMemory → R.has_failed reader.new) }
+    ensures failed { IfErr result (λ error. error_kind error ≢ OutOfMemory → R.may_fail reader.old) }
 {
     let mut piece = new_piece(alloc, PIECE_BYTES)?;
     let mut bytes = Vec::new(alloc);

@@ -1,32 +1,71 @@
 //! Readers and writers of which contracts know whether a call failed.
 
-ghost use Rattle.std.specs.Prelude.{◌≡◌, ℕ, None, Option, IfErr, IfOk, OnErr, OnOk, false, take};
+ghost use Rattle.std.specs.Prelude.{◌≡◌, ◌↔◌, ℕ, List, None, Option, Result, IfErr, IfOk, OnErr, OnOk, false, true, take};
 ghost use Rattle.std.specs.Io.{ReadsAtMost, WritesAtMost};
 ghost use Rattle.std.specs.Io.KnownBytes.{Appends, Keeps, ReadConsumes, WriteAppends};
+ghost use Rattle.std.specs.IoError.{error_kind};
+ghost use Rattle.std.specs.declared.io.Error.{Error as IoError};
 ghost use Rattle.std.specs.declared.io.ErrorKind.{ErrorKind as Kind};
+ghost use Rattle.std.specs.declared.io.ErrorKind.TheVariants.{Interrupted};
 ghost use Rattle.image_files.specs.Watching.{HasFault, first_fault, flush_fault, write_fault};
 
 use std::io;
 use std::io::{ErrorKind, Read, Write};
 
-/// A reader of which contracts know whether a read failed.
+/// A reader of which contracts know whether a read of it may fail.
 pub trait WatchedRead: Read {
-    // That a read of it failed.
-    ghost has_failed: { Self → Type 0 } = { λ _. Unit {0} };
+    // That a read of it may fail, now or later.
+    ghost may_fail: { Self → Type 0 } = { λ _. Unit {0} };
 
     /// Reads once, as `read` does.
     fn read_once(&mut self, piece: &mut [u8]) -> io::Result<usize>
         ensures bound { ReadsAtMost result piece.new }
         ensures bytes { ReadConsumes (Self.remaining self.old) (Self.remaining self.new) result piece.new }
-        ensures failed { IfErr result (λ _. has_failed self.new) };
+        ensures failed { IfErr result (λ _. may_fail self.old) }
+        ensures later { may_fail self.new → may_fail self.old };
 }
 
 impl<R: Read> WatchedRead for R {
     // nothing is known of the calls of any reader; what is generic over readers can't see that
-    ghost has_failed = { λ _. Unit {0} };
+    ghost may_fail = { λ _. Unit {0} };
 
     fn read_once(&mut self, piece: &mut [u8]) -> io::Result<usize> {
         self.read(piece)
+    }
+}
+
+/// A writer of which contracts know what its calls gave.
+pub trait HeardWrite: Write {
+    // That the last write of it was of these bytes, and gave this.
+    ghost gave: { Self → List ℕ → Result ℕ IoError → Type 0 } = { λ _ _ _. Unit {0} };
+
+    // That the last flush of it gave this.
+    ghost flushed: { Self → Result (Unit {0}) IoError → Type 0 } = { λ _ _. Unit {0} };
+
+    /// Writes once, as `write` does.
+    fn write_once(&mut self, bytes: &[u8]) -> io::Result<usize>
+        ensures bound { WritesAtMost result bytes.now }
+        ensures bytes { WriteAppends (Self.contents self.old) (Self.contents self.new) result bytes.now }
+        ensures given { gave self.new bytes.now result };
+
+    /// Flushes once, as `flush` does.
+    fn flush_once(&mut self) -> io::Result<()>
+        ensures bytes { Keeps (Self.contents self.old) (Self.contents self.new) }
+        ensures given { flushed self.new result };
+}
+
+impl<W: Write> HeardWrite for W {
+    // nothing is known of the calls of any writer; what is generic over writers can't see that
+    ghost gave = { λ _ _ _. Unit {0} };
+
+    ghost flushed = { λ _ _. Unit {0} };
+
+    fn write_once(&mut self, bytes: &[u8]) -> io::Result<usize> {
+        self.write(bytes)
+    }
+
+    fn flush_once(&mut self) -> io::Result<()> {
+        self.flush()
     }
 }
 
@@ -71,7 +110,7 @@ impl<W> WatchedWriter<W> {
     }
 }
 
-impl<W: Write> Watched for WatchedWriter<W> {
+impl<W: HeardWrite> Watched for WatchedWriter<W> {
     ghost noted = { λ watched. watched.fault };
 
     fn fault(&self) -> Option<ErrorKind> {
@@ -87,15 +126,16 @@ impl<W: Write> Watched for WatchedWriter<W> {
     }
 }
 
-impl<W: Write> Write for WatchedWriter<W> {
+impl<W: HeardWrite> Write for WatchedWriter<W> {
     ghost contents = { λ watched. W.contents watched.writer };
 
     fn write(&mut self, bytes: &[u8]) -> io::Result<usize>
         ensures bound { WritesAtMost result bytes.now }
         ensures bytes { WriteAppends (W.contents self.old.writer) (W.contents self.new.writer) result bytes.now }
         ensures fault { self.new.fault ≡ first_fault self.old.fault bytes.now result }
+        ensures given { W.gave self.new.writer bytes.now result }
     {
-        let result = write_once(&mut self.writer, bytes);
+        let result = write_retried(&mut self.writer, bytes);
         if self.fault.is_none() {
             self.fault = fault_of(bytes, &result);
         }
@@ -105,8 +145,9 @@ impl<W: Write> Write for WatchedWriter<W> {
     fn flush(&mut self) -> io::Result<()>
         ensures bytes { Keeps (W.contents self.old.writer) (W.contents self.new.writer) }
         ensures fault { self.new.fault ≡ flush_fault self.old.fault result }
+        ensures given { W.flushed self.new.writer result }
     {
-        let result = self.writer.flush();
+        let result = self.writer.flush_once();
         if let Err(error) = &result
             && self.fault.is_none()
         {
@@ -117,23 +158,25 @@ impl<W: Write> Write for WatchedWriter<W> {
 }
 
 // Writes, and again as long as that is interrupted.
-fn write_once<W: Write>(writer: &mut W, bytes: &[u8]) -> io::Result<usize>
+fn write_retried<W: HeardWrite>(writer: &mut W, bytes: &[u8]) -> io::Result<usize>
     ensures bound { WritesAtMost result bytes.now }
     ensures bytes { WriteAppends (W.contents writer.old) (W.contents writer.new) result bytes.now }
+    ensures given { W.gave writer.new bytes.now result }
 {
-    let mut result = writer.write(bytes);
+    let mut result = writer.write_once(bytes);
     for _ in 0..u64::MAX {
         if !is_interrupted(&result) {
             return result;
         }
-        result = writer.write(bytes);
+        result = writer.write_once(bytes);
     }
     result
 }
 
 /// Whether a call was interrupted.
 pub(crate) fn is_interrupted<T>(outcome: &io::Result<T>) -> bool
-    ensures { IfOk outcome.now (λ _. result ≡ false) }
+    ensures done { IfOk outcome.now (λ _. result ≡ false) }
+    ensures failed { IfErr outcome.now (λ error. (result ≡ true) ↔ (error_kind error ≡ Interrupted)) }
 {
     match outcome {
         Ok(_) => false,
@@ -156,6 +199,7 @@ fn fault_of(bytes: &[u8], outcome: &io::Result<usize>) -> Option<ErrorKind>
 /// has a fault.
 pub fn write_all<W: Watched>(writer: &mut W, bytes: &[u8]) -> io::Result<()>
     ensures written { OnOk result (Appends (W.contents writer.old) (W.contents writer.new) bytes.now) }
+    ensures clean { OnOk result (W.noted writer.new ≡ W.noted writer.old) }
     ensures begun { OnErr result ((count : ℕ)
         × Appends (W.contents writer.old) (W.contents writer.new) (take count bytes.now)) }
     ensures failed { OnErr result (HasFault (W.noted writer.new)) }

@@ -8,7 +8,7 @@ ghost use Rattle.std_io.specs.declared.io.kind.ErrorKind.TheVariants.{OutOfMemor
 ghost use Rattle.image_files.specs.Watching.{HasFault};
 ghost use Rattle.image_files.specs.declared.watching.WatchedWriter.{WatchedWriter as OutFile};
 ghost use Rattle.image_files.specs.Writing.{IsNew, IsPut, IsPutInto, IsUnwritable, IsWholeImage, part_of};
-ghost use Rattle.image_files.specs.Writing.{write_path_of};
+ghost use Rattle.image_files.specs.Writing.{IsUnwritableInto, write_path_of};
 
 use crate::out::OutDisk;
 use crate::reading::PIECE_WORDS;
@@ -79,7 +79,7 @@ pub fn settle<H: OutDisk>(
     ensures failed { IfErr outcome (λ error. result ≡ Err error) }
     ensures stands { OnOk result ((H.files rt.now).may_stand (write_path_of file.entry) file.entry.path.now
         (⟦<WatchedWriter<H::File> as Write>⟧.contents file.entry.file)) }
-    ensures unmoved { OnOk outcome (OnErr result ((H.files rt.now).may_fail file.entry.path.now)) }
+    ensures unmoved { OnOk outcome (OnErr result ((H.files rt.now).may_not_move file.entry.path.now)) }
 {
     let NewFile { file, path, beside } = file;
     match beside {
@@ -99,7 +99,7 @@ fn settle_beside<H: OutDisk>(
     ensures failed { IfErr outcome (λ error. result ≡ Err error) }
     ensures stands { OnOk result ((H.files rt.now).may_stand beside.now path.now
         (⟦<WatchedWriter<H::File> as Write>⟧.contents file.now)) }
-    ensures unmoved { OnOk outcome (OnErr result ((H.files rt.now).may_fail path.now)) }
+    ensures unmoved { OnOk outcome (OnErr result ((H.files rt.now).may_not_move path.now)) }
 {
     let outcome = brought(rt, file, beside, path, outcome);
     if outcome.is_err() {
@@ -119,7 +119,7 @@ fn brought<H: OutDisk>(
     ensures failed { IfErr outcome (λ error. result ≡ Err error) }
     ensures stands { OnOk result ((H.files rt.now).may_stand from.now to.now
         (⟦<WatchedWriter<H::File> as Write>⟧.contents file.now)) }
-    ensures unmoved { OnOk outcome (OnErr result ((H.files rt.now).may_fail to.now)) }
+    ensures unmoved { OnOk outcome (OnErr result ((H.files rt.now).may_not_move to.now)) }
 {
     match outcome {
         Ok(()) => rt.brought(file, from, to),
@@ -130,7 +130,7 @@ fn brought<H: OutDisk>(
 /// Writes a text into the file at a path, which is made or emptied first, or into what else is there.
 pub fn put_text_into<H: OutDisk>(rt: &H, path: &str, text: &str) -> io::Result<()>
     ensures put { OnOk result (IsPutInto (H.files rt.now) path.now text.now) }
-    ensures failed { OnErr result ((H.files rt.now).may_fail path.now) }
+    ensures failed { OnErr result (IsUnwritableInto (H.files rt.now) path.now) }
 {
     let mut file = rt.opened(path)?;
     write_text(&mut file, text)?;

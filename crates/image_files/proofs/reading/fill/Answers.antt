@@ -8,4 +8,5 @@ pieces-preserved g c = record {
   within = search rules;
   filled = filled_further _ _ _ c.pieces.at c.in_ok-count.count c.pieces.piece c.read_some.new.piece c.pieces.invariant.within c.in_ok-count.ensures.within
       c.pieces.invariant.filled c.in_ok-count.ensures.bytes;
+  later = search rules;
 }

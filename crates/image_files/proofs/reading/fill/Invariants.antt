@@ -7,6 +7,7 @@ invariant-pieces g l = record {
   whole : length l.piece ≡ length l.initial.piece;
   within : l.at ≤ length l.piece;
   filled : Consumes (g.R.Read.remaining l.initial.reader) (g.R.Read.remaining l.reader) (take l.at l.piece);
+  later : g.R.WatchedRead.may_fail l.reader → g.R.WatchedRead.may_fail l.initial.reader;
 }
 
 abbrev pub decreases-pieces : goal.decreases-pieces

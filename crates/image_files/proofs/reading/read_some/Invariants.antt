@@ -9,5 +9,6 @@ invariant-loop g l = record {
   same : length l.piece ≡ length l.initial.piece;
   bound : ReadsAtMost l.result l.piece;
   bytes : ReadConsumes (g.R.Read.remaining l.fn.reader) (g.R.Read.remaining l.reader) l.result l.piece;
-  failed : IfErr l.result (λ _. g.R.WatchedRead.has_failed l.reader);
+  failed : IfErr l.result (λ _. g.R.WatchedRead.may_fail l.fn.reader);
+  later : g.R.WatchedRead.may_fail l.reader → g.R.WatchedRead.may_fail l.fn.reader;
 }

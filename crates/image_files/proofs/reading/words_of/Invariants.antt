@@ -7,4 +7,5 @@ abbrev pub invariant-pieces : goal.invariant-pieces
 invariant-pieces g l = record {
   piece : length l.piece ≡ length l.initial.piece;
   spelled : Consumes (g.R.Read.remaining l.initial.reader) (g.R.Read.remaining l.reader) (bytes_of l.words.items);
+  later : g.R.WatchedRead.may_fail l.reader → g.R.WatchedRead.may_fail l.initial.reader;
 }

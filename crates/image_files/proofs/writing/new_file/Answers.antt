@@ -1,10 +1,12 @@
-use Rattle.std.proofs.Common.{◌∙◌, inl, inr, subst}
+use Rattle.std.proofs.Common.{◌∙◌, inl, inr, rules, subst}
 use Rattle.image_files.proofs.writing.new_file.Goals as goal
 
 -- a fault of the file is one of a file at its path, or beside that
 pub returns-then-is_special-clause-written : goal.returns-then-is_special-clause-written
-returns-then-is_special-clause-written g c = λ file has. inl (c.in_ok-file.ensures.written file has)
+returns-then-is_special-clause-written g c =
+    let special : (g.H.OutDisk.files c.args.rt.now).special c.args.path.now = search rules in
+    λ file has. inr (inr (special, c.in_ok-file.ensures.written file has))
 
 pub returns-clause-written : goal.returns-clause-written
 returns-clause-written g c = λ file has.
-    inr (subst (g.H.OutDisk.files c.args.rt.now).may_fail (c.as_str-2.ensures.value ∙ c.in_ok-beside.ensures) (c.in_ok-file-2.ensures.written file has))
+    inl (subst (g.H.OutDisk.files c.args.rt.now).may_not_make (c.as_str-2.ensures.value ∙ c.in_ok-beside.ensures) (c.in_ok-file-2.ensures.written file has))

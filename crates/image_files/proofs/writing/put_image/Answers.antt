@@ -1,4 +1,4 @@
-use Rattle.std.proofs.Common.{inl, subst}
+use Rattle.std.proofs.Common.{inl, inr, subst}
 use Rattle.image_files.proofs.Faults.{settled}
 use Rattle.image_files.proofs.writing.put_image.Goals as goal
 
@@ -7,5 +7,5 @@ pub returns-clause-failed : goal.returns-clause-failed
 returns-clause-failed g c =
     let file = c.in_ok-file.ensures in
     settled c.write_words-outcome.result c.settle.result _ _ _ c.settle.ensures.failed c.settle.ensures.unmoved
-    (λ fails. inl (subst (g.H.OutDisk.files c.args.rt.now).may_fail file.new.path_is fails)) (file.written c.write_words-outcome.new.file)
+    (λ fails. inr (inl (subst (g.H.OutDisk.files c.args.rt.now).may_not_move file.new.path_is fails))) (file.written c.write_words-outcome.new.file)
     c.write_words-outcome.ensures.failed
