@@ -67,7 +67,7 @@ pub fn run<
         × H.Asks.may_ask rt.now (map S.text words.now) asked
         × IsEndOf (H.ImageDisk.may_hold rt.now) (H.ImageDisk.may_fail rt.now) H.Disk.gives (H.OutDisk.files rt.now)
         (H.WallClock.may_show rt.now) (H.Listens.may_refuse rt.now) (⟦<H as Hosts>⟧.may_host rt.now)
-        (I.Read.remaining input.old) (I.has_failed input.new) (O.noted output.new) asked result
+        (I.Read.remaining input.old) (I.may_fail input.old) (O.noted output.new) asked result
         (O.Write.contents output.old) (O.Write.contents output.new) }
 {
     let notes = TableNotes {
@@ -152,7 +152,7 @@ fn run_read<
 ) -> u8
     ensures { IsEndOf (H.ImageDisk.may_hold rt.now) (H.ImageDisk.may_fail rt.now) H.Disk.gives (H.OutDisk.files rt.now)
         (H.WallClock.may_show rt.now) (H.Listens.may_refuse rt.now) (⟦<H as Hosts>⟧.may_host rt.now)
-        (I.remaining input.old) (I.has_failed input.new) (O.noted output.new) asked.entry result
+        (I.remaining input.old) (I.may_fail input.old) (O.noted output.new) asked.entry result
         (O.contents output.old) (O.contents output.new) }
 {
     match asked {
@@ -183,7 +183,7 @@ fn run_request<
 ) -> u8
     ensures { IsEnd (H.ImageDisk.may_hold rt.now) (H.ImageDisk.may_fail rt.now) H.Disk.gives (H.OutDisk.files rt.now)
         (H.WallClock.may_show rt.now) (H.Listens.may_refuse rt.now) (⟦<H as Hosts>⟧.may_host rt.now)
-        (I.remaining input.old) (I.has_failed input.new) (O.noted output.new) request.entry result
+        (I.remaining input.old) (I.may_fail input.old) (O.noted output.new) request.entry result
         (O.contents output.old) (O.contents output.new) }
 {
     let warnings = notes.warnings;
@@ -241,7 +241,7 @@ fn answer_profile<
 ) -> u8
     ensures { IsOutcome (PrintsOver (H.ImageDisk.may_hold rt.now) request.entry.image.now (I.remaining input.old)
         (λ image. PrintsProfile (H.OutDisk.files rt.now) image request.entry))
-        (IsUnreadable (H.ImageDisk.may_fail rt.now) request.entry.image.now (I.has_failed input.new)
+        (IsUnreadable (H.ImageDisk.may_fail rt.now) request.entry.image.now (I.may_fail input.old)
         ⊎ IsPictureUnwritable (H.OutDisk.files rt.now) request.entry.picture) (O.noted output.new) result
         (O.contents output.old) (O.contents output.new) }
 {
@@ -265,7 +265,7 @@ fn answer_departures<
 ) -> u8
     ensures { IsOutcome (PrintsOver (H.ImageDisk.may_hold rt.now) request.entry.image.now (I.remaining input.old)
         (λ image. PrintsDepartures (H.ImageDisk.may_hold rt.now) image request.entry))
-        (IsUnreadable (H.ImageDisk.may_fail rt.now) request.entry.image.now (I.has_failed input.new)
+        (IsUnreadable (H.ImageDisk.may_fail rt.now) request.entry.image.now (I.may_fail input.old)
         ⊎ IsListUnreadable (H.ImageDisk.may_fail rt.now) (H.ImageDisk.may_hold rt.now) request.entry.from)
         (O.noted output.new) result
         (O.contents output.old) (O.contents output.new) }
@@ -290,7 +290,7 @@ fn matrix_over<
     notes: TableNotes,
 ) -> u8
     ensures { IsTableEnd (H.ImageDisk.may_hold rt.now) (H.ImageDisk.may_fail rt.now) (H.OutDisk.files rt.now)
-        (I.remaining input.old) (I.has_failed input.new) request.entry (O.noted output.new)
+        (I.remaining input.old) (I.may_fail input.old) request.entry (O.noted output.new)
         result (O.contents output.old) (O.contents output.new) }
 {
     match open_image(rt, request.image, input, output, errors) {
@@ -316,7 +316,7 @@ fn answer_over<
     ensures { IsOutcome (PrintsOver (H.ImageDisk.may_hold rt.now) (path_of asked.entry) (I.remaining input.old)
         (λ image. PrintsAsked (H.ImageDisk.may_hold rt.now) (H.OutDisk.files rt.now) image asked.entry))
         (IsUnusableOver (H.ImageDisk.may_hold rt.now) (H.ImageDisk.may_fail rt.now) (H.OutDisk.files rt.now)
-        (I.has_failed input.new) asked.entry) (O.noted output.new) result
+        (I.may_fail input.old) asked.entry) (O.noted output.new) result
         (O.contents output.old) (O.contents output.new) }
 {
     match open_image(rt, asked.path(), input, output, errors) {

@@ -192,7 +192,7 @@ pub fn run<H: Machine + ImageDisk<Image = H::File>, I: WatchedRead, O: Watched, 
 ) -> u8
     ensures { IsServeEnd (H.ImageDisk.may_hold rt.now) (H.ImageDisk.may_fail rt.now) (H.WallClock.may_show rt.now)
         (H.Listens.may_refuse rt.now) (⟦<H as Hosts>⟧.may_host rt.now) (I.remaining input.old)
-        (I.has_failed input.new) request.entry (O.noted output.new) result
+        (I.may_fail input.old) request.entry (O.noted output.new) result
         (O.contents output.old) (O.contents output.new) }
 {
     let alloc = rt.alloc();

@@ -7,7 +7,7 @@ use Rattle.criteria.specs.declared.name.CriterionName.{CriterionName}
 use Rattle.criteria.specs.declared.figures.Figures.{Figures}
 use Rattle.timetable.specs.declared.query.QueryFault.{QueryFault}
 use Rattle.image_files.specs.Out.{OutFiles}
-use Rattle.image_files.specs.Writing.{IsPutInto}
+use Rattle.image_files.specs.Writing.{IsPutInto, IsUnwritableInto}
 use Rattle.image_layout.specs.Image.{ImageValue}
 use Rattle.journeys.specs.Answer.{point_of}
 use Rattle.journeys.specs.Extracted.{AttainsBetween}
@@ -84,7 +84,7 @@ IsPicturePut disk (Some path) (Some picture) = IsPutInto disk path.now (string_b
 -- a picture is asked for, and may not be written into the file at its path
 abbrev pub IsPictureUnwritable : OutFiles → Option (Bor (List ℕ)) → Type 0
 IsPictureUnwritable disk None = ⊥
-IsPictureUnwritable disk (Some path) = disk.may_fail path.now
+IsPictureUnwritable disk (Some path) = IsUnwritableInto disk path.now
 
 -- the text is that of an answer, whose picture, if one is asked for, is in its file
 abbrev pub IsAnswered : OutFiles → ImageValue → ProfileRequest → List ℕ → Type 0

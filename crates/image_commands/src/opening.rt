@@ -57,7 +57,7 @@ pub fn open_image<
     ensures silent { OnOk result (O.contents output.new ≡ O.contents output.old) }
     ensures refused { IfErr result (λ status. IsOutcome
         (PrintsRefusal (IsRefusedImage (H.may_hold rt.now) path.now (I.remaining input.old)))
-        (IsUnreadable (H.may_fail rt.now) path.now (I.has_failed input.new)) (O.noted output.new) status
+        (IsUnreadable (H.may_fail rt.now) path.now (I.may_fail input.old)) (O.noted output.new) status
         (O.contents output.old) (O.contents output.new)) }
 {
     let words = match image_words(rt, path, input) {

@@ -25,7 +25,7 @@ returns-in-Err g c =
     let before = g.O.Write.contents c.args.output.now in
     let after = g.O.Write.contents c.open_image.new.output in
     let may_fail = g.H.ImageDisk.may_fail c.args.rt.now in
-    let input_failed = g.I.WatchedRead.has_failed c.open_image.new.input in
+    let input_failed = g.I.WatchedRead.may_fail c.args.input.now in
     let fault = g.O.Watched.noted c.open_image.new.output in
     let ended : IsOutcome (PrintsRefusal (IsRefusedImage may_hold (path_of asked) input)) (IsUnreadable may_fail (path_of asked) input_failed)
     fault c.in-Err.status before after =

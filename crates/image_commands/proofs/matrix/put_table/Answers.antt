@@ -1,4 +1,4 @@
-use Rattle.std.proofs.Common.{inl, subst}
+use Rattle.std.proofs.Common.{inl, inr, subst}
 use Rattle.image_files.proofs.Faults.{settled}
 use Rattle.image_commands.proofs.matrix.put_table.Goals as goal
 
@@ -7,5 +7,5 @@ pub returns-clause-unwritten : goal.returns-clause-unwritten
 returns-clause-unwritten g c = λ other.
     let file = c.in_ok-file.ensures in
     settled c.write_table-outcome.result c.settle.result _ _ _ c.settle.ensures.failed c.settle.ensures.unmoved
-    (λ fails. inl (subst (g.H.OutDisk.files c.args.rt.now).may_fail file.new.path_is fails)) (file.written c.write_table-outcome.new.out)
+    (λ fails. inr (inl (subst (g.H.OutDisk.files c.args.rt.now).may_not_move file.new.path_is fails))) (file.written c.write_table-outcome.new.out)
     c.write_table-outcome.ensures.failed
