@@ -14,18 +14,22 @@ use Rattle.command_endings.proofs.Outcomes.{outcome_of}
 
 module _ (may_hold : List ℕ → Option (List ℕ) → Type 0) (path : List ℕ) (input : Option (List ℕ)) (Is : ImageValue → ℕ → List ℕ → Type 0)
     (F G : Type 0) (fault : Option ErrorKind) (status : ℕ) (before : Option (List ℕ)) where
+  -- the image isn't to be had; or what is needed besides isn't
+  abbrev Lacks : Type 0
+  Lacks = F ⊎ ((image : ImageValue) × HoldsOfBytes may_hold path input (SpellsImage image) × G)
+
   -- nothing was printed while it was opened
   pub over_image : (image : ImageValue) (opened after : Option (List ℕ)) → HoldsOfBytes may_hold path input (SpellsImage image)
-      → opened ≡ before → IsOutcome (Is image) G fault status opened after → IsOutcome (PrintsOver may_hold path input Is) (F ⊎ G) fault status before after
+      → opened ≡ before → IsOutcome (Is image) G fault status opened after → IsOutcome (PrintsOver may_hold path input Is) Lacks fault status before after
   over_image image opened after held silent ended =
-      subst (λ (was : Option (List ℕ)). IsOutcome (PrintsOver may_hold path input Is) (F ⊎ G) fault status was after) silent
-      (outcome_of (Is image) (PrintsOver may_hold path input Is) G (F ⊎ G) fault status opened after (λ s text is. inl (image, held, is))
-      (λ can. inr can) ended)
+      subst (λ (was : Option (List ℕ)). IsOutcome (PrintsOver may_hold path input Is) Lacks fault status was after) silent
+      (outcome_of (Is image) (PrintsOver may_hold path input Is) G Lacks fault status opened after (λ s text is. inl (image, held, is))
+      (λ can. inr (image, held, can)) ended)
 
   pub over_none : (after : Option (List ℕ)) → IsOutcome (PrintsRefusal (IsRefusedImage may_hold path input)) F fault status before after
-      → IsOutcome (PrintsOver may_hold path input Is) (F ⊎ G) fault status before after
+      → IsOutcome (PrintsOver may_hold path input Is) Lacks fault status before after
   over_none after ended =
-      outcome_of (PrintsRefusal (IsRefusedImage may_hold path input)) (PrintsOver may_hold path input Is) F (F ⊎ G) fault status before after
+      outcome_of (PrintsRefusal (IsRefusedImage may_hold path input)) (PrintsOver may_hold path input Is) F Lacks fault status before after
       (λ s text is. inr is) (λ can. inl can) ended
 
 module _ (may_hold : List ℕ → Option (List ℕ) → Type 0) (may_fail : List ℕ → Type 0) (disk : OutFiles) (input : Option (List ℕ)) (input_failed : Type 0)

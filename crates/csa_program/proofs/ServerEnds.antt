@@ -119,7 +119,7 @@ module _ (may_hold : List ℕ → Option (List ℕ) → Type 0) (may_fail : List
       inl (outcome_of (PrintsRefusal (IsRefusedImage may_hold request.image.now input))
       (IsServeRefusal may_hold may_fail may_show may_refuse may_host input input_failed request)
       (IsUnreadable may_fail request.image.now input_failed) (IsUnservable may_hold may_fail may_show may_refuse may_host input input_failed request) noted
-      status before after (λ s line is. inr (zone_bytes, planned, is)) (λ can. inr (inl can)) ended)
+      status before after (λ s line is. inr (zone_bytes, planned, is)) (λ can. inr (zone_bytes, planned, inl can)) ended)
 
   -- its zone's file can't be read
   pub zone_unread : (path : Bor (List ℕ)) → IsNoPlan may_hold may_fail request.plan (PlanFailure.Unreadable path) → status ≡ INPUT_OUTPUT
@@ -127,10 +127,12 @@ module _ (may_hold : List ℕ → Option (List ℕ) → Type 0) (may_fail : List
   zone_unread path unread e same = inl (inr (inr (inl (e, inl (zone_unreadable may_fail request.plan.zone path unread)), same)))
 
   -- nothing listens at its port
-  pub unheard : may_refuse request.port → (status ≡ INPUT_OUTPUT) ⊎ (status ≡ OUT_OF_MEMORY) → after ≡ before
+  pub unheard : (image : ImageValue) (zone_bytes : List ℕ)
+      → IsPlanned may_hold may_fail may_show may_refuse may_host input input_failed request zone_bytes
+      → HoldsOfBytes may_hold request.image.now input (SpellsImage image) → may_refuse request.port → (status ≡ INPUT_OUTPUT) ⊎ (status ≡ OUT_OF_MEMORY) → after ≡ before
       → IsServeEnd may_hold may_fail may_show may_refuse may_host input input_failed request noted status before after
-  unheard can (inl e) same = inl (inr (inr (inl (e, inr (inr can)), same)))
-  unheard can (inr e) same = inl (inr (inr (inr e, same)))
+  unheard image zone_bytes planned held can (inl e) same = inl (inr (inr (inl (e, inr (zone_bytes, planned, inr (image, held, can))), same)))
+  unheard image zone_bytes planned held can (inr e) same = inl (inr (inr (inr e, same)))
 
   -- nothing was printed until it listened
   pub listened : (image : ImageValue) (zone_bytes : List ℕ) (port : ℕ) (opened : Option (List ℕ))

@@ -62,6 +62,11 @@ pub record IsTableEnd (may_hold : List ℕ → Option (List ℕ) → Type 0) (ma
       ⊎ ((image : ImageValue) × HoldsOfBytes may_hold request.image.now input (SpellsImage image)
       × IsTableSpent may_hold image request before after)
 
+-- the image at a path may not be read; or there is one, and what is needed besides isn't to be had
+abbrev pub IsUnusableOver : (List ℕ → Option (List ℕ) → Type 0) → (List ℕ → Type 0) → Option (List ℕ) → Type 0 → List ℕ → Type 0 → Type 0
+IsUnusableOver may_hold may_fail input input_failed path Lacks =
+    IsUnreadable may_fail path input_failed ⊎ ((image : ImageValue) × HoldsOfBytes may_hold path input (SpellsImage image) × Lacks)
+
 -- `may_hold` says what a file at a path may hold, and `may_fail` that it may not be read; the path `-` is the input, of which it is said whether a read
 -- failed; `may_show` says what the clock may show, `may_refuse` that nothing may listen at a port, and `may_host` in which ways a server's sessions may have
 -- ended
@@ -87,18 +92,15 @@ module _ (may_hold : List ℕ → Option (List ℕ) → Type 0) (may_fail : List
     pub small : port < 65_536
     pub ended : IsEndAt (may_host request image zone_bytes) port fault before after status
 
-  -- a server can't be begun: its zone's file or its image may not be read, or nothing may listen at its port
+  -- a server can't be begun: its zone's file may not be read; or, once a plan was made, its image; or, once that is one, nothing may listen at its port
   abbrev pub IsUnservable : Type 0
-  IsUnservable = IsZoneUnreadable may_fail request.plan.zone ⊎ IsUnreadable may_fail request.image.now input_failed ⊎ may_refuse request.port
+  IsUnservable = IsZoneUnreadable may_fail request.plan.zone
+      ⊎ ((zone_bytes : List ℕ) × IsPlanned zone_bytes
+      × IsUnusableOver may_hold may_fail input input_failed request.image.now (may_refuse request.port))
 
   -- a server was refused, or can't be begun, or ended so
   abbrev pub IsServeEnd : Option ErrorKind → ℕ → Option (List ℕ) → Option (List ℕ) → Type 0
   IsServeEnd fault status before after = IsOutcome IsServeRefusal IsUnservable fault status before after ⊎ IsServed fault status before after
-
--- the image that a command is over may not be read, or a file that it needs besides may not be read or written
-abbrev pub IsUnusableOver : (List ℕ → Option (List ℕ) → Type 0) → (List ℕ → Type 0) → OutFiles → Type 0 → ImageRequest → Type 0
-IsUnusableOver may_hold may_fail disk input_failed asked =
-    IsUnreadable may_fail (path_of asked) input_failed ⊎ IsUnusable may_fail may_hold disk asked
 
 -- `gives` says what a disk of some kind may give for a folder in some state and the name of a file, and `disk` what is known of files that are written;
 -- `may_fail` that a file at a path may not be read, `may_refuse` that nothing may listen at a port, `may_host` in which ways a server's sessions may have
@@ -106,18 +108,22 @@ IsUnusableOver may_hold may_fail disk input_failed asked =
 module _ {D : Type 0} (may_hold : List ℕ → Option (List ℕ) → Type 0) (may_fail : List ℕ → Type 0) (gives : Gives D) (disk : OutFiles)
     (may_show : Option ℤ → Type 0) (may_refuse : ℕ → Type 0) (may_host : MayHost) (input : Option (List ℕ)) (input_failed : Type 0)
     (fault : Option ErrorKind) where
+  -- a command over the image at its path ended so
+  abbrev pub IsEndOver : ImageRequest → ℕ → Option (List ℕ) → Option (List ℕ) → Type 0
+  IsEndOver asked = IsOutcome (PrintsOver may_hold (path_of asked) input (λ i. PrintsAsked may_hold disk i asked))
+      (IsUnusableOver may_hold may_fail input input_failed (path_of asked) (IsUnusable may_fail may_hold disk asked)) fault
+
   -- a command ended so, over the image at its path, or over the files of its folder
   abbrev pub IsEnd : CommandRequest → ℕ → Option (List ℕ) → Option (List ℕ) → Type 0
-  IsEnd (requests.Verify image) = IsOutcome (PrintsOver may_hold image.now input (λ i. PrintsAsked may_hold disk i (images.Verify image)))
-      (IsUnusableOver may_hold may_fail disk input_failed (images.Verify image)) fault
-  IsEnd (requests.Info request) = IsOutcome (PrintsOver may_hold request.image.now input (λ i. PrintsAsked may_hold disk i (images.Info request)))
-      (IsUnusableOver may_hold may_fail disk input_failed (images.Info request)) fault
-  IsEnd (requests.Journey request) = IsOutcome (PrintsOver may_hold request.image.now input (λ i. PrintsAsked may_hold disk i (images.Journey request)))
-      (IsUnusableOver may_hold may_fail disk input_failed (images.Journey request)) fault
+  IsEnd (requests.Verify image) = IsEndOver (images.Verify image)
+  IsEnd (requests.Info request) = IsEndOver (images.Info request)
+  IsEnd (requests.Journey request) = IsEndOver (images.Journey request)
+  IsEnd (requests.Stops request) = IsEndOver (images.Stops request)
+  IsEnd (requests.Upgrade request) = IsEndOver (images.Upgrade request)
   IsEnd (requests.Profile request) = IsOutcome (PrintsOver may_hold request.image.now input (λ i. PrintsProfile disk i request))
-      (IsUnreadable may_fail request.image.now input_failed ⊎ IsPictureUnwritable disk request.picture) fault
+      (IsUnusableOver may_hold may_fail input input_failed request.image.now (IsPictureUnwritable disk request.picture)) fault
   IsEnd (requests.Departures request) = IsOutcome (PrintsOver may_hold request.image.now input (λ i. PrintsDepartures may_hold i request))
-      (IsUnreadable may_fail request.image.now input_failed ⊎ IsListUnreadable may_fail may_hold request.from) fault
+      (IsUnusableOver may_hold may_fail input input_failed request.image.now (IsListUnreadable may_fail may_hold request.from)) fault
   IsEnd (requests.Matrix request) = IsTableEnd may_hold may_fail disk input input_failed request fault
   IsEnd (requests.Tables request) = IsOutcome (PrintsOfFeed (IsCounts gives request) (IsTablesRefusalOf gives request.folder.now)) ⊥ fault
   IsEnd (requests.Days request) =
@@ -127,10 +133,6 @@ module _ {D : Type 0} (may_hold : List ℕ → Option (List ℕ) → Type 0) (ma
   IsEnd (requests.Build request) =
       IsOutcome (PrintsOfFeed (IsReport gives may_hold may_show disk request) (IsBuildRefusal gives request.folder.now may_hold may_show request.plan))
       (BuildIsUnusable may_fail disk request) fault
-  IsEnd (requests.Stops request) = IsOutcome (PrintsOver may_hold request.image.now input (λ i. PrintsAsked may_hold disk i (images.Stops request)))
-      (IsUnusableOver may_hold may_fail disk input_failed (images.Stops request)) fault
-  IsEnd (requests.Upgrade request) = IsOutcome (PrintsOver may_hold request.image.now input (λ i. PrintsAsked may_hold disk i (images.Upgrade request)))
-      (IsUnusableOver may_hold may_fail disk input_failed (images.Upgrade request)) fault
   IsEnd (requests.Serve request) = IsServeEnd may_hold may_fail may_show may_refuse may_host input input_failed request fault
 
   -- a command line ended so: the request that it makes, or the help; or it makes none, or memory ran out, and nothing was printed

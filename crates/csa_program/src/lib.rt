@@ -4,7 +4,7 @@
 ghost use Rattle.std.specs.Prelude.{◌++◌, ◌⊎◌, Result, codes, map};
 ghost use Rattle.command_line.specs.declared.reading.NoCommand.{NoCommand};
 ghost use Rattle.command_requests.specs.declared.requests.CommandRequest.{CommandRequest};
-ghost use Rattle.image_commands.specs.Commands.{PrintsAsked, PrintsDepartures, PrintsProfile, path_of};
+ghost use Rattle.image_commands.specs.Commands.{IsUnusable, PrintsAsked, PrintsDepartures, PrintsProfile, path_of};
 ghost use Rattle.command_endings.specs.Ending.{IsOutcome};
 ghost use Rattle.image_commands.specs.Opening.{PrintsOver};
 ghost use Rattle.image_commands.specs.Answering.{IsPictureUnwritable};
@@ -241,8 +241,9 @@ fn answer_profile<
 ) -> u8
     ensures { IsOutcome (PrintsOver (H.ImageDisk.may_hold rt.now) request.entry.image.now (I.remaining input.old)
         (λ image. PrintsProfile (H.OutDisk.files rt.now) image request.entry))
-        (IsUnreadable (H.ImageDisk.may_fail rt.now) request.entry.image.now (I.may_fail input.old)
-        ⊎ IsPictureUnwritable (H.OutDisk.files rt.now) request.entry.picture) (O.noted output.new) result
+        (IsUnusableOver (H.ImageDisk.may_hold rt.now) (H.ImageDisk.may_fail rt.now) (I.remaining input.old)
+        (I.may_fail input.old) request.entry.image.now
+        (IsPictureUnwritable (H.OutDisk.files rt.now) request.entry.picture)) (O.noted output.new) result
         (O.contents output.old) (O.contents output.new) }
 {
     let asked = ImageRequest::Profile(&request);
@@ -265,10 +266,10 @@ fn answer_departures<
 ) -> u8
     ensures { IsOutcome (PrintsOver (H.ImageDisk.may_hold rt.now) request.entry.image.now (I.remaining input.old)
         (λ image. PrintsDepartures (H.ImageDisk.may_hold rt.now) image request.entry))
-        (IsUnreadable (H.ImageDisk.may_fail rt.now) request.entry.image.now (I.may_fail input.old)
-        ⊎ IsListUnreadable (H.ImageDisk.may_fail rt.now) (H.ImageDisk.may_hold rt.now) request.entry.from)
-        (O.noted output.new) result
-        (O.contents output.old) (O.contents output.new) }
+        (IsUnusableOver (H.ImageDisk.may_hold rt.now) (H.ImageDisk.may_fail rt.now) (I.remaining input.old)
+        (I.may_fail input.old) request.entry.image.now
+        (IsListUnreadable (H.ImageDisk.may_fail rt.now) (H.ImageDisk.may_hold rt.now) request.entry.from))
+        (O.noted output.new) result (O.contents output.old) (O.contents output.new) }
 {
     let asked = ImageRequest::Departures(&request);
     answer_over(rt, asked, input, output, errors, warnings)
@@ -315,9 +316,10 @@ fn answer_over<
 ) -> u8
     ensures { IsOutcome (PrintsOver (H.ImageDisk.may_hold rt.now) (path_of asked.entry) (I.remaining input.old)
         (λ image. PrintsAsked (H.ImageDisk.may_hold rt.now) (H.OutDisk.files rt.now) image asked.entry))
-        (IsUnusableOver (H.ImageDisk.may_hold rt.now) (H.ImageDisk.may_fail rt.now) (H.OutDisk.files rt.now)
-        (I.may_fail input.old) asked.entry) (O.noted output.new) result
-        (O.contents output.old) (O.contents output.new) }
+        (IsUnusableOver (H.ImageDisk.may_hold rt.now) (H.ImageDisk.may_fail rt.now) (I.remaining input.old)
+        (I.may_fail input.old) (path_of asked.entry)
+        (IsUnusable (H.ImageDisk.may_fail rt.now) (H.ImageDisk.may_hold rt.now) (H.OutDisk.files rt.now) asked.entry))
+        (O.noted output.new) result (O.contents output.old) (O.contents output.new) }
 {
     match open_image(rt, asked.path(), input, output, errors) {
         Ok(image) => answer(rt, &image, asked, output, errors, warnings),

@@ -31,7 +31,8 @@ returns-in-Err g c =
 
 pub returns-in-Err-bound_at : goal.returns-in-Err-bound_at
 returns-in-Err-bound_at g c =
-    unheard (g.H.ImageDisk.may_hold c.args.rt.now) _ _ _ _ _ _ c.args.request _ _ _ _ c.in-Err-bound_at.ensures.failed c.none_received.ensures
+    unheard (g.H.ImageDisk.may_hold c.args.rt.now) _ _ _ _ _ _ c.args.request _ _ _ _ c.in-Ok-open_image.image _
+    (c.in-Ok.ensures.zone, (_, c.in-Ok.ensures.plan)) c.in-Ok-open_image.ensures.image c.in-Err-bound_at.ensures.failed c.none_received.ensures
     c.in-Ok-open_image.ensures.silent
 
 pub returns : goal.returns
