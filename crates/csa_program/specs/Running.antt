@@ -82,7 +82,7 @@ module _ (may_hold : List ℕ → Option (List ℕ) → Type 0) (may_fail : List
       ⊎ ((zone_bytes : List ℕ) × IsPlanned zone_bytes × PrintsRefusal (IsRefusedImage may_hold request.image.now input) status line)
 
   -- a server ended so, at the port that is asked for, if one is; at its path was this image, and its plan was made of these bytes of its zone's file
-  pub record IsServed (fault : Option ErrorKind) (status : ℕ) (before after : Option (List ℕ)) : Type 0 where
+  pub record IsEndOfRun (fault : Option ErrorKind) (status : ℕ) (before after : Option (List ℕ)) : Type 0 where
     pub image : ImageValue
     pub zone_bytes : List ℕ
     pub port : ℕ
@@ -100,7 +100,7 @@ module _ (may_hold : List ℕ → Option (List ℕ) → Type 0) (may_fail : List
 
   -- a server was refused, or can't be begun, or ended so
   abbrev pub IsServeEnd : Option ErrorKind → ℕ → Option (List ℕ) → Option (List ℕ) → Type 0
-  IsServeEnd fault status before after = IsOutcome IsServeRefusal IsUnservable fault status before after ⊎ IsServed fault status before after
+  IsServeEnd fault status before after = IsOutcome IsServeRefusal IsUnservable fault status before after ⊎ IsEndOfRun fault status before after
 
 -- `gives` says what a disk of some kind may give for a folder in some state and the name of a file, and `disk` what is known of files that are written;
 -- `may_fail` that a file at a path may not be read, `may_refuse` that nothing may listen at a port, `may_host` in which ways a server's sessions may have

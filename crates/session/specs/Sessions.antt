@@ -99,7 +99,8 @@ abbrev pub answered_by : Result Ended SessionFault → List Exchange → ℕ
 answered_by (Err SessionFault.WriteFailed) exchanges = length exchanges - 1
 answered_by _ exchanges = length exchanges
 
--- reads were made only while no more than so many whole lines had come: so each line was answered before anything was read behind it
+-- reads were made only while no more than so many whole lines had come. Any write may fail, and a session that ends by that has one reply less: so code that is
+-- right with every writer has answered each whole line before it reads on
 abbrev pub AreReadFor : ℕ → List (List ℕ) → Type 0
 AreReadFor answered blocks = AreReadWhile (λ read. length (whole_lines read) ≤ answered) blocks
 

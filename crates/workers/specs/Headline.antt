@@ -55,7 +55,8 @@ module _ {C R W K T S L N F D : Type 0} where
     pub fit : All (seats.fits input.shelves) left.seats.items
     pub loader_fits : loader.fits input.shelves left.loader
 
-  -- each client who came meanwhile was dealt to exactly one worker and had one session at its seat, with orders of these feeds
+  -- each client who came meanwhile was dealt to exactly one worker and had one session at its seat; what these sessions ordered went by this queue, under the
+  -- names of these feeds
   abbrev pub AllServed : SessionWords C R W T S N → SourceWords K C → FeedWords F D → ServerInput K T S L F → ServingOutcome R W K S L N D → Type 0
   AllServed words source feeds input left = AreServedSince words (source.came input.clients) (source.came left.clients)
       (worker_starts input.seats (route_to (feeds.named input.feeds) left.orders.queue)) (work_of left.served left.seats.items left.asked)
@@ -81,7 +82,7 @@ abbrev pub IsLeftAt : {C R W K F D : Type 0} → SourceWords K C → ServerInput
     → ServingOutcome R W K ShelfSeatValue ShelfLoaderValue NoticeValue D → Type 0
 IsLeftAt source input left = IsLeft shelf_seats shelf_loader source input left × All (KnowOneHistory left.loader) left.seats.items
 
--- no workers were there, and the clients' source is as it was; or they were lost, and no further client comes
+-- nothing is said of sessions: no workers were there, and the clients' source is as it was; or workers were lost, and no further client comes
 abbrev pub IsUnserved : {C K : Type 0} → SourceWords K C → K → WorkersFault K → Type 0
 IsUnserved source before (WorkersFault.NotStarted clients) = clients ≡ before
 IsUnserved source before (WorkersFault.Lost clients) = IsExhausted source before clients

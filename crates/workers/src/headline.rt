@@ -31,18 +31,22 @@ use std::thread::Threads;
 ///
 /// - `ready`: 1 to 16 seats and the loader's are of these shelves.
 /// - `closes`: a client's reader and writer may be closed after whatever sessions are served from the first on at one
-///   of these seats, as those of a session that ended as the last one did.
-/// - `left`: no further client comes, and what held of their source holds still; the seats are of these shelves, and
-///   the histories that `served` and `loaded` speak of are one. After an `Err`, either no client was taken from the
-///   source, or no further one comes.
+///   of these seats, as those of a session that ended as the last one did. A reader or writer can't be dropped, so
+///   each is closed in the end.
+/// - `left`: no further client comes, and what held of their source holds still; the seats are of these shelves. In
+///   any one state of the table in which the loader and a seat stand, the histories that `loaded` and `served` speak of
+///   are beginnings of one. After an `Err`, either no client was taken from the source, or no further one comes; of
+///   sessions nothing is said then.
 /// - `served`: each client who came was dealt to exactly one worker and had one session at its seat, unless it couldn't
 ///   be opened. Each line that was read has its reply, up to where the session ended. Each profile is answered exactly,
 ///   over the image that was published as the version that the reply names, and for it each connection of the window
 ///   was read once, which is noted with the reply; or the reply says why it isn't: memory ran out, no version could be
-///   pinned, or the profile or its window can't be asked of that image.
+///   pinned, or the profile or its window can't be asked of that image. That the seats hold nothing at first is no part
+///   of it: `ready` doesn't ask for that.
 /// - `loaded`: the loader took exactly the orders that the sessions put, each once, and carried out each, from files
 ///   that were drawn for it. Each image that it published is that of the bytes that the files of the ordered feed gave.
-/// - `pinned`: no image is collected while a seat of these shelves has it pinned.
+/// - `pinned`: no image is collected while a seat of these shelves has it pinned. This is a law: shelves change by the
+///   steps of seats and of the loader alone, and none of these breaks it.
 pub fn run_shelves<
     B: ShelvesName + Send + Sync,
     C: Client + Drop + Send,
