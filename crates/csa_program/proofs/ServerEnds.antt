@@ -129,7 +129,8 @@ module _ (may_hold : List ℕ → Option (List ℕ) → Type 0) (may_fail : List
   -- nothing listens at its port
   pub unheard : (image : ImageValue) (zone_bytes : List ℕ)
       → IsPlanned may_hold may_fail may_show may_refuse may_host input input_failed request zone_bytes
-      → HoldsOfBytes may_hold request.image.now input (SpellsImage image) → may_refuse request.port → (status ≡ INPUT_OUTPUT) ⊎ (status ≡ OUT_OF_MEMORY) → after ≡ before
+      → HoldsOfBytes may_hold request.image.now input (SpellsImage image) → may_refuse request.port
+      → (status ≡ INPUT_OUTPUT) ⊎ (status ≡ OUT_OF_MEMORY) → after ≡ before
       → IsServeEnd may_hold may_fail may_show may_refuse may_host input input_failed request noted status before after
   unheard image zone_bytes planned held can (inl e) same =
       inl (inr (inr (inl (e, inr (zone_bytes, planned, inr (image, held, can))), same)))
