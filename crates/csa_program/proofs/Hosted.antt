@@ -46,8 +46,8 @@ module _ {C R W K F D : Type 0} (words : ReplyForm → SessionWords C R W TableI
     ran = to.ran;
     new = new;
     none_came = none;
-    whole = whole;
-    kept = kept;
+    not_failed_at_first = whole;
+    rules_at_first = kept;
     asked = asked;
     run = subst (λ (l : ShelfLoaderValue). IsRunAt (words (form_asked request)) source loads (server_input_of clients table seats l feeds) to.ran)
         first to.is;

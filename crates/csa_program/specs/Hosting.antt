@@ -56,8 +56,8 @@ module _ {C R W K F D : Type 0} (words : ReplyForm → SessionWords C R W TableI
     pub ran : ServingOutcome R W K ShelfSeatValue ShelfLoaderValue NoticeValue D
     pub new : SeatsHanded table request.workers.number seats
     pub none_came : source.came clients ≡ []
-    pub whole : has_failed clients ≡ false
-    pub kept : keeps request clients
+    pub not_failed_at_first : has_failed clients ≡ false
+    pub rules_at_first : keeps request clients
     pub asked : are_feeds request zone_bytes feeds
     pub run : IsRunAt (words (form_asked request)) source loads (server_input_of clients table seats (first_loader table image) feeds) ran
     pub many : AreAsMany request.sessions (length ran.served) is_deaf

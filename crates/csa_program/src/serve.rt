@@ -161,9 +161,11 @@ impl<'a, H: Disk + Explains + Clock + WallClock + Sync> Feeds for Folders<'a, H>
     }
 }
 
-/// A machine that servers run on. It has no code: contracts say by it how the sessions of a server may have ended.
+/// A machine that servers run on. It has no code, only a word for contracts: how the sessions of a server may have
+/// ended.
 pub trait Hosts {
-    // Whether a server that was asked for may have had sessions that ended so.
+    // That there is a whole run, as `run_shelves` describes it, of a server that was asked for, with these counts. It
+    // doesn't say that this run took place.
     ghost may_host: { Self → MayHost };
 }
 
@@ -274,7 +276,8 @@ fn serve_at<
 }
 
 // Serves the clients that come to the port, while a thread of its own writes what the server's threads report. Returns
-// how many sessions ended in each way, and whether accepting failed; `None` if memory ran out.
+// how many sessions ended in each way, and whether accepting failed; `None` if the run gave no result: it lacked memory
+// or a thread, or lost one.
 fn host_reported<H: Disk + Explains + Clock + WallClock + Threads + Wait + Sync, E: Write + Send>(
     rt: &H,
     bound: BoundListener,
@@ -303,7 +306,8 @@ fn host_reported<H: Disk + Explains + Clock + WallClock + Threads + Wait + Sync,
 }
 
 // Serves the clients that come to the port, and then closes the queue into which the server's threads report. Returns
-// how many sessions ended in each way, and whether accepting failed; `None` if memory ran out.
+// how many sessions ended in each way, and whether accepting failed; `None` if the run gave no result: it lacked memory
+// or a thread, or lost one.
 fn host_until_closed<H: Disk + Explains + Clock + WallClock + Threads + Wait + Sync>(
     rt: &H,
     bound: BoundListener,
@@ -346,7 +350,8 @@ fn name_of(alloc: Global, feed: &NamedFolder<'_>) -> Result<String, AllocError>
 }
 
 // Serves the clients that come to the listener. Returns how many sessions ended in each way, and whether accepting
-// failed; `None` if memory ran out. Whatever the server's threads report goes into one queue.
+// failed; `None` if the run gave no result: it lacked memory or a thread, or lost one. Whatever the server's threads
+// report goes into one queue.
 fn host<'d, 'f, 'e, H: Disk + Explains + Clock + WallClock + Threads + Wait + Sync>(
     listener: &'d TcpListener,
     leave: FolderLeave,
