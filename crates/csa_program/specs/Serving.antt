@@ -57,8 +57,8 @@ IsNoServerEnd port fault before after status =
 abbrev pub MayHost : Type 1
 MayHost = ServeRequest → ImageValue → List ℕ → SessionCounts → Bool → Type 0
 
--- one or the other; `may_end` says in which ways the server's sessions may have ended
-abbrev pub IsEndAt : (SessionCounts → Bool → Type 0) → ℕ → Option ErrorKind → Option (List ℕ) → Option (List ℕ) → ℕ → Type 0
-IsEndAt may_end port fault before after status =
+-- one or the other
+abbrev pub IsEndAt : ℕ → Option ErrorKind → Option (List ℕ) → Option (List ℕ) → ℕ → Type 0
+IsEndAt port fault before after status =
     IsNoServerEnd port fault before after status
-    ⊎ ((ends : SessionCounts) × (is_deaf : Bool) × may_end ends is_deaf × IsServerEnd port fault before after ends is_deaf status)
+    ⊎ ((ends : SessionCounts) × (is_deaf : Bool) × IsServerEnd port fault before after ends is_deaf status)

@@ -32,7 +32,6 @@ pub use crate::asking::Asks;
 pub use crate::explaining::Explains;
 pub use crate::listening::{BoundListener, FolderLeave, Listens};
 pub use crate::machine::Machine;
-pub use crate::serve::Hosts;
 pub use crate::showing::ShownWriter;
 use command_endings::status;
 use command_line::{NoCommand, wants_warnings};
@@ -66,7 +65,7 @@ pub fn run<
     ensures { (asked : Result CommandRequest NoCommand)
         × H.Asks.may_ask rt.now (map S.text words.now) asked
         × IsEndOf (H.ImageDisk.may_hold rt.now) (H.ImageDisk.may_fail rt.now) H.Disk.gives (H.OutDisk.files rt.now)
-        (H.WallClock.may_show rt.now) (H.Listens.may_refuse rt.now) (⟦<H as Hosts>⟧.may_host rt.now)
+        (H.WallClock.may_show rt.now) (H.Listens.may_refuse rt.now)
         (I.Read.remaining input.old) (I.may_fail input.old) (O.noted output.new) asked result
         (O.Write.contents output.old) (O.Write.contents output.new) }
 {
@@ -151,7 +150,7 @@ fn run_read<
     notes: TableNotes,
 ) -> u8
     ensures { IsEndOf (H.ImageDisk.may_hold rt.now) (H.ImageDisk.may_fail rt.now) H.Disk.gives (H.OutDisk.files rt.now)
-        (H.WallClock.may_show rt.now) (H.Listens.may_refuse rt.now) (⟦<H as Hosts>⟧.may_host rt.now)
+        (H.WallClock.may_show rt.now) (H.Listens.may_refuse rt.now)
         (I.remaining input.old) (I.may_fail input.old) (O.noted output.new) asked.entry result
         (O.contents output.old) (O.contents output.new) }
 {
@@ -182,7 +181,7 @@ fn run_request<
     notes: TableNotes,
 ) -> u8
     ensures { IsEnd (H.ImageDisk.may_hold rt.now) (H.ImageDisk.may_fail rt.now) H.Disk.gives (H.OutDisk.files rt.now)
-        (H.WallClock.may_show rt.now) (H.Listens.may_refuse rt.now) (⟦<H as Hosts>⟧.may_host rt.now)
+        (H.WallClock.may_show rt.now) (H.Listens.may_refuse rt.now)
         (I.remaining input.old) (I.may_fail input.old) (O.noted output.new) request.entry result
         (O.contents output.old) (O.contents output.new) }
 {

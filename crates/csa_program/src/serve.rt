@@ -163,7 +163,7 @@ impl<'a, H: Disk + Explains + Clock + WallClock + Sync> Feeds for Folders<'a, H>
 
 /// A machine that servers run on. It has no code, only a word for contracts: how the sessions of a server may have
 /// ended.
-pub trait Hosts {
+trait Hosts {
     // That there is a whole run, as `run_shelves` describes it, of a server that was asked for, with these counts. It
     // doesn't say that this run took place.
     ghost may_host: { Self → MayHost };
@@ -193,7 +193,7 @@ pub fn run<H: Machine + ImageDisk<Image = H::File>, I: WatchedRead, O: Watched, 
     errors: &mut E,
 ) -> u8
     ensures { IsServeEnd (H.ImageDisk.may_hold rt.now) (H.ImageDisk.may_fail rt.now) (H.WallClock.may_show rt.now)
-        (H.Listens.may_refuse rt.now) (⟦<H as Hosts>⟧.may_host rt.now) (I.remaining input.old)
+        (H.Listens.may_refuse rt.now) (I.remaining input.old)
         (I.may_fail input.old) request.entry (O.noted output.new) result
         (O.contents output.old) (O.contents output.new) }
 {
@@ -257,8 +257,7 @@ fn serve_at<
 ) -> u8
     requires { IsPlanBy (H.WallClock.may_show rt.now) setup.now.request.now.plan setup.now.zone_bytes.items
         setup.now.first }
-    ensures { IsEndAt (⟦<H as Hosts>⟧.may_host rt.now setup.now.request.now image setup.now.zone_bytes.items)
-        bound.port (O.noted output.new) (O.contents output.old) (O.contents output.new) result }
+    ensures { IsEndAt bound.port (O.noted output.new) (O.contents output.old) (O.contents output.new) result }
 {
     let alloc = setup.alloc;
     keep_freed_memory(alloc);
@@ -289,8 +288,6 @@ fn host_reported<H: Disk + Explains + Clock + WallClock + Threads + Wait + Sync,
 ) -> Option<(SessionCounts, bool)>
     requires { IsPlanBy (H.WallClock.may_show rt.now) setup.now.request.now.plan setup.now.zone_bytes.items
         setup.now.first }
-    ensures { IfSome result (λ end. ⟦<H as Hosts>⟧.may_host rt.now setup.now.request.now image
-        setup.now.zone_bytes.items end.0 end.1) }
 {
     let queue = &queue;
     let ((), end) = thread::join(

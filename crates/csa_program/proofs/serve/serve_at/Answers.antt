@@ -8,4 +8,4 @@ returns-in-Some g c =
     let begun = c.tell_port-begun in
     let accepted : begun.result ≡ ACCEPTED = search rules in
     let printed = port_printed c.args.bound.port begun.result _ _ _ begun.ensures accepted in
-    inr (_, _, c.in-Some.ensures, c.tell_served.ensures c.args.bound.port _ printed)
+    inr (_, _, c.tell_served.ensures c.args.bound.port _ printed)
