@@ -2,4 +2,4 @@
 
 /// The sum of all sources but this file, as `release/sources --program` prints it. `release/stamp` writes it, and
 /// `.ci/run` compares it with the sources.
-pub const SOURCES: &str = "4519270ad5086a248d30c51300d61dff36f7bbd6602afd948a037c33d3202c9d";
+pub const SOURCES: &str = "b005b6093f14df1da97ff65f5088bf095f091c7c8d092695f43d11c3578cff76";

@@ -44,6 +44,7 @@ use image_commands::{ImageRequest, answer, matrix, open_image};
 use image_files::{ImageDisk, OutDisk, Watched, WatchedRead};
 use std::convert::AsStr;
 use std::io::{ErrorKind, IsTerminal, Write};
+use std::net::{Net, TcpListener, TcpStream};
 use std::thread::Threads;
 use std::time::Clock;
 
@@ -56,7 +57,7 @@ use std::time::Clock;
 /// asks for nothing. `errors` also says that memory ran out, or why `output` can't be written, unless
 /// it is a pipe that nobody reads any more. Where `errors` is a terminal, progress is shown there.
 pub fn run<
-    H: Machine + ImageDisk<Image = H::File>,
+    H: Machine + ImageDisk<Image = H::File> + Net<Listener = TcpListener, Stream = TcpStream>,
     S: AsStr,
     I: WatchedRead,
     O: Watched,
