@@ -2,4 +2,4 @@
 
 /// The sum of all sources but this file, as `release/sources --program` prints it. `release/stamp` writes it, and
 /// `.ci/run` compares it with the sources.
-pub const SOURCES: &str = "b005b6093f14df1da97ff65f5088bf095f091c7c8d092695f43d11c3578cff76";
+pub const SOURCES: &str = "5974c20cdcd3b5480c7b59363569a4fe349c8e6703d9621d95a9303a77d58724";

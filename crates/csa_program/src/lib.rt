@@ -57,7 +57,10 @@ use std::time::Clock;
 /// asks for nothing. `errors` also says that memory ran out, or why `output` can't be written, unless
 /// it is a pipe that nobody reads any more. Where `errors` is a terminal, progress is shown there.
 pub fn run<
-    H: Machine + ImageDisk<Image = H::File> + Net<Listener = TcpListener, Stream = TcpStream>,
+    H: Machine
+        + Listens
+        + ImageDisk<Image = H::File>
+        + Net<Listener = TcpListener, Stream = TcpStream>,
     S: AsStr,
     I: WatchedRead,
     O: Watched,
