@@ -2,4 +2,4 @@
 
 /// The sum of all sources but this file, as `release/sources --program` prints it. `release/stamp` writes it, and
 /// `.ci/run` compares it with the sources.
-pub const SOURCES: &str = "5974c20cdcd3b5480c7b59363569a4fe349c8e6703d9621d95a9303a77d58724";
+pub const SOURCES: &str = "8249531ddc45d67fbc615165e19bfed4b4bffd9c535e9940fef1c3c4ff1d121d";

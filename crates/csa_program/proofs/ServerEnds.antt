@@ -90,7 +90,7 @@ zone_unreadable may_fail (ZoneText.Fixed ahead) path none = none
 zone_unreadable may_fail (ZoneText.Posix rule) path none = none
 zone_unreadable may_fail (ZoneText.File file) path unread = unread.1
 
-module _ (may_hold : List ℕ → Option (List ℕ) → Type 0) (may_fail : List ℕ → Type 0) (may_show : Option ℤ → Type 0) (may_refuse : ℕ → Type 0)
+module _ (may_hold : List ℕ → Option (List ℕ) → Type 0) (may_fail : List ℕ → Type 0) (may_show : Option ℤ → Type 0)
     (input : Option (List ℕ)) (input_failed : Type 0) (request : ServeRequest) (noted : Option ErrorKind) (status : ℕ)
     (before after : Option (List ℕ)) where
   -- its zone is refused
@@ -98,7 +98,7 @@ module _ (may_hold : List ℕ → Option (List ℕ) → Type 0) (may_fail : List
       → (status ≡ REFUSED → RefusesFeed fault) → (status ≡ REFUSED → Appends before after (feed_line fault))
       → (status ≡ OUT_OF_MEMORY → after ≡ before) → (status ≡ INPUT_OUTPUT → IsBegun before after (feed_line fault))
       → (status ≡ INPUT_OUTPUT → IsDone (refusal_status fault) (feed_line fault) before after ⊎ HasFault noted)
-      → IsServeEnd may_hold may_fail may_show may_refuse input input_failed request noted status before after
+      → IsServeEnd may_hold may_fail may_show input input_failed request noted status before after
   zone_refused fault is (inl e) memory refuses whole silent begun failed =
       let judged = refuses e in
       inl (inl (feed_line fault, inl (fault, judged.0, e ∙ sym judged.1, is, refl), whole e))
@@ -111,38 +111,38 @@ module _ (may_hold : List ℕ → Option (List ℕ) → Type 0) (may_fail : List
   zone_refused fault is (inr (inr e)) memory refuses whole silent begun failed = inl (inr (inr (inr e, silent e)))
 
   -- its plan was made, and its image is refused
-  pub image_refused : (zone_bytes : List ℕ) → IsPlanned may_hold may_fail may_show may_refuse input input_failed request zone_bytes
+  pub image_refused : (zone_bytes : List ℕ) → IsPlanned may_hold may_fail may_show input input_failed request zone_bytes
       → IsOutcome (PrintsRefusal (IsRefusedImage may_hold request.image.now input)) (IsUnreadable may_fail request.image.now input_failed) noted
       status before after
-      → IsServeEnd may_hold may_fail may_show may_refuse input input_failed request noted status before after
+      → IsServeEnd may_hold may_fail may_show input input_failed request noted status before after
   image_refused zone_bytes planned ended =
       inl (outcome_of (PrintsRefusal (IsRefusedImage may_hold request.image.now input))
-      (IsServeRefusal may_hold may_fail may_show may_refuse input input_failed request)
-      (IsUnreadable may_fail request.image.now input_failed) (IsUnservable may_hold may_fail may_show may_refuse input input_failed request) noted
+      (IsServeRefusal may_hold may_fail may_show input input_failed request)
+      (IsUnreadable may_fail request.image.now input_failed) (IsUnservable may_hold may_fail may_show input input_failed request) noted
       status before after (λ s line is. inr (zone_bytes, planned, is)) (λ can. inr (zone_bytes, planned, inl can)) ended)
 
   -- its zone's file can't be read
   pub zone_unread : (path : Bor (List ℕ)) → IsNoPlan may_hold may_fail request.plan (PlanFailure.Unreadable path) → status ≡ INPUT_OUTPUT
-      → after ≡ before → IsServeEnd may_hold may_fail may_show may_refuse input input_failed request noted status before after
+      → after ≡ before → IsServeEnd may_hold may_fail may_show input input_failed request noted status before after
   zone_unread path unread e same = inl (inr (inr (inl (e, inl (zone_unreadable may_fail request.plan.zone path unread)), same)))
 
   -- nothing listens at its port
   pub unheard : (image : ImageValue) (zone_bytes : List ℕ)
-      → IsPlanned may_hold may_fail may_show may_refuse input input_failed request zone_bytes
-      → HoldsOfBytes may_hold request.image.now input (SpellsImage image) → may_refuse request.port
+      → IsPlanned may_hold may_fail may_show input input_failed request zone_bytes
+      → HoldsOfBytes may_hold request.image.now input (SpellsImage image)
       → (status ≡ INPUT_OUTPUT) ⊎ (status ≡ OUT_OF_MEMORY) → after ≡ before
-      → IsServeEnd may_hold may_fail may_show may_refuse input input_failed request noted status before after
-  unheard image zone_bytes planned held can (inl e) same =
-      inl (inr (inr (inl (e, inr (zone_bytes, planned, inr (image, held, can))), same)))
-  unheard image zone_bytes planned held can (inr e) same = inl (inr (inr (inr e, same)))
+      → IsServeEnd may_hold may_fail may_show input input_failed request noted status before after
+  unheard image zone_bytes planned held (inl e) same =
+      inl (inr (inr (inl (e, inr (zone_bytes, planned, inr (image, held, tt))), same)))
+  unheard image zone_bytes planned held (inr e) same = inl (inr (inr (inr e, same)))
 
   -- nothing was printed until it listened
   pub listened : (image : ImageValue) (zone_bytes : List ℕ) (port : ℕ) (opened : Option (List ℕ))
-      → IsPlanned may_hold may_fail may_show may_refuse input input_failed request zone_bytes
+      → IsPlanned may_hold may_fail may_show input input_failed request zone_bytes
       → HoldsOfBytes may_hold request.image.now input (SpellsImage image)
       → (request.port ≢ 0 → port ≡ request.port) → port < 65_536 → opened ≡ before
       → IsEndAt port noted opened after status
-      → IsServeEnd may_hold may_fail may_show may_refuse input input_failed request noted status before after
+      → IsServeEnd may_hold may_fail may_show input input_failed request noted status before after
   listened image zone_bytes port opened planned held at small kept ended = inr (record {
     image = image;
     zone_bytes = zone_bytes;

@@ -68,8 +68,8 @@ IsUnusableOver may_hold may_fail input input_failed path Lacks =
     IsUnreadable may_fail path input_failed ⊎ ((image : ImageValue) × HoldsOfBytes may_hold path input (SpellsImage image) × Lacks)
 
 -- `may_hold` says what a file at a path may hold, and `may_fail` that it may not be read; the path `-` is the input, of which it is said whether a read
--- failed; `may_show` says what the clock may show, and `may_refuse` that nothing may listen at a port
-module _ (may_hold : List ℕ → Option (List ℕ) → Type 0) (may_fail : List ℕ → Type 0) (may_show : Option ℤ → Type 0) (may_refuse : ℕ → Type 0)
+-- failed; `may_show` says what the clock may show
+module _ (may_hold : List ℕ → Option (List ℕ) → Type 0) (may_fail : List ℕ → Type 0) (may_show : Option ℤ → Type 0)
     (input : Option (List ℕ)) (input_failed : Type 0) (request : ServeRequest) where
   -- the bytes are those of the zone's file, and a plan was made of them as it is asked for
   abbrev pub IsPlanned : List ℕ → Type 0
@@ -91,21 +91,21 @@ module _ (may_hold : List ℕ → Option (List ℕ) → Type 0) (may_fail : List
     pub small : port < 65_536
     pub ended : IsEndAt port fault before after status
 
-  -- a server can't be begun: its zone's file may not be read; or, once a plan was made, its image; or, once that is one, nothing may listen at its port
+  -- a server can't be begun: its zone's file may not be read; or, once a plan was made, its image; or that is one, and nothing listens at its port, of
+  -- which it isn't said that nothing can
   abbrev pub IsUnservable : Type 0
   IsUnservable = IsZoneUnreadable may_fail request.plan.zone
       ⊎ ((zone_bytes : List ℕ) × IsPlanned zone_bytes
-      × IsUnusableOver may_hold may_fail input input_failed request.image.now (may_refuse request.port))
+      × IsUnusableOver may_hold may_fail input input_failed request.image.now (Unit {0}))
 
   -- a server was refused, or can't be begun, or ended so
   abbrev pub IsServeEnd : Option ErrorKind → ℕ → Option (List ℕ) → Option (List ℕ) → Type 0
   IsServeEnd fault status before after = IsOutcome IsServeRefusal IsUnservable fault status before after ⊎ IsEndOfRun fault status before after
 
 -- `gives` says what a disk of some kind may give for a folder in some state and the name of a file, and `disk` what is known of files that are written;
--- `may_fail` that a file at a path may not be read, `may_refuse` that nothing may listen at a port, and `input_failed` that a read of the input failed;
--- `fault` is that of the output
+-- `may_fail` that a file at a path may not be read, and `input_failed` that a read of the input failed; `fault` is that of the output
 module _ {D : Type 0} (may_hold : List ℕ → Option (List ℕ) → Type 0) (may_fail : List ℕ → Type 0) (gives : Gives D) (disk : OutFiles)
-    (may_show : Option ℤ → Type 0) (may_refuse : ℕ → Type 0) (input : Option (List ℕ)) (input_failed : Type 0)
+    (may_show : Option ℤ → Type 0) (input : Option (List ℕ)) (input_failed : Type 0)
     (fault : Option ErrorKind) where
   -- a command over the image at its path ended so
   abbrev pub IsEndOver : ImageRequest → ℕ → Option (List ℕ) → Option (List ℕ) → Type 0
@@ -132,7 +132,7 @@ module _ {D : Type 0} (may_hold : List ℕ → Option (List ℕ) → Type 0) (ma
   IsEnd (requests.Build request) =
       IsOutcome (PrintsOfFeed (IsReport gives may_hold may_show disk request) (IsBuildRefusal gives request.folder.now may_hold may_show request.plan))
       (BuildIsUnusable may_fail disk request) fault
-  IsEnd (requests.Serve request) = IsServeEnd may_hold may_fail may_show may_refuse input input_failed request fault
+  IsEnd (requests.Serve request) = IsServeEnd may_hold may_fail may_show input input_failed request fault
 
   -- a command line ended so: the request that it makes, or the help; or it makes none, or memory ran out, and nothing was printed
   abbrev pub IsEndOf : Result CommandRequest NoCommand → ℕ → Option (List ℕ) → Option (List ℕ) → Type 0

@@ -30,7 +30,6 @@ mod sockets;
 
 pub use crate::asking::Asks;
 pub use crate::explaining::Explains;
-pub use crate::listening::{BoundListener, FolderLeave, Listens};
 pub use crate::machine::Machine;
 pub use crate::showing::ShownWriter;
 use command_endings::status;
@@ -57,10 +56,7 @@ use std::time::Clock;
 /// asks for nothing. `errors` also says that memory ran out, or why `output` can't be written, unless
 /// it is a pipe that nobody reads any more. Where `errors` is a terminal, progress is shown there.
 pub fn run<
-    H: Machine
-        + Listens
-        + ImageDisk<Image = H::File>
-        + Net<Listener = TcpListener, Stream = TcpStream>,
+    H: Machine + ImageDisk<Image = H::File> + Net<Listener = TcpListener, Stream = TcpStream>,
     S: AsStr,
     I: WatchedRead,
     O: Watched,
@@ -69,7 +65,7 @@ pub fn run<
     ensures { (asked : Result CommandRequest NoCommand)
         × H.Asks.may_ask rt.now (map S.text words.now) asked
         × IsEndOf (H.ImageDisk.may_hold rt.now) (H.ImageDisk.may_fail rt.now) H.Disk.gives (H.OutDisk.files rt.now)
-        (H.WallClock.may_show rt.now) (H.Listens.may_refuse rt.now)
+        (H.WallClock.may_show rt.now)
         (I.Read.remaining input.old) (I.may_fail input.old) (O.noted output.new) asked result
         (O.Write.contents output.old) (O.Write.contents output.new) }
 {
@@ -139,7 +135,7 @@ fn explain_unwritten<E: Write>(errors: &mut E, fault: Option<ErrorKind>) {
 
 // Runs the request that was read, or says why there is none. The status says where memory ran out.
 fn run_read<
-    H: Machine + ImageDisk<Image = H::File>,
+    H: Machine + ImageDisk<Image = H::File> + Net<Listener = TcpListener, Stream = TcpStream>,
     S: AsStr,
     I: WatchedRead,
     O: Watched,
@@ -154,7 +150,7 @@ fn run_read<
     notes: TableNotes,
 ) -> u8
     ensures { IsEndOf (H.ImageDisk.may_hold rt.now) (H.ImageDisk.may_fail rt.now) H.Disk.gives (H.OutDisk.files rt.now)
-        (H.WallClock.may_show rt.now) (H.Listens.may_refuse rt.now)
+        (H.WallClock.may_show rt.now)
         (I.remaining input.old) (I.may_fail input.old) (O.noted output.new) asked.entry result
         (O.contents output.old) (O.contents output.new) }
 {
@@ -172,7 +168,7 @@ fn run_read<
 
 // Runs a request.
 fn run_request<
-    H: Machine + ImageDisk<Image = H::File>,
+    H: Machine + ImageDisk<Image = H::File> + Net<Listener = TcpListener, Stream = TcpStream>,
     I: WatchedRead,
     O: Watched,
     E: Write + Send,
@@ -185,7 +181,7 @@ fn run_request<
     notes: TableNotes,
 ) -> u8
     ensures { IsEnd (H.ImageDisk.may_hold rt.now) (H.ImageDisk.may_fail rt.now) H.Disk.gives (H.OutDisk.files rt.now)
-        (H.WallClock.may_show rt.now) (H.Listens.may_refuse rt.now)
+        (H.WallClock.may_show rt.now)
         (I.remaining input.old) (I.may_fail input.old) (O.noted output.new) request.entry result
         (O.contents output.old) (O.contents output.new) }
 {

@@ -1,6 +1,6 @@
 //! What servers listen at.
 
-ghost use Rattle.std.specs.Prelude.{◌≡◌, ◌≢◌, ◌<◌, ℕ, IfErr, IfOk};
+ghost use Rattle.std.specs.Prelude.{◌≡◌, ◌≢◌, ◌<◌, IfOk};
 
 use std::io;
 use std::net::{Ipv4Addr, Net, TcpListener, TcpStream};
@@ -17,34 +17,23 @@ pub struct BoundListener {
     pub leave: FolderLeave,
 }
 
-/// A machine on which servers listen. Unlike `Net`, this trait has no associated types, so it can be one of a bundle of
-/// bounds.
-pub trait Listens {
-    // That nothing may listen at a port.
-    ghost may_refuse: { Self → ℕ → Type 0 } = { λ _ _. Unit {0} };
-
-    /// What listens at the port, if it is free; at any free one if the port is 0.
-    fn bound_at(&self, port: u16) -> io::Result<BoundListener>
-        ensures at { port ≢ 0 → IfOk result (λ bound. bound.port ≡ port) }
-        ensures small { IfOk result (λ bound. bound.port < 65_536) }
-        ensures failed { IfErr result (λ _. may_refuse self.now port) };
-}
-
-impl<H: Net<Listener = TcpListener, Stream = TcpStream>> Listens for H {
-    // nothing is known about the ports of a machine
-    ghost may_refuse = { λ _ _. Unit {0} };
-
-    fn bound_at(&self, port: u16) -> io::Result<BoundListener> {
-        let listener = TcpListener::bind(self, (Ipv4Addr::LOCALHOST, port))?;
-        let port = if port == 0 {
-            listener.local_addr()?.port()
-        } else {
-            port
-        };
-        Ok(BoundListener {
-            listener,
-            port,
-            leave: FolderLeave(()),
-        })
-    }
+/// What listens at the port, if it is free; at any free one if the port is 0.
+pub fn bound_at<H: Net<Listener = TcpListener, Stream = TcpStream>>(
+    rt: &H,
+    port: u16,
+) -> io::Result<BoundListener>
+    ensures at { port ≢ 0 → IfOk result (λ bound. bound.port ≡ port) }
+    ensures small { IfOk result (λ bound. bound.port < 65_536) }
+{
+    let listener = TcpListener::bind(rt, (Ipv4Addr::LOCALHOST, port))?;
+    let port = if port == 0 {
+        listener.local_addr()?.port()
+    } else {
+        port
+    };
+    Ok(BoundListener {
+        listener,
+        port,
+        leave: FolderLeave(()),
+    })
 }

@@ -25,7 +25,7 @@ use crate::client_sessions::{ClientSession, SessionRules};
 use crate::explaining::{Explains, warn_of_idle_feed};
 use crate::folders::warn_of_folders;
 use crate::line_queue::{LineQueue, LineWriter};
-use crate::listening::{BoundListener, FolderLeave, Listens};
+use crate::listening::{BoundListener, FolderLeave, bound_at};
 use crate::logging::{Host, LoaderErrors, SharedErrors, log_load};
 use crate::machine::Machine;
 use crate::requests::Requests;
@@ -46,7 +46,7 @@ use orders::OpenGate;
 use std::alloc::{AllocError, Global};
 use std::io::{ErrorKind, Write};
 use std::marker::Brand;
-use std::net::{TcpListener, TcpStream};
+use std::net::{Net, TcpListener, TcpStream};
 use std::rt::Files;
 use std::sync::{Arc, Wait};
 use std::thread;
@@ -185,15 +185,14 @@ impl<'a, H: Disk + Explains + Clock + WallClock + Threads + Wait + Sync + 'a> Ho
 }
 
 /// Serves sessions until as many were served as are asked for, or prints the first thing that is wrong.
-pub fn run<H: Machine + ImageDisk<Image = H::File>, I: WatchedRead, O: Watched, E: Write + Send>(
-    rt: &H,
-    request: ServeRequest<'_>,
-    input: &mut I,
-    output: &mut O,
-    errors: &mut E,
-) -> u8
+pub fn run<
+    H: Machine + ImageDisk<Image = H::File> + Net<Listener = TcpListener, Stream = TcpStream>,
+    I: WatchedRead,
+    O: Watched,
+    E: Write + Send,
+>(rt: &H, request: ServeRequest<'_>, input: &mut I, output: &mut O, errors: &mut E) -> u8
     ensures { IsServeEnd (H.ImageDisk.may_hold rt.now) (H.ImageDisk.may_fail rt.now) (H.WallClock.may_show rt.now)
-        (H.Listens.may_refuse rt.now) (I.remaining input.old)
+        (I.remaining input.old)
         (I.may_fail input.old) request.entry (O.noted output.new) result
         (O.contents output.old) (O.contents output.new) }
 {
@@ -225,7 +224,7 @@ pub fn run<H: Machine + ImageDisk<Image = H::File>, I: WatchedRead, O: Watched, 
         warn_of_bases(alloc, &image, &setup.first, errors);
     }
     warn_of_folders(rt, &request.feeds, errors);
-    let bound = match rt.bound_at(request.port) {
+    let bound = match bound_at(rt, request.port) {
         Ok(bound) => bound,
         Err(error) => return none_received(alloc, errors, request.port, error.kind()),
     };
