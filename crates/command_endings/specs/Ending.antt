@@ -18,13 +18,13 @@ pub record IsBegun (before after : Option (List ℕ)) (text : List ℕ) : Type 0
   pub count : ℕ
   pub added : Appends before after (take count text)
 
--- a text that goes with the status of a failed call, as the line of a file that can't be read, was added
+-- the status that goes with a text is itself that of a failed call, as with the line of a file that can't be read, and the whole text was added
 abbrev pub IsDone : ℕ → List ℕ → Option (List ℕ) → Option (List ℕ) → Type 0
 IsDone status text before after = (status ≡ INPUT_OUTPUT) × Appends before after text
 
 -- `Is status text` says which texts a command may print, and with which status it ends once it has printed such a text; `Unusable` that a file can't be read or
--- written, and `fault` is that of the output. The command ended so; or the output has a fault, and a first part of such a text was printed; or a file can't be
--- read or written, or memory ran out, and nothing was printed
+-- written, or that nothing listens, and `fault` is that of the output. The command ended so; or the output has a fault, and a first part of such a text was
+-- printed; or `Unusable` holds, or memory ran out, and nothing was printed
 abbrev pub IsOutcome : (ℕ → List ℕ → Type 0) → Type 0 → Option ErrorKind → ℕ → Option (List ℕ) → Option (List ℕ) → Type 0
 IsOutcome Is Unusable fault status before after =
     ((text : List ℕ) × Is status text × Appends before after text)

@@ -1,4 +1,5 @@
 mod FeedNames
+mod Unwritten
 mod Hosted
 mod NewSeats
 mod OverImages

@@ -13,17 +13,18 @@ use Rattle.csa_program.specs.Running.{IsTableEnd}
 use Rattle.command_endings.proofs.Outcomes.{outcome_of}
 
 module _ (may_hold : List ℕ → Option (List ℕ) → Type 0) (path : List ℕ) (input : Option (List ℕ)) (Is : ImageValue → ℕ → List ℕ → Type 0)
-    (F G : Type 0) (fault : Option ErrorKind) (status : ℕ) (before : Option (List ℕ)) where
+    (F : Type 0) (G : ImageValue → Type 0) (fault : Option ErrorKind) (status : ℕ) (before : Option (List ℕ)) where
   -- the image isn't to be had; or what is needed besides isn't
   abbrev Lacks : Type 0
-  Lacks = F ⊎ ((image : ImageValue) × HoldsOfBytes may_hold path input (SpellsImage image) × G)
+  Lacks = F ⊎ ((image : ImageValue) × HoldsOfBytes may_hold path input (SpellsImage image) × G image)
 
   -- nothing was printed while it was opened
   pub over_image : (image : ImageValue) (opened after : Option (List ℕ)) → HoldsOfBytes may_hold path input (SpellsImage image)
-      → opened ≡ before → IsOutcome (Is image) G fault status opened after → IsOutcome (PrintsOver may_hold path input Is) Lacks fault status before after
+      → opened ≡ before → IsOutcome (Is image) (G image) fault status opened after
+      → IsOutcome (PrintsOver may_hold path input Is) Lacks fault status before after
   over_image image opened after held silent ended =
       subst (λ (was : Option (List ℕ)). IsOutcome (PrintsOver may_hold path input Is) Lacks fault status was after) silent
-      (outcome_of (Is image) (PrintsOver may_hold path input Is) G Lacks fault status opened after (λ s text is. inl (image, held, is))
+      (outcome_of (Is image) (PrintsOver may_hold path input Is) (G image) Lacks fault status opened after (λ s text is. inl (image, held, is))
       (λ can. inr (image, held, can)) ended)
 
   pub over_none : (after : Option (List ℕ)) → IsOutcome (PrintsRefusal (IsRefusedImage may_hold path input)) F fault status before after

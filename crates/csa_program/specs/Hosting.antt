@@ -31,8 +31,8 @@ first_loader table image = record {
 abbrev pub form_asked : ServeRequest → ReplyForm
 form_asked request = form_with request.legs request.longest request.sets
 
--- what this holds of is a run whose sessions ended in these ways, and it is said whether its source of clients failed. They were as many as clients were
--- wanted, if any number was, unless that source failed
+-- `Is` holds of some run, whose sessions ended in these ways; `is_deaf` says whether its source of clients failed. They were as many as clients were wanted,
+-- if any number was, unless that source failed
 pub record IsRunTo {R W K D : Type 0} (Is : ServingOutcome R W K ShelfSeatValue ShelfLoaderValue NoticeValue D → Type 0) (IsWanted : ℕ → Type 0)
     (has_failed : K → Bool) (ends : SessionCounts) (is_deaf : Bool) : Type 0 where
   pub ran : ServingOutcome R W K ShelfSeatValue ShelfLoaderValue NoticeValue D

@@ -16,8 +16,8 @@ use Rattle.command_requests.specs.declared.requests.ServeRequest.{ServeRequest}
 use Rattle.command_requests.specs.declared.statuses.TheConstants.{ACCEPTED, COMMAND_LINE, INPUT_OUTPUT, OUT_OF_MEMORY, REFUSED}
 use Rattle.feed_commands.specs.Building.{IsReport, IsUnusable as BuildIsUnusable}
 use Rattle.image_commands.specs.Commands.{IsUnusable, PrintsAsked, PrintsDepartures, PrintsProfile, path_of}
-use Rattle.image_commands.specs.Answering.{IsPictureUnwritable}
-use Rattle.image_commands.specs.Departing.{IsListUnreadable}
+use Rattle.image_commands.specs.Answering.{LacksPicture}
+use Rattle.image_commands.specs.Departing.{LacksList}
 use Rattle.image_commands.specs.declared.asked.ImageRequest.{ImageRequest}
 use Rattle.command_endings.specs.Ending.{IsBegun, IsOutcome, PrintsRefusal}
 use Rattle.feed_commands.specs.Folders.{AreDaysOf, IsBuildRefusal, IsTablesRefusalOf}
@@ -63,9 +63,9 @@ pub record IsTableEnd (may_hold : List ℕ → Option (List ℕ) → Type 0) (ma
       × IsTableSpent may_hold image request before after)
 
 -- the image at a path may not be read; or there is one, and what is needed besides isn't to be had
-abbrev pub IsUnusableOver : (List ℕ → Option (List ℕ) → Type 0) → (List ℕ → Type 0) → Option (List ℕ) → Type 0 → List ℕ → Type 0 → Type 0
+abbrev pub IsUnusableOver : (List ℕ → Option (List ℕ) → Type 0) → (List ℕ → Type 0) → Option (List ℕ) → Type 0 → List ℕ → (ImageValue → Type 0) → Type 0
 IsUnusableOver may_hold may_fail input input_failed path Lacks =
-    IsUnreadable may_fail path input_failed ⊎ ((image : ImageValue) × HoldsOfBytes may_hold path input (SpellsImage image) × Lacks)
+    IsUnreadable may_fail path input_failed ⊎ ((image : ImageValue) × HoldsOfBytes may_hold path input (SpellsImage image) × Lacks image)
 
 -- `may_hold` says what a file at a path may hold, and `may_fail` that it may not be read; the path `-` is the input, of which it is said whether a read
 -- failed; `may_show` says what the clock may show
@@ -96,7 +96,7 @@ module _ (may_hold : List ℕ → Option (List ℕ) → Type 0) (may_fail : List
   abbrev pub IsUnservable : Type 0
   IsUnservable = IsZoneUnreadable may_fail request.plan.zone
       ⊎ ((zone_bytes : List ℕ) × IsPlanned zone_bytes
-      × IsUnusableOver may_hold may_fail input input_failed request.image.now (Unit {0}))
+      × IsUnusableOver may_hold may_fail input input_failed request.image.now (λ image. Unit {0}))
 
   -- a server was refused, or can't be begun, or ended so
   abbrev pub IsServeEnd : Option ErrorKind → ℕ → Option (List ℕ) → Option (List ℕ) → Type 0
@@ -110,7 +110,7 @@ module _ {D : Type 0} (may_hold : List ℕ → Option (List ℕ) → Type 0) (ma
   -- a command over the image at its path ended so
   abbrev pub IsEndOver : ImageRequest → ℕ → Option (List ℕ) → Option (List ℕ) → Type 0
   IsEndOver asked = IsOutcome (PrintsOver may_hold (path_of asked) input (λ i. PrintsAsked may_hold disk i asked))
-      (IsUnusableOver may_hold may_fail input input_failed (path_of asked) (IsUnusable may_fail may_hold disk asked)) fault
+      (IsUnusableOver may_hold may_fail input input_failed (path_of asked) (λ i. IsUnusable may_fail may_hold disk i asked)) fault
 
   -- a command ended so, over the image at its path, or over the files of its folder
   abbrev pub IsEnd : CommandRequest → ℕ → Option (List ℕ) → Option (List ℕ) → Type 0
@@ -120,9 +120,9 @@ module _ {D : Type 0} (may_hold : List ℕ → Option (List ℕ) → Type 0) (ma
   IsEnd (requests.Stops request) = IsEndOver (images.Stops request)
   IsEnd (requests.Upgrade request) = IsEndOver (images.Upgrade request)
   IsEnd (requests.Profile request) = IsOutcome (PrintsOver may_hold request.image.now input (λ i. PrintsProfile disk i request))
-      (IsUnusableOver may_hold may_fail input input_failed request.image.now (IsPictureUnwritable disk request.picture)) fault
+      (IsUnusableOver may_hold may_fail input input_failed request.image.now (λ i. LacksPicture disk i request)) fault
   IsEnd (requests.Departures request) = IsOutcome (PrintsOver may_hold request.image.now input (λ i. PrintsDepartures may_hold i request))
-      (IsUnusableOver may_hold may_fail input input_failed request.image.now (IsListUnreadable may_fail may_hold request.from)) fault
+      (IsUnusableOver may_hold may_fail input input_failed request.image.now (λ i. LacksList may_fail may_hold i request)) fault
   IsEnd (requests.Matrix request) = IsTableEnd may_hold may_fail disk input input_failed request fault
   IsEnd (requests.Tables request) = IsOutcome (PrintsOfFeed (IsCounts gives request) (IsTablesRefusalOf gives request.folder.now)) ⊥ fault
   IsEnd (requests.Days request) =
@@ -131,7 +131,7 @@ module _ {D : Type 0} (may_hold : List ℕ → Option (List ℕ) → Type 0) (ma
       IsOutcome (PrintsOfFeed (IsTextOf gives request.folder.now request) (IsStopsRefusal gives request.folder.now)) ⊥ fault
   IsEnd (requests.Build request) =
       IsOutcome (PrintsOfFeed (IsReport gives may_hold may_show disk request) (IsBuildRefusal gives request.folder.now may_hold may_show request.plan))
-      (BuildIsUnusable may_fail disk request) fault
+      (BuildIsUnusable gives may_hold may_fail may_show disk request) fault
   IsEnd (requests.Serve request) = IsServeEnd may_hold may_fail may_show input input_failed request fault
 
   -- a command line ended so: the request that it makes, or the help; or it makes none, or memory ran out, and nothing was printed

@@ -37,27 +37,27 @@ abbrev pub served_text : SessionCounts → List ℕ
 served_text ends = (codes "served " ++ decimal (sessions_in ends)) ++ codes "\n"
 
 -- how a server at this port ended whose sessions ended in these ways, and of which it is said whether accepting failed: with the status that follows from
--- that, once it has printed its port and the number of the sessions; or the output has a fault, or memory ran out, once it has printed its port, and of the
--- number's line a first part, or nothing
+-- that, once it has printed its port and the number of the sessions; or the output has a fault, and it has printed its port and a first part of the number's
+-- line; or memory ran out, and it has printed its port alone
 abbrev pub IsServerEnd : ℕ → Option ErrorKind → Option (List ℕ) → Option (List ℕ) → SessionCounts → Bool → ℕ → Type 0
 IsServerEnd port fault before after ends is_deaf status =
     ((status ≡ status_of is_deaf ends) × Appends before after (port_text port ++ served_text ends))
     ⊎ ((status ≡ INPUT_OUTPUT) × HasFault fault × (count : ℕ) × Appends before after (port_text port ++ take count (served_text ends)))
     ⊎ ((status ≡ OUT_OF_MEMORY) × Appends before after (port_text port))
 
--- how a server at this port ended that served nobody: the output has a fault, and of its port's line it has printed a first part; or memory ran out, and it
--- has printed that line or nothing
+-- how a server at this port ended of whose sessions nothing is said: the output has a fault, and of its port's line it has printed a first part; or it lacked
+-- memory or a thread, or lost one, and it has printed that line or nothing
 abbrev pub IsNoServerEnd : ℕ → Option ErrorKind → Option (List ℕ) → Option (List ℕ) → ℕ → Type 0
 IsNoServerEnd port fault before after status =
     ((status ≡ INPUT_OUTPUT) × HasFault fault × IsBegun before after (port_text port))
     ⊎ ((status ≡ OUT_OF_MEMORY) × ((after ≡ before) ⊎ Appends before after (port_text port)))
 
--- whether a server of this image that was asked for, with these bytes of its zone's file, may have had sessions that ended in these ways, and may have failed
--- to accept others
+-- whether a server of this image that was asked for, with these bytes of its zone's file, may have had sessions that ended in these ways, while accepting
+-- failed or didn't
 abbrev pub MayHost : Type 1
 MayHost = ServeRequest → ImageValue → List ℕ → SessionCounts → Bool → Type 0
 
--- one or the other
+-- a server at this port ended without a word of its sessions, or after sessions that ended in some ways
 abbrev pub IsEndAt : ℕ → Option ErrorKind → Option (List ℕ) → Option (List ℕ) → ℕ → Type 0
 IsEndAt port fault before after status =
     IsNoServerEnd port fault before after status

@@ -1,15 +1,17 @@
 //! The body of the program `csa`: words, a reader and two writers in, an exit status out.
 #![tactic(auto)]
 
-ghost use Rattle.std.specs.Prelude.{◌++◌, ◌⊎◌, Result, codes, map};
+ghost use Rattle.std.specs.Prelude.{◌≡◌, ◌++◌, ◌⊎◌, None, Result, codes, map};
 ghost use Rattle.command_line.specs.declared.reading.NoCommand.{NoCommand};
 ghost use Rattle.command_requests.specs.declared.requests.CommandRequest.{CommandRequest};
 ghost use Rattle.image_commands.specs.Commands.{IsUnusable, PrintsAsked, PrintsDepartures, PrintsProfile, path_of};
 ghost use Rattle.command_endings.specs.Ending.{IsOutcome};
 ghost use Rattle.image_commands.specs.Opening.{PrintsOver};
-ghost use Rattle.image_commands.specs.Answering.{IsPictureUnwritable};
-ghost use Rattle.image_commands.specs.Departing.{IsListUnreadable};
+ghost use Rattle.image_commands.specs.Answering.{LacksPicture};
+ghost use Rattle.image_commands.specs.Departing.{LacksList};
+ghost use Rattle.command_requests.specs.declared.statuses.TheConstants.{ACCEPTED, INPUT_OUTPUT, REFUSED};
 ghost use Rattle.image_files.specs.Held.{IsUnreadable};
+ghost use Rattle.image_files.specs.Watching.{HasFault};
 ghost use Rattle.csa_program.specs.Running.{IsEnd, IsEndOf, IsTableEnd, IsTextEnd, IsUnusableOver};
 
 mod accepting;
@@ -52,8 +54,9 @@ use std::time::Clock;
 /// What a command finds goes to `output`, what is wrong with the command line or with a file to
 /// `errors`. The status is 0 for an accepted request, 2 for a refused one and for a server of which
 /// a session had too many requests, 3 where a file can't be read or written, a line can't be
-/// written, or a socket or a session fails, 4 where memory ran out, and 64 for a command line that
-/// asks for nothing. `errors` also says that memory ran out, or why `output` can't be written, unless
+/// written, or a socket or a session fails, 4 where memory ran out or a server lacked or lost a
+/// thread, and 64 for a command line that asks for nothing, or for a table by a list that names no
+/// sets of stops. `errors` also says that memory ran out, or why `output` can't be written, unless
 /// it is a pipe that nobody reads any more. Where `errors` is a terminal, progress is shown there.
 pub fn run<
     H: Machine + ImageDisk<Image = H::File> + Net<Listener = TcpListener, Stream = TcpStream>,
@@ -62,12 +65,13 @@ pub fn run<
     O: Watched,
     E: Write + IsTerminal + Send,
 >(rt: &H, words: &[S], input: &mut I, output: &mut O, errors: &mut E) -> u8
-    ensures { (asked : Result CommandRequest NoCommand)
+    ensures ended { (asked : Result CommandRequest NoCommand)
         × H.Asks.may_ask rt.now (map S.text words.now) asked
         × IsEndOf (H.ImageDisk.may_hold rt.now) (H.ImageDisk.may_fail rt.now) H.Disk.gives (H.OutDisk.files rt.now)
         (H.WallClock.may_show rt.now)
-        (I.Read.remaining input.old) (I.may_fail input.old) (O.noted output.new) asked result
-        (O.Write.contents output.old) (O.Write.contents output.new) }
+        (I.Read.remaining input.old) (I.may_fail input.old) (O.noted output.new) asked
+        result (O.Write.contents output.old) (O.Write.contents output.new) }
+    ensures clean { (result ≡ ACCEPTED) ⊎ (result ≡ REFUSED) → O.noted output.new ≡ None }
 {
     let notes = TableNotes {
         is_terminal: errors.is_terminal(),
@@ -75,7 +79,8 @@ pub fn run<
     };
     let mut line = Vec::new(rt.alloc());
     let asked = rt.asked(words, &mut line);
-    let status = run_read(rt, words, asked, input, output, errors, notes);
+    let ended = run_read(rt, words, asked, input, output, errors, notes);
+    let status = unless_unwritten(ended, output.fault());
     if status == status::OUT_OF_MEMORY {
         explain(errors, &[NO_MEMORY]);
     }
@@ -133,6 +138,18 @@ fn explain_unwritten<E: Write>(errors: &mut E, fault: Option<ErrorKind>) {
     }
 }
 
+// The status of a command that would end so: if its output has a fault, what was done or refused counts as failed.
+fn unless_unwritten(status: u8, fault: Option<ErrorKind>) -> u8
+    ensures clean { (result ≡ ACCEPTED) ⊎ (result ≡ REFUSED) → fault ≡ None }
+    ensures kept { (result ≡ status) ⊎ (((status ≡ ACCEPTED) ⊎ (status ≡ REFUSED)) × (result ≡ INPUT_OUTPUT)
+        × HasFault fault) }
+{
+    if (status == status::ACCEPTED || status == status::REFUSED) && fault.is_some() {
+        return status::INPUT_OUTPUT;
+    }
+    status
+}
+
 // Runs the request that was read, or says why there is none. The status says where memory ran out.
 fn run_read<
     H: Machine + ImageDisk<Image = H::File> + Net<Listener = TcpListener, Stream = TcpStream>,
@@ -151,8 +168,8 @@ fn run_read<
 ) -> u8
     ensures { IsEndOf (H.ImageDisk.may_hold rt.now) (H.ImageDisk.may_fail rt.now) H.Disk.gives (H.OutDisk.files rt.now)
         (H.WallClock.may_show rt.now)
-        (I.remaining input.old) (I.may_fail input.old) (O.noted output.new) asked.entry result
-        (O.contents output.old) (O.contents output.new) }
+        (I.remaining input.old) (I.may_fail input.old) (O.noted output.new) asked.entry
+        result (O.contents output.old) (O.contents output.new) }
 {
     match asked {
         Ok(request) => run_request(rt, request, input, output, errors, notes),
@@ -182,8 +199,8 @@ fn run_request<
 ) -> u8
     ensures { IsEnd (H.ImageDisk.may_hold rt.now) (H.ImageDisk.may_fail rt.now) H.Disk.gives (H.OutDisk.files rt.now)
         (H.WallClock.may_show rt.now)
-        (I.remaining input.old) (I.may_fail input.old) (O.noted output.new) request.entry result
-        (O.contents output.old) (O.contents output.new) }
+        (I.remaining input.old) (I.may_fail input.old) (O.noted output.new)
+        request.entry result (O.contents output.old) (O.contents output.new) }
 {
     let warnings = notes.warnings;
     match request {
@@ -242,7 +259,7 @@ fn answer_profile<
         (λ image. PrintsProfile (H.OutDisk.files rt.now) image request.entry))
         (IsUnusableOver (H.ImageDisk.may_hold rt.now) (H.ImageDisk.may_fail rt.now) (I.remaining input.old)
         (I.may_fail input.old) request.entry.image.now
-        (IsPictureUnwritable (H.OutDisk.files rt.now) request.entry.picture)) (O.noted output.new) result
+        (λ image. LacksPicture (H.OutDisk.files rt.now) image request.entry)) (O.noted output.new) result
         (O.contents output.old) (O.contents output.new) }
 {
     let asked = ImageRequest::Profile(&request);
@@ -267,7 +284,7 @@ fn answer_departures<
         (λ image. PrintsDepartures (H.ImageDisk.may_hold rt.now) image request.entry))
         (IsUnusableOver (H.ImageDisk.may_hold rt.now) (H.ImageDisk.may_fail rt.now) (I.remaining input.old)
         (I.may_fail input.old) request.entry.image.now
-        (IsListUnreadable (H.ImageDisk.may_fail rt.now) (H.ImageDisk.may_hold rt.now) request.entry.from))
+        (λ image. LacksList (H.ImageDisk.may_fail rt.now) (H.ImageDisk.may_hold rt.now) image request.entry))
         (O.noted output.new) result (O.contents output.old) (O.contents output.new) }
 {
     let asked = ImageRequest::Departures(&request);
@@ -317,7 +334,8 @@ fn answer_over<
         (λ image. PrintsAsked (H.ImageDisk.may_hold rt.now) (H.OutDisk.files rt.now) image asked.entry))
         (IsUnusableOver (H.ImageDisk.may_hold rt.now) (H.ImageDisk.may_fail rt.now) (I.remaining input.old)
         (I.may_fail input.old) (path_of asked.entry)
-        (IsUnusable (H.ImageDisk.may_fail rt.now) (H.ImageDisk.may_hold rt.now) (H.OutDisk.files rt.now) asked.entry))
+        (λ image. IsUnusable (H.ImageDisk.may_fail rt.now) (H.ImageDisk.may_hold rt.now) (H.OutDisk.files rt.now) image
+        asked.entry))
         (O.noted output.new) result (O.contents output.old) (O.contents output.new) }
 {
     match open_image(rt, asked.path(), input, output, errors) {

@@ -29,9 +29,13 @@ IfUnusable (Unreadable path) Unusable = Unusable
 IfUnusable (Unwritten path kind) Unusable = kind ≢ WasOutOfMemory → Unusable
 IfUnusable OutOfMemory Unusable = Unit {0}
 
--- the zone's file may not be read, or the image not be written
-abbrev pub IsUnusable : (List ℕ → Type 0) → OutFiles → BuildRequest → Type 0
-IsUnusable may_fail disk request = IsZoneUnreadable may_fail request.plan.zone ⊎ IsUnwritable disk request.out.now
+-- the zone's file may not be read; or the image of the folder's files was made, and may not be written
+abbrev pub IsUnusable : {D : Type 0} → Gives D → (List ℕ → Option (List ℕ) → Type 0) → (List ℕ → Type 0) → (Option ℤ → Type 0) → OutFiles → BuildRequest
+    → Type 0
+IsUnusable gives may_hold may_fail may_show disk request =
+    IsZoneUnreadable may_fail request.plan.zone
+    ⊎ (IsUnwritable disk request.out.now × ((t : TimetableValue) × (names : NamesValue) × (report : Report)
+    × IsBuiltFrom gives request.folder.now may_hold may_show request.plan t names report))
 
 -- how many stops, runs, connections and footpaths the image has
 unfoldable pub made_text : Report → List ℕ

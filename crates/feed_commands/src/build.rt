@@ -3,6 +3,9 @@
 
 ghost use Rattle.std.specs.Prelude.{◌≡◌, ◌≤◌, ◌++◌, IfErr, IfOk, OnOk, string_bytes};
 ghost use Rattle.connections.specs.declared.days.TheConstants.{MAX_DAYS};
+ghost use Rattle.connections.specs.declared.report.Report.{Report as ReportValue};
+ghost use Rattle.timetable.specs.NamesValue.{NamesValue};
+ghost use Rattle.timetable.specs.TimetableValue.{TimetableValue};
 ghost use Rattle.feed_files.specs.Reading.{Content};
 ghost use Rattle.feed_files.specs.Reads.{AreRead, Shows, SomeWereRead, all_tables};
 ghost use Rattle.feed_loader.specs.Refused.{IsLoadRefusal, IsLoaded};
@@ -59,8 +62,8 @@ pub fn run<
     ensures { IsOutcome (PrintsOfFeed
         (IsReport H.gives (H.may_hold rt.now) (H.may_show rt.now) (H.files rt.now) request.entry)
         (IsBuildRefusal H.gives request.entry.folder.now (H.may_hold rt.now) (H.may_show rt.now) request.entry.plan))
-        (IsUnusable (H.may_fail rt.now) (H.files rt.now) request.entry) (O.noted output.new)
-        result (O.contents output.old) (O.contents output.new) }
+        (IsUnusable H.gives (H.may_hold rt.now) (H.may_fail rt.now) (H.may_show rt.now) (H.files rt.now) request.entry)
+        (O.noted output.new) result (O.contents output.old) (O.contents output.new) }
 {
     let alloc = rt.alloc();
     let folder = request.folder;
@@ -106,7 +109,8 @@ fn build<
     ensures refused { IfErr result (λ failure. IfRefused failure
         (IsBuildRefusal H.gives request.now.folder.now (H.may_hold rt.now) (H.may_show rt.now) request.now.plan)) }
     ensures unusable { IfErr result (λ failure. IfUnusable failure
-        (IsUnusable (H.may_fail rt.now) (H.files rt.now) request.now)) }
+        (IsUnusable H.gives (H.may_hold rt.now) (H.may_fail rt.now) (H.may_show rt.now) (H.files rt.now)
+        request.now)) }
 {
     let plan = match plan_of(rt, &request.plan) {
         Ok(plan) => plan,
@@ -139,7 +143,10 @@ fn build_reported<'a, H: OutDisk + AllocGlobal, F: FeedFiles, R: BuildReports>(
         × (F.words.failed files.new.files ≡ failed_as (F.words.failed files.old.files) fault)
         × ((content : Content) → Shows F.words files.old.files files.new.files content
         → IsLoadRefusal content plan fault))) }
-    ensures unusable { IfErr result (λ failure. IfUnusable failure (IsUnwritable (H.files rt.now) out.now)) }
+    ensures unusable { IfErr result (λ failure. IfUnusable failure (IsUnwritable (H.files rt.now) out.now
+        × ((t : TimetableValue) × (names : NamesValue) × (report : ReportValue) × (content : Content)
+        × AreRead content all_tables (F.words.reads files.old.files) (F.words.reads files.new.files)
+        × IsLoaded content plan t names report))) }
 {
     let (image, report) = match load_reported(rt.alloc(), files, &plan) {
         Ok(loaded) => loaded,

@@ -82,7 +82,8 @@ impl<H: Files + RandomSource + OpenDisk<Opened = H::File>> Disk for H {
 /// The files of a folder. No contract says what a disk holds, so contracts only know the bytes that were read.
 ///
 /// All reads are of the folder as it is when this value is made: once the folder has been exchanged for another, or a
-/// file in it added, removed or replaced, each further read fails.
+/// file in it added, removed or replaced, each further read fails, unless the file's change falls into the same tick of
+/// the file system's clock as the folder's last change before this value was made.
 #[derive(Drop)]
 pub struct FolderFiles<'a, H: Disk> {
     disk: &'a H,

@@ -4,6 +4,7 @@ ghost use Rattle.std.specs.Prelude.{◌≡◌, ◌≢◌, ◌<◌, ℕ, List, If
 ghost use Rattle.std.specs.Prelude.{if◌then◌else◌};
 ghost use Rattle.std.specs.Option.{option_or};
 ghost use Rattle.std.specs.Str.{bytes_eq};
+ghost use Rattle.indexmap.specs.IndexMap.{hasher_of};
 ghost use Rattle.gtfs_rows.specs.declared.fault.Table.TheVariants.{Stops};
 ghost use Rattle.gtfs_tables.specs.First.{fault_at as fault_of, first_fault_of};
 ghost use Rattle.gtfs_tables.specs.Names.{held_at};
@@ -48,13 +49,14 @@ pub fn homes_in(
     Ok(homes)
 }
 
-// The index of the first row of each station's id.
+// The index of the first row of each station's id, looked up by this hash.
 fn stations_by_id(
     alloc: Global,
     hash: IdHash,
     rows: &[StopRow],
 ) -> Result<StationsById<'_>, AllocError>
-    ensures { IfOk result (λ stations. (id : List ℕ) → held_at stations id ≡ station_named rows.now id) }
+    ensures holds { IfOk result (λ stations. (id : List ℕ) → held_at stations id ≡ station_named rows.now id) }
+    ensures hash { IfOk result (λ stations. hasher_of stations ≡ hash) }
 {
     let mut stations = IndexMap::with_capacity_and_hasher(alloc, 0, hash)?;
     for row_index in 0..rows.len() {
@@ -78,8 +80,9 @@ fn add_first<'a>(
     id: &'a str,
     row_index: usize,
 ) -> Result<(), AllocError>
-    ensures { OnOk result ((q : List ℕ) → held_at stations.new q
+    ensures adds { OnOk result ((q : List ℕ) → held_at stations.new q
         ≡ option_or (held_at stations.old q) (if bytes_eq q id.now then Some row_index else None)) }
+    ensures hash { OnOk result (hasher_of stations.new ≡ hasher_of stations.old) }
 {
     if let Some(first) = stations.insert(id, row_index)? {
         stations.insert(id, first)?;

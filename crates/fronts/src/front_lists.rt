@@ -4,6 +4,7 @@ use crate::entry::{Arena, Boarding, FrontEntry, Item, RiddenLabel, Step};
 use crate::insertion::insert;
 use crate::putting::{index_of, put, put_alone};
 use crate::search::{front_betters, late, outdoes};
+use crate::vectors::append;
 use bags::Point;
 use criteria::Criterion;
 use std::alloc::{AllocError, Global};
@@ -262,11 +263,14 @@ impl<C: Criterion> FrontLists<C> {
             return Ok(head);
         }
         let tag = index_of(self.steps.len())?;
-        self.steps.push(Step {
-            first: boarding.first,
-            label: ride.label,
-            walk: boarding.walk,
-        })?;
+        append(
+            &mut self.steps,
+            Step {
+                first: boarding.first,
+                label: ride.label,
+                walk: boarding.walk,
+            },
+        )?;
         let point = Item {
             departure: boarding.departure,
             value,

@@ -1,6 +1,6 @@
 //! Vectors of copies, and how they grow.
 
-ghost use Rattle.std.specs.Prelude.{◌≡◌, ◌++◌, ◌∷◌, [], IfOk, OnErr, OnOk, replicate};
+ghost use Rattle.std.specs.Prelude.{◌≡◌, ◌≤◌, ◌++◌, ◌∷◌, [], IfOk, OnErr, OnOk, replicate, vec_capacity, vec_len};
 
 use std::alloc::{AllocError, Global};
 
@@ -15,11 +15,13 @@ pub fn copies<T: Copy>(alloc: Global, item: T, count: usize) -> Result<Vec<T>, A
     Ok(items)
 }
 
-/// Appends an item. Mostly there is room for it, and then nothing is called. If memory runs out, the items stay.
+/// Appends an item. Mostly there is room for it, and then nothing is called. If memory runs out, the vector was full and
+/// the items stay.
 #[inline(always)]
 pub fn append<T: Copy>(items: &mut Vec<T>, item: T) -> Result<(), AllocError>
     ensures added { OnOk result (items.new.items ≡ items.old.items ++ item ∷ []) }
     ensures same { OnErr result (items.new.items ≡ items.old.items) }
+    ensures full { OnErr result (vec_capacity items.old ≤ vec_len items.old) }
 {
     if items.len() < items.capacity() {
         items.push_reserved(item);

@@ -68,6 +68,7 @@ fn looked_up(alloc: Global, ids: &mut Ids, id: &str) -> Result<u32, FaultKind>
 }
 
 // Returns the given index if the id is there.
+#[inline(always)]
 #[tactic(auto, using(crate::proofs::KeyLemmas::stands))]
 fn id_at(ids: &Ids, index: Option<u32>, id: &str) -> Option<u32>
     ensures { IfSome result (λ index. StandsAt (map string_bytes ids.now.keys) index id.now) }

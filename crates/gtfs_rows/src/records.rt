@@ -36,6 +36,8 @@ impl<'a> Records<'a> {
         ensures left { left_of result ≡ table_records bytes.entry.now }
         ensures count { result.count ≡ 0 }
         ensures lines { result.lines ≡ bytes.entry.now }
+        ensures columns { result.indices.items ≡ [] }
+        ensures width { result.width ≡ 0 }
     {
         let reader = ReaderBuilder::new()
             .has_headers(false)
@@ -108,7 +110,7 @@ impl<'a> Records<'a> {
         &self.record
     }
 
-    /// Returns how many fields the header has.
+    /// Returns how many fields the header has, or 0 if the records aren't those of a table.
     pub fn width(&self) -> usize
         ensures { result ≡ self.now.width }
     {

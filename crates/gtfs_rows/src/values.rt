@@ -70,7 +70,7 @@ fn digit(byte: u8) -> Option<u32>
     ensures small { IfSome result (λ d. d < 10) }
 {
     if byte.is_ascii_digit() {
-        Some((byte - b'0') as u32)
+        Some(byte as u32 - b'0' as u32)
     } else {
         None
     }

@@ -3,6 +3,7 @@
 ghost use Rattle.std.specs.Prelude.{◌≡◌, ◌≢◌, ◌≤◌, ◌<◌, ◌+◌, ℕ, List, length, map, filter, Ok, Err, ◌⊎◌, IfOk};
 ghost use Rattle.std.specs.Prelude.{IfErr, IsSortedBy, Some, None, Option, false, slice_index_or, option_map};
 ghost use Rattle.std.specs.List.{AllWithin, slice_range};
+ghost use Rattle.indexmap.specs.IndexMap.{hasher_of as hash_of_names};
 ghost use Rattle.indexmap.specs.IndexSet.{hasher_of};
 ghost use Rattle.gtfs_rows.specs.declared.rows.StopTimeRow.{StopTimeRow as LinkedRow};
 ghost use Rattle.gtfs_rows.specs.Tables.{is_stop};
@@ -91,6 +92,8 @@ fn link_by(
     names: &IndexMap<&str, StopIdTarget, IdHash>,
     indices: &IndexMap<&str, u32, IdHash>,
 ) -> Result<Links, TableFault>
+    requires hashed { hash_of_names names.now ≡ hasher_of tables.now.stop_times.trips }
+    requires hashed_indices { hash_of_names indices.now ≡ hasher_of tables.now.stop_times.trips }
     ensures ok { IfOk result (IsLinked (held_at names.now) (held_at indices.now) tables.now) }
     ensures err { IfErr result (λ fault. fault.kind ≢ FaultKind.OutOfMemory
         → IsNamingFault (held_at names.now) (held_at indices.now) tables.now fault) }

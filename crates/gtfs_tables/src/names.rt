@@ -4,6 +4,7 @@ ghost use Rattle.std.specs.Prelude.{◌≡◌, ◌≤◌, ◌<◌, ℕ, List, le
 ghost use Rattle.std.specs.Option.{option_or};
 ghost use Rattle.std.specs.Str.{bytes_eq};
 ghost use Rattle.std.specs.String.{string_bytes};
+ghost use Rattle.indexmap.specs.IndexMap.{hasher_of};
 ghost use Rattle.gtfs_rows.specs.Faults.{fault_unless, or_fault};
 ghost use Rattle.gtfs_tables.specs.Rows.{end_fault as fault_of_end, station_index, stop_fault as fault_of_stop};
 ghost use Rattle.gtfs_tables.specs.Names.{held_at, named_as as name_of, stop_named, trip_named};
@@ -77,7 +78,8 @@ type ById<'a, T> = Result<IndexMap<&'a str, T, IdHash>, AllocError>;
 // Returns what each id of stops.txt names.
 pub(crate) fn stops_by_id(alloc: Global, hash: IdHash, stops: &[StopRow]) -> ById<'_, StopIdTarget>
     requires { length stops.now ≤ u32.MAX }
-    ensures { IfOk result (λ names. (id : List ℕ) → held_at names id ≡ stop_named stops.now id) }
+    ensures holds { IfOk result (λ names. (id : List ℕ) → held_at names id ≡ stop_named stops.now id) }
+    ensures hash { IfOk result (λ names. hasher_of names ≡ hash) }
 {
     let mut names = IndexMap::with_capacity_and_hasher(alloc, stops.len(), hash)?;
     let mut number = 0;
@@ -94,7 +96,8 @@ pub(crate) fn stops_by_id(alloc: Global, hash: IdHash, stops: &[StopRow]) -> ByI
 // Returns the index of the row of each id of trips.txt.
 pub(crate) fn trips_by_id(alloc: Global, hash: IdHash, trips: &[TripRow]) -> ById<'_, u32>
     requires { length trips.now ≤ u32.MAX }
-    ensures { IfOk result (λ indices. (id : List ℕ) → held_at indices id ≡ trip_named trips.now id) }
+    ensures holds { IfOk result (λ indices. (id : List ℕ) → held_at indices id ≡ trip_named trips.now id) }
+    ensures hash { IfOk result (λ indices. hasher_of indices ≡ hash) }
 {
     let mut indices = IndexMap::with_capacity_and_hasher(alloc, trips.len(), hash)?;
     for (index, row) in trips.iter().enumerate() {
@@ -109,8 +112,9 @@ fn add_first<'a, T: Copy>(
     id: &'a str,
     name: T,
 ) -> Result<(), AllocError>
-    ensures { OnOk result ((q : List ℕ) → held_at names.new q
+    ensures adds { OnOk result ((q : List ℕ) → held_at names.new q
         ≡ option_or (held_at names.old q) (if bytes_eq q id.now then Some name else None)) }
+    ensures hash { OnOk result (hasher_of names.new ≡ hasher_of names.old) }
 {
     if let Some(first) = names.insert(id, name)? {
         names.insert(id, first)?;
@@ -134,8 +138,8 @@ pub(crate) fn named_each<T: Copy>(
     Ok(named)
 }
 
-// Returns what an id names, if anything. The likely index is tried first, and becomes the one behind the id's: ids often
-// come in the order of the rows that they name.
+// Returns what an id names, if anything. The likely index is tried first, and becomes the one behind the id's: ids
+// often come in the order of the rows that they name.
 fn named_near<T: Copy>(names: &IndexMap<&str, T, IdHash>, likely: &mut usize, id: &str) -> Option<T>
     ensures { result ≡ held_at names.now id.now }
 {

@@ -1,6 +1,6 @@
 -- Whether a table can be made, and why it isn't.
 use Rattle.std.proofs.Common.{◌≡◌, ◌≢◌, ◌<◌, ◌⊎◌, ℕ, List, [], ◌∷◌, Option, None, Some, Result, Ok, Err, Contains, IfErr, IfOk, MatchResult, OnErr}
-use Rattle.std.proofs.Common.{arith, inl, inr, subst, sym}
+use Rattle.std.proofs.Common.{arith, codes, inl, inr, subst, sym}
 use Rattle.std.specs.Borrow.{Bor}
 use Rattle.std.specs.Global.{Vec}
 use Rattle.std.specs.List.{AllZip}
@@ -132,7 +132,7 @@ unasked_sources may_hold may_fail request image status (Some path) targets liste
   ends = why.ends;
   unknown = λ is. inr (targets, path, listed, same, why.unknown is);
   bad = λ is. inr (targets, path, listed, same, why.bad is);
-  unread = λ is. inr (subst (IsListUnreadable may_fail may_hold) (sym same) (why.unread is));
+  unread = λ is. inr (subst (IsListUnreadable may_fail may_hold) (sym same) (why.unread is), (targets, listed));
 }
 
 -- the sets of a text that was read, or why there are none
@@ -166,9 +166,9 @@ unread_list may_hold may_fail path image kind status (inr is) memory why = recor
 
 -- what was printed of a table that was begun, or of a line for its times
 pub cut_table : (disk : OutFiles) (table : TravelTable) (out : List ℕ) (fault : Option ErrorKind) (before after : Option (List ℕ)) → HasWindow table
-    → (IsUnwritable disk out × (after ≡ before)) ⊎ (HasFault fault × IsShownInPart table out before after)
+    → ((out ≢ codes "-") × IsUnwritable disk out × (after ≡ before)) ⊎ (HasFault fault × IsShownInPart table out before after)
     → IsCutShort disk table out fault before after
-cut_table disk table out fault before after window (inl same) = inl same
+cut_table disk table out fault before after window (inl (elsewhere, unwritten, same)) = inl (elsewhere, unwritten, window, same)
 cut_table disk table out fault before after window (inr part) = inr (inr (part.0, window, part.1))
 
 -- .. of the table that is asked for

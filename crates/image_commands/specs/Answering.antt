@@ -75,7 +75,7 @@ IsProfile image request (Ok profile) = AnswersRequest image request profile
 IsProfile image request (Err (Bad fault)) = HasFault image request fault
 IsProfile image request (Err OutOfMemory) = Unit {0}
 
--- a picture that is asked for was put into the file at its path
+-- the picture, if there is one and it is asked for, was put into the file at its path
 abbrev pub IsPicturePut : OutFiles → Option (Bor (List ℕ)) → Option (String Global) → Type 0
 IsPicturePut disk None picture = Unit {0}
 IsPicturePut disk (Some path) None = Unit {0}
@@ -85,6 +85,10 @@ IsPicturePut disk (Some path) (Some picture) = IsPutInto disk path.now (string_b
 abbrev pub IsPictureUnwritable : OutFiles → Option (Bor (List ℕ)) → Type 0
 IsPictureUnwritable disk None = ⊥
 IsPictureUnwritable disk (Some path) = IsUnwritableInto disk path.now
+
+-- the question is answered, and its picture may not be written
+abbrev pub LacksPicture : OutFiles → ImageValue → ProfileRequest → Type 0
+LacksPicture disk image request = IsPictureUnwritable disk request.picture × ((profile : Profile) × AnswersRequest image request profile)
 
 -- the text is that of an answer, whose picture, if one is asked for, is in its file
 abbrev pub IsAnswered : OutFiles → ImageValue → ProfileRequest → List ℕ → Type 0

@@ -5,9 +5,9 @@ use Rattle.image_files.specs.Writing.{IsImagePut, IsUnwritable}
 use Rattle.image_layout.specs.Image.{ImageValue}
 use Rattle.command_requests.specs.declared.requests.DeparturesRequest.{DeparturesRequest}
 use Rattle.command_requests.specs.declared.requests.ProfileRequest.{ProfileRequest}
-use Rattle.image_commands.specs.Answering.{IsAnswered, IsNoRequest, IsPictureUnwritable}
+use Rattle.image_commands.specs.Answering.{IsAnswered, IsNoRequest, LacksPicture}
 use Rattle.image_commands.specs.Counting.{counts_line}
-use Rattle.image_commands.specs.Departing.{AreAllShown, IsListUnreadable, IsNoneAsked}
+use Rattle.image_commands.specs.Departing.{AreAllShown, IsNoneAsked, LacksList}
 use Rattle.command_endings.specs.Ending.{Prints, PrintsOnly}
 use Rattle.image_commands.specs.Informing.{IsInfo}
 use Rattle.image_commands.specs.Judging.{IsAccepted, IsFaulty}
@@ -29,15 +29,15 @@ path_of (Upgrade request) = request.image.now
 abbrev pub IsUpgraded : OutFiles → ImageValue → List ℕ → List ℕ → Type 0
 IsUpgraded disk image out line = IsImagePut disk out image.timetable image.names × (line ≡ counts_line image)
 
--- a file that the command needs besides the image may not be read or written: its list, its picture, or the image that it writes
-abbrev pub IsUnusable : (List ℕ → Type 0) → (List ℕ → Option (List ℕ) → Type 0) → OutFiles → ImageRequest → Type 0
-IsUnusable may_fail may_hold disk (Verify image) = ⊥
-IsUnusable may_fail may_hold disk (Info request) = ⊥
-IsUnusable may_fail may_hold disk (Journey request) = ⊥
-IsUnusable may_fail may_hold disk (Profile request) = IsPictureUnwritable disk request.now.picture
-IsUnusable may_fail may_hold disk (Departures request) = IsListUnreadable may_fail may_hold request.now.from
-IsUnusable may_fail may_hold disk (Stops request) = ⊥
-IsUnusable may_fail may_hold disk (Upgrade request) = IsUnwritable disk request.out.now
+-- a file that the command needs besides the image may not be read or written: the list of a question, the picture of an answer, or the image that it writes
+abbrev pub IsUnusable : (List ℕ → Type 0) → (List ℕ → Option (List ℕ) → Type 0) → OutFiles → ImageValue → ImageRequest → Type 0
+IsUnusable may_fail may_hold disk image (Verify path) = ⊥
+IsUnusable may_fail may_hold disk image (Info request) = ⊥
+IsUnusable may_fail may_hold disk image (Journey request) = ⊥
+IsUnusable may_fail may_hold disk image (Profile request) = LacksPicture disk image request.now
+IsUnusable may_fail may_hold disk image (Departures request) = LacksList may_fail may_hold image request.now
+IsUnusable may_fail may_hold disk image (Stops request) = ⊥
+IsUnusable may_fail may_hold disk image (Upgrade request) = IsUnwritable disk request.out.now
 
 -- what a question's answer is, or why it can't be asked
 abbrev pub PrintsProfile : OutFiles → ImageValue → ProfileRequest → ℕ → List ℕ → Type 0

@@ -97,6 +97,10 @@ abbrev pub AsksOfAll : ImageValue → DeparturesRequest → SetQueryValue → Ty
 AsksOfAll image request b =
     IsAskableBetween image.timetable.stops b × AsksBetween image.names [] (targets_asked request) (window_asked request) b
 
+-- the request can be asked, and its list may not be read, or is no text
+abbrev pub LacksList : (List ℕ → Type 0) → (List ℕ → Option (List ℕ) → Type 0) → ImageValue → DeparturesRequest → Type 0
+LacksList may_fail may_hold image request = IsListUnreadable may_fail may_hold request.from × ((b : SetQueryValue) × AsksOfAll image request b)
+
 -- the text shows the departures to the stops that are asked for, and which can be asked, from the stops that are wanted
 abbrev pub AreAllShown : (List ℕ → Option (List ℕ) → Type 0) → ImageValue → DeparturesRequest → List ℕ → Type 0
 AreAllShown may_hold image request printed =

@@ -12,7 +12,7 @@ use Rattle.image_layout.specs.Image.{ImageValue}
 use Rattle.timetable.specs.Queries.{HasBadWindow}
 use Rattle.timetable.specs.declared.query.Query.{Query}
 use Rattle.timetable.specs.declared.query.QueryFault.TheVariants.{BadWindow}
-use Rattle.matrix_rows.specs.Listed.{AreListed, HasStopTwice, IsLineTwice, IsUnknownLine}
+use Rattle.matrix_rows.specs.Listed.{AreAllNamed, AreListed, HasStopTwice, IsLineTwice, IsUnknownLine}
 use Rattle.matrix_rows.specs.Tables.{AreWithin, HasWindow, IsTable, IsTableBegun}
 use Rattle.matrix_rows.specs.declared.lists.SetListFault.{SetListFault}
 use Rattle.matrix_rows.specs.declared.lists.SetListFault.TheVariants.{Empty, LineTwice, OutOfMemory, StopTwice, UnknownStop}
@@ -52,10 +52,12 @@ abbrev pub AreSources : (List ℕ → Option (List ℕ) → Type 0) → Option (
 AreSources may_hold None image sets = AllZip (λ stop set. set.items ≡ stop ∷ []) (range_with_len 0 image.timetable.stops) sets
 AreSources may_hold (Some path) image sets = AreOfList may_hold path.now image sets
 
--- a list says nothing that can be asked for: it has no line, a stop_id twice in a line, or a line twice
-abbrev pub IsNoList : List ℕ → Type 0
-IsNoList list =
-    (lines list ≡ []) ⊎ ((number : ℕ) × HasStopTwice (lines list) number) ⊎ ((first : ℕ) × (second : ℕ) × IsLineTwice (lines list) first second)
+-- a list says nothing that can be asked for: it has no line; or all that it has are stop_ids, and one is twice in a line, or a line is there twice
+abbrev pub IsNoList : ImageValue → List ℕ → Type 0
+IsNoList image list =
+    (lines list ≡ [])
+    ⊎ (AreAllNamed image.names (lines list)
+    × (((number : ℕ) × HasStopTwice (lines list) number) ⊎ ((first : ℕ) × (second : ℕ) × IsLineTwice (lines list) first second)))
 
 -- a line of a list has what is no stop_id
 abbrev pub HasUnknown : ImageValue → List ℕ → Type 0
@@ -73,7 +75,7 @@ fault_status OutOfMemory = OUT_OF_MEMORY
 pub record IsUnlistedIn (image : ImageValue) (list : List ℕ) (status : ℕ) : Type 0 where
   pub ends : EndsUnlisted status
   pub unknown : status ≡ REFUSED → HasUnknown image list
-  pub bad : status ≡ COMMAND_LINE → IsNoList list
+  pub bad : status ≡ COMMAND_LINE → IsNoList image list
   pub read : status ≢ INPUT_OUTPUT
 
 -- the same of the file at a path, which may not have been read
@@ -81,7 +83,7 @@ pub record IsUnlisted (may_hold : List ℕ → Option (List ℕ) → Type 0) (ma
     (status : ℕ) : Type 0 where
   pub ends : EndsUnlisted status
   pub unknown : status ≡ REFUSED → HoldsOfText may_hold path (HasUnknown image)
-  pub bad : status ≡ COMMAND_LINE → HoldsOfText may_hold path IsNoList
+  pub bad : status ≡ COMMAND_LINE → HoldsOfText may_hold path (IsNoList image)
   pub unread : status ≡ INPUT_OUTPUT → IsNoTextAt may_fail may_hold path
 
 -- the same of the sources: without a file, only memory can run out
@@ -89,9 +91,11 @@ abbrev pub AreNoSources : (List ℕ → Option (List ℕ) → Type 0) → (List 
 AreNoSources may_hold may_fail None image status = status ≡ OUT_OF_MEMORY
 AreNoSources may_hold may_fail (Some path) image status = IsUnlisted may_hold may_fail path.now image status
 
--- a file that is given as a list may not be read, or is no text
-abbrev pub AreListsUnreadable : (List ℕ → Type 0) → (List ℕ → Option (List ℕ) → Type 0) → MatrixRequest → Type 0
-AreListsUnreadable may_fail may_hold request = IsNoTextAt may_fail may_hold request.to.now ⊎ IsListUnreadable may_fail may_hold request.from
+-- the list of the targets may not be read, or is no text; or it names some, and that of the sources may not be read, or is no text
+abbrev pub AreListsUnreadable : (List ℕ → Type 0) → (List ℕ → Option (List ℕ) → Type 0) → ImageValue → MatrixRequest → Type 0
+AreListsUnreadable may_fail may_hold image request =
+    IsNoTextAt may_fail may_hold request.to.now
+    ⊎ (IsListUnreadable may_fail may_hold request.from × ((targets : List (Vec ℕ)) × AreOfList may_hold request.to.now image targets))
 
 -- Is holds of the list of the targets; or this list names some, and Is holds of that of the sources, if a file is given
 abbrev pub HoldsOfList : (List ℕ → Option (List ℕ) → Type 0) → MatrixRequest → ImageValue → (List ℕ → Type 0) → Type 0
@@ -105,8 +109,8 @@ pub record IsUnasked (may_hold : List ℕ → Option (List ℕ) → Type 0) (may
     (status : ℕ) : Type 0 where
   pub ends : EndsUnlisted status
   pub unknown : status ≡ REFUSED → HoldsOfList may_hold request image (HasUnknown image)
-  pub bad : status ≡ COMMAND_LINE → HoldsOfList may_hold request image IsNoList
-  pub unread : status ≡ INPUT_OUTPUT → AreListsUnreadable may_fail may_hold request
+  pub bad : status ≡ COMMAND_LINE → HoldsOfList may_hold request image (IsNoList image)
+  pub unread : status ≡ INPUT_OUTPUT → AreListsUnreadable may_fail may_hold image request
 
 -- a table is the one that is asked for
 pub record IsTableOf (may_hold : List ℕ → Option (List ℕ) → Type 0) (image : ImageValue) (request : MatrixRequest) (table : TravelTable) : Type 0 where
@@ -156,21 +160,22 @@ IsTableRefused may_hold image request before after =
 
 -- a table can't be asked for because of a list, and nothing was printed
 abbrev pub IsTableUnlisted : (List ℕ → Option (List ℕ) → Type 0) → ImageValue → MatrixRequest → Option (List ℕ) → Option (List ℕ) → Type 0
-IsTableUnlisted may_hold image request before after = HoldsOfList may_hold request image IsNoList × (after ≡ before)
+IsTableUnlisted may_hold image request before after = HoldsOfList may_hold request image (IsNoList image) × (after ≡ before)
 
--- what was printed of a table if a file or a line can't be read or written: nothing, since the table's file may not be written; or, since the output has a
--- fault, a first part of the line for bad times, or of what is printed of the table
+-- what was printed of a table if a file or a line can't be read or written: nothing, since its times make a window and its file may not be written; or,
+-- since the output has a fault, a first part of the line for bad times, or of what is printed of the table
 abbrev pub IsCutShort : OutFiles → TravelTable → List ℕ → Option ErrorKind → Option (List ℕ) → Option (List ℕ) → Type 0
 IsCutShort disk table out fault before after =
-    (IsUnwritable disk out × (after ≡ before))
+    ((out ≢ codes "-") × IsUnwritable disk out × HasWindow table × (after ≡ before))
     ⊎ (HasFault fault × AreBadTimes table.after table.until table.by × IsBegun before after (refusal_line (OfQuery BadWindow)))
     ⊎ (HasFault fault × HasWindow table × IsShownInPart table out before after)
 
--- the same of the table that is asked for; or nothing, since a list may not be read
+-- the same of the table that is asked for; or nothing, since a list may not be read, or has what is no stop_id while the output has a fault
 abbrev pub IsTableCutShort : (List ℕ → Option (List ℕ) → Type 0) → (List ℕ → Type 0) → OutFiles → ImageValue → MatrixRequest → Option ErrorKind
     → Option (List ℕ) → Option (List ℕ) → Type 0
 IsTableCutShort may_hold may_fail disk image request fault before after =
-    (AreListsUnreadable may_fail may_hold request × (after ≡ before))
+    (AreListsUnreadable may_fail may_hold image request × (after ≡ before))
+    ⊎ (HasFault fault × HoldsOfList may_hold request image (HasUnknown image) × (after ≡ before))
     ⊎ ((table : TravelTable) × IsTableOf may_hold image request table × IsCutShort disk table request.out.now fault before after)
 
 -- what was printed of a table if memory ran out: nothing, or its first rows, if it is to be printed itself

@@ -80,7 +80,8 @@ pub fn answer<H: OutDisk + ImageDisk<Image = H::File> + AllocGlobal, O: Watched,
     warnings: bool,
 ) -> u8
     ensures { IsOutcome (PrintsAsked (H.may_hold rt.now) (H.files rt.now) image.now asked.entry)
-        (IsUnusable (H.may_fail rt.now) (H.may_hold rt.now) (H.files rt.now) asked.entry) (O.noted output.new) result
+        (IsUnusable (H.may_fail rt.now) (H.may_hold rt.now) (H.files rt.now) image.now asked.entry) (O.noted output.new)
+        result
         (O.contents output.old) (O.contents output.new) }
 {
     let status = do_asked(rt, image, asked, output, errors);
@@ -99,7 +100,8 @@ fn do_asked<H: OutDisk + ImageDisk<Image = H::File> + AllocGlobal, O: Watched, E
     errors: &mut E,
 ) -> u8
     ensures { IsOutcome (PrintsAsked (H.may_hold rt.now) (H.files rt.now) image.now asked.entry)
-        (IsUnusable (H.may_fail rt.now) (H.may_hold rt.now) (H.files rt.now) asked.entry) (O.noted output.new) result
+        (IsUnusable (H.may_fail rt.now) (H.may_hold rt.now) (H.files rt.now) image.now asked.entry) (O.noted output.new)
+        result
         (O.contents output.old) (O.contents output.new) }
 {
     match asked {

@@ -9,7 +9,7 @@ ghost use Rattle.command_requests.specs.declared.statuses.TheConstants.{REFUSED}
 ghost use Rattle.image_commands.specs.declared.wanted_stops.NoList.TheVariants.{UnknownStop};
 ghost use Rattle.image_commands.specs.Commands.{PrintsDepartures};
 ghost use Rattle.command_endings.specs.Ending.{EndsUndone, IsOutcome, PrintsOnly};
-ghost use Rattle.image_commands.specs.Departing.{AreShownBy, AsksOfAll, IsListUnreadable, list_status, targets_asked};
+ghost use Rattle.image_commands.specs.Departing.{AreShownBy, AsksOfAll, LacksList, list_status, targets_asked};
 ghost use Rattle.image_commands.specs.Departing.{window_asked};
 
 use crate::question::{explain_ends, window_reason};
@@ -41,7 +41,7 @@ pub fn run<H: Files + ImageDisk<Image = H::File> + AllocGlobal, O: Watched, E: W
     errors: &mut E,
 ) -> u8
     ensures { IsOutcome (PrintsDepartures (H.may_hold rt.now) image.now request.now)
-        (IsListUnreadable (H.may_fail rt.now) (H.may_hold rt.now) request.now.from) (O.noted output.new) result
+        (LacksList (H.may_fail rt.now) (H.may_hold rt.now) image.now request.now) (O.noted output.new) result
         (O.contents output.old) (O.contents output.new) }
 {
     let destinations = match destinations_asked(rt.alloc(), image, request) {

@@ -261,7 +261,8 @@ fn write_asked<H: OutDisk + AllocGlobal + Clock + Threads + Sync, O: Watched, E:
         → IsTableShown (H.files rt.now) table.now request.entry.out.now (O.contents output.old)
         (O.contents output.new) }
     ensures cut { result ≡ INPUT_OUTPUT
-        → (IsUnwritable (H.files rt.now) request.entry.out.now × (O.contents output.new ≡ O.contents output.old))
+        → ((request.entry.out.now ≢ codes "-") × IsUnwritable (H.files rt.now) request.entry.out.now
+        × (O.contents output.new ≡ O.contents output.old))
         ⊎ (HasFault (O.noted output.new)
         × IsShownInPart table.now request.entry.out.now (O.contents output.old) (O.contents output.new)) }
     ensures spent { result ≡ OUT_OF_MEMORY → IsSpent table.now request.entry.out.now (O.contents output.old)

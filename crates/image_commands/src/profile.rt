@@ -6,6 +6,7 @@ ghost use Rattle.std.specs.Io.KnownBytes.{Appends};
 ghost use Rattle.profile_scan.specs.SetQuery.{IsAskableBetween, question};
 ghost use Rattle.command_requests.specs.declared.statuses.TheConstants.{INPUT_OUTPUT, OUT_OF_MEMORY, REFUSED};
 ghost use Rattle.image_commands.specs.Answering.{IsPicturePut, IsPictureUnwritable, IsProfile, IsShown, IsShownBy};
+ghost use Rattle.image_commands.specs.Answering.{LacksPicture};
 ghost use Rattle.image_files.specs.Watching.{HasFault};
 ghost use Rattle.image_commands.specs.Commands.{PrintsProfile};
 ghost use Rattle.command_endings.specs.Ending.{EndsUndone, IsBegun, IsOutcome, PrintsOnly};
@@ -52,7 +53,7 @@ pub fn run<H: OutDisk + AllocGlobal, O: Watched, E: Write>(
     errors: &mut E,
 ) -> u8
     ensures { IsOutcome (PrintsProfile (H.files rt.now) image.now request.now)
-        (IsPictureUnwritable (H.files rt.now) request.now.picture) (O.noted output.new) result
+        (LacksPicture (H.files rt.now) image.now request.now) (O.noted output.new) result
         (O.contents output.old) (O.contents output.new) }
 {
     match profile_asked(rt.alloc(), image, request) {

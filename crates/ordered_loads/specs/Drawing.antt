@@ -4,7 +4,7 @@ use Rattle.feed_files.specs.Files.{FileWords}
 use Rattle.feed_loader.specs.declared.plan.Plan.{Plan}
 use Rattle.load_orders.specs.Keeping.{QueueId}
 use Rattle.load_orders.specs.declared.queue.Order.{Order}
-use Rattle.ordered_loads.specs.Loading.{FilesGoOn, IsOutcome, load_state}
+use Rattle.ordered_loads.specs.Loading.{FilesGoOn, IsLoadOutcome, load_state}
 use Rattle.ordered_loads.specs.Words.{OutcomeWords}
 use Rattle.ordered_loads.specs.declared.drawing.DrawnFiles.{DrawnFiles}
 use Rattle.ordered_loads.specs.declared.loading.LoadedVersion.{LoadedVersion}
@@ -24,5 +24,5 @@ pub record AreLoadedBy {D T L N : Type 0} (words : OutcomeWords D T L N) (plan :
     (outcome : Result (LoadedVersion × Option N) LoadRefusal) (b : DrawnFiles D N × L) : Type 0 where
   pub first : b.0.first ≡ a.0.first
   pub end : b.0.end ≡ a.0.end
-  pub comes : IsOutcome words plan (load_state b.0.first.value a.1) outcome (load_state b.0.files b.1)
+  pub comes : IsLoadOutcome words plan (load_state b.0.first.value a.1) outcome (load_state b.0.files b.1)
   pub files : FilesGoOn words.files b.0.first.value outcome b.0.files

@@ -39,7 +39,7 @@ IsEarly (LoadRefusal.Load fault) = Unit {0}
 IsEarly (LoadRefusal.Publish fault) = fault ≡ PublishFault.OutOfMemory
 
 -- the image becomes this version, and then shelves are collected
-pub record IsPublished (before : List LoaderAnswer) (image : ImageValue) (version : ℕ) (after : List LoaderAnswer) : Type 0 where
+pub record PublishesAndCollects (before : List LoaderAnswer) (image : ImageValue) (version : ℕ) (after : List LoaderAnswer) : Type 0 where
   pub between : List LoaderAnswer
   pub found : Collected
   pub publish : PublishStep before image version between
@@ -71,14 +71,14 @@ load_state files loader = record { files = files; loader = loader }
 
 -- what comes of files: each was read once, the image of what they show is published as the version that the answer names, with its counts, and a notice of
 -- that version comes; or the first of them were read, nothing is published, and the first refusal is reported
-abbrev pub IsOutcome : {D T L N : Type 0} → OutcomeWords D T L N → Plan → LoadState D L
+abbrev pub IsLoadOutcome : {D T L N : Type 0} → OutcomeWords D T L N → Plan → LoadState D L
     → Result (LoadedVersion × Option N) LoadRefusal → LoadState D L → Type 0
-IsOutcome words plan a (Ok loaded) b =
+IsLoadOutcome words plan a (Ok loaded) b =
     (image : ImageValue)
     × IsMadeOf words.files a.files b.files plan (image, loaded.0.report)
-    × IsPublished (words.loader.answers a.loader) image loaded.0.version (words.loader.answers b.loader)
+    × PublishesAndCollects (words.loader.answers a.loader) image loaded.0.version (words.loader.answers b.loader)
     × MatchOption loaded.1 ⊥ (λ notice. words.version notice ≡ loaded.0.version)
-IsOutcome words plan a (Err refusal) b =
+IsLoadOutcome words plan a (Err refusal) b =
     SomeWereRead (words.files.reads a.files) (words.files.reads b.files)
     × IsRefusalOf words.files a.files b.files plan refusal
     × IsNotPublished (words.loader.answers a.loader) refusal (words.loader.answers b.loader)

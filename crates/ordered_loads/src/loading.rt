@@ -5,7 +5,8 @@ ghost use Rattle.std.specs.Arc.{arc_value};
 ghost use Rattle.feed_files.specs.Reads.{SomeWereRead};
 ghost use Rattle.epochs.specs.Seats.{RefuseStep};
 ghost use Rattle.ordered_loads.specs.Learned.{LoaderGoesOn};
-ghost use Rattle.ordered_loads.specs.Loading.{FilesGoOn, HasDays, IsEarly, IsMadeOf, IsOutcome, IsPublished};
+ghost use Rattle.ordered_loads.specs.Loading.{FilesGoOn, HasDays, IsEarly, IsLoadOutcome, IsMadeOf};
+ghost use Rattle.ordered_loads.specs.Loading.{PublishesAndCollects};
 ghost use Rattle.ordered_loads.specs.Loading.{IsRefusalOf, load_state};
 ghost use Rattle.ordered_loads.specs.Words.{outcomes_of};
 
@@ -37,7 +38,7 @@ pub fn load_one<F: FeedFiles, N, T: Versions<Notice = N> + Loads>(
     requires days { HasDays plan.now }
     ensures seat { LoaderGoesOn T.Loads.words shelves.now loader.old loader.new }
     ensures files { FilesGoOn F.words files.old result files.new }
-    ensures outcome { IsOutcome (outcomes_of F.words
+    ensures outcome { IsLoadOutcome (outcomes_of F.words
         T.Loads.words T.Versions.words.version)
         plan.now (load_state files.old loader.old) result (load_state files.new loader.new) }
 {
@@ -82,7 +83,7 @@ fn publish_image<N, T: Versions<Notice = N> + Loads>(
     requires { T.Loads.words.fits shelves.now loader.old }
     ensures seat { LoaderGoesOn T.Loads.words shelves.now loader.old loader.new }
     ensures published { MatchResult result
-        (λ loaded. IsPublished (T.Loads.words.answers loader.old) (arc_value image) loaded.0
+        (λ loaded. PublishesAndCollects (T.Loads.words.answers loader.old) (arc_value image) loaded.0
         (T.Loads.words.answers loader.new))
         (λ fault. RefuseStep (T.Loads.words.answers loader.old) fault (T.Loads.words.answers loader.new)) }
     ensures notice { IfOk result (λ loaded. MatchOption loaded.1 ⊥

@@ -11,7 +11,7 @@ use crate::in_lanes::{InLanes, LaneExit, first_tag};
 use crate::riding::number_of;
 use bags::{Bag, Point};
 use criteria::{ArrivalTrips, Criterion, TimeTrips};
-use fronts::Boarding;
+use fronts::{Boarding, append};
 use sources::ConnSource;
 use std::alloc::{AllocError, Global};
 use std::ops::Range;
@@ -155,10 +155,13 @@ impl ByTrips {
         let tag = first_tag(self.lanes.exits.len())?;
         let stands = insert_at(&mut self.beyond.labels, hop.connection.trip, 0, value, tag)?;
         if stands {
-            self.lanes.exits.push(LaneExit::ChangesToStep {
-                last: hop.place,
-                step,
-            })?;
+            append(
+                &mut self.lanes.exits,
+                LaneExit::ChangesToStep {
+                    last: hop.place,
+                    step,
+                },
+            )?;
         }
         Ok(())
     }

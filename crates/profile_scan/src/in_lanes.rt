@@ -6,7 +6,7 @@ use crate::hop::{Hop, ScanQuery};
 use crate::riding::number_of;
 use crate::trips::end_of;
 use criteria::{ArrivalTrips, TimeTrips};
-use fronts::Boarding;
+use fronts::{Boarding, append};
 use lanes::{StopLanes, Taken, TripLanes, Words};
 use sources::ConnSource;
 use std::alloc::AllocError;
@@ -57,10 +57,13 @@ impl InLanes {
         let first = first_tag(self.exits.len())?;
         match self.trips.end(hop.connection.trip, end.time, first) {
             Taken::Lowered => {
-                self.exits.push(LaneExit::Ends {
-                    last: hop.place,
-                    walk: end.walk,
-                })?;
+                append(
+                    &mut self.exits,
+                    LaneExit::Ends {
+                        last: hop.place,
+                        walk: end.walk,
+                    },
+                )?;
                 Ok(())
             },
             Taken::NoNews => Ok(()),
@@ -87,10 +90,13 @@ impl InLanes {
             first,
         ) {
             Taken::Lowered => {
-                self.exits.push(LaneExit::Changes {
-                    last: hop.place,
-                    entry,
-                })?;
+                append(
+                    &mut self.exits,
+                    LaneExit::Changes {
+                        last: hop.place,
+                        entry,
+                    },
+                )?;
                 Ok(true)
             },
             Taken::NoNews => Ok(true),
@@ -117,10 +123,13 @@ impl InLanes {
             .change(hop.connection.trip, &front, &self.bound, first)
         {
             Taken::Lowered => {
-                self.exits.push(LaneExit::Changes {
-                    last: hop.place,
-                    entry,
-                })?;
+                append(
+                    &mut self.exits,
+                    LaneExit::Changes {
+                        last: hop.place,
+                        entry,
+                    },
+                )?;
                 Ok(())
             },
             Taken::NoNews => Ok(()),

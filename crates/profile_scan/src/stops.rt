@@ -218,6 +218,24 @@ impl<C: Criterion> Stops<C> {
         if labels.len() == 1 {
             return self.board_only_label(asked, source, hop, &labels[0]);
         }
+        self.board_labels(asked, source, hop, labels)
+    }
+
+    // Does what `board` does for a connection where passengers may get on, whatever the number of labels. It goes over
+    // all of them and is large, so it is a call and never inlined.
+    #[inline(never)]
+    fn board_labels<S: ConnSource>(
+        &mut self,
+        asked: &ScanQuery<C>,
+        source: &S,
+        hop: &Hop<C::V>,
+        labels: &[Label<C::V>],
+    ) -> Result<(), AllocError>
+        requires can { CanBoard C.rules (S.timetable source.now) asked.now hop.now labels.now self.old }
+        requires boards { hop.now.connection.board ≡ true }
+        ensures { OnOk result
+            (Boards C.rules asked.now.criterion (S.timetable source.now) hop.now labels.now self.old self.new) }
+    {
         ride_labels(&asked.criterion, hop.bound, labels, &mut self.ridden)?;
         if self.ridden.len() == 0 {
             return Ok(());

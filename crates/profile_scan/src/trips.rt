@@ -86,6 +86,7 @@ impl<C: Criterion> Trips<C> {
     // Offers to the labels of the connection's trip one point of its arrival stop, unless a value of `hop.bound` is no
     // worse than the point's value with the ride. The value is compared with the labels first, since one of them
     // is usually no worse, and then with the bound.
+    #[inline(always)]
     fn change_by(
         &mut self,
         asked: &ScanQuery<C>,

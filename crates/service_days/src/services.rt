@@ -3,7 +3,7 @@
 ghost use Rattle.std.specs.Prelude.{◌≡◌, ◌<◌, ◌++◌, ◌∷◌, if◌then◌else◌, ℕ, List, [], IfOk, OnOk};
 ghost use Rattle.std.specs.List.{list_any};
 ghost use Rattle.std.specs.Option.{option_map_or};
-ghost use Rattle.std.specs.HashMap.{get_by_text};
+ghost use Rattle.indexmap.specs.IndexMap.{get_by_text, hasher_of};
 ghost use Rattle.std.specs.Str.{bytes_eq};
 ghost use Rattle.std.specs.String.{string_bytes};
 ghost use Rattle.gtfs_rows.specs.declared.rows.CalendarRow.{CalendarRow};
@@ -48,7 +48,9 @@ impl Services {
         calendar: &[CalendarRow],
         dates: &[CalendarDateRow],
     ) -> Result<Services, AllocError>
-        ensures { IfOk result (HoldsServices calendar.now dates.now) }
+        ensures holds { IfOk result (HoldsServices calendar.now dates.now) }
+        ensures hash { IfOk result (λ services. (hasher_of services.weeks ≡ hash)
+            × (hasher_of services.exceptions ≡ hash)) }
     {
         Ok(Services {
             weeks: weeks_of(alloc, hash, calendar)?,
@@ -68,7 +70,9 @@ impl Services {
     }
 
     // Returns the hash by which services are looked up.
-    pub(crate) fn hash(&self) -> IdHash {
+    pub(crate) fn hash(&self) -> IdHash
+        ensures { result ≡ hasher_of self.now.weeks }
+    {
         *self.weeks.hasher()
     }
 }
@@ -80,9 +84,10 @@ fn add<T: Drop>(
     service: String,
     said: T,
 ) -> Result<(), AllocError>
-    ensures { OnOk result ((q : List ℕ) → option_map_or (λ group. group.items) (get_by_text held.new q) []
+    ensures adds { OnOk result ((q : List ℕ) → option_map_or (λ group. group.items) (get_by_text held.new q) []
         ≡ option_map_or (λ group. group.items) (get_by_text held.old q) []
         ++ (if bytes_eq q (string_bytes service) then said ∷ [] else [])) }
+    ensures hash { OnOk result (hasher_of held.new ≡ hasher_of held.old) }
 {
     held.entry(service)?.or_insert(Vec::new(alloc)).push(said)?;
     Ok(())
@@ -93,8 +98,9 @@ fn weeks_of(
     hash: IdHash,
     rows: &[CalendarRow],
 ) -> Result<IndexMap<String, Vec<Week>, IdHash>, AllocError>
-    ensures { IfOk result (λ weeks. (service : List ℕ)
+    ensures holds { IfOk result (λ weeks. (service : List ℕ)
         → option_map_or (λ held. held.items) (get_by_text weeks service) [] ≡ weeks_in rows.now service) }
+    ensures hash { IfOk result (λ weeks. hasher_of weeks ≡ hash) }
 {
     let mut weeks = IndexMap::with_hasher(alloc, hash);
     for row in rows {
@@ -113,8 +119,9 @@ fn exceptions_of(
     hash: IdHash,
     rows: &[CalendarDateRow],
 ) -> Result<IndexMap<String, Vec<DayException>, IdHash>, AllocError>
-    ensures { IfOk result (λ exceptions. (service : List ℕ)
+    ensures holds { IfOk result (λ exceptions. (service : List ℕ)
         → option_map_or (λ held. held.items) (get_by_text exceptions service) [] ≡ exceptions_in rows.now service) }
+    ensures hash { IfOk result (λ exceptions. hasher_of exceptions ≡ hash) }
 {
     let mut exceptions = IndexMap::with_hasher(alloc, hash);
     for row in rows {

@@ -281,18 +281,57 @@ fn add_file(rt: &HostRuntime, folder: &str, path: &str, bytes: &[u8]) -> Result<
     Ok(())
 }
 
+// Reads a file of a folder, adds another one, and reads that: how many bytes each has, and none if it can't be read.
+fn read_and_add(
+    rt: &HostRuntime,
+    folder: &str,
+    added: &str,
+) -> Result<(Option<usize>, Option<usize>), Fail> {
+    let mut files = FolderFiles::new(rt, folder);
+    let agency = length_in(rt.alloc(), &mut files, "agency.txt");
+    add_file(rt, folder, added, STOPS)?;
+    let stops = length_in(rt.alloc(), &mut files, "stops.txt");
+    Ok((agency, stops))
+}
+
 // A file that is added, or put in the place of another one, changes its folder.
 #[test]
 fn a_folder_with_another_file_is_not_read(rt: HostRuntime) -> Result<(), Fail> {
     write_folder(&rt, "added_to", &[("agency.txt", AGENCY)])?;
-    let mut files = FolderFiles::new(&rt, "added_to");
-    let agency = length_in(rt.alloc(), &mut files, "agency.txt");
-    add_file(&rt, "added_to", "added_to/stops.txt", STOPS)?;
-    let stops = length_in(rt.alloc(), &mut files, "stops.txt");
+    let (agency, stops) = read_and_add(&rt, "added_to", "added_to/stops.txt")?;
     fs::remove_file(&rt, "added_to/agency.txt")?;
     fs::remove_file(&rt, "added_to/stops.txt")?;
     fs::remove_dir(&rt, "added_to")?;
     assert!(rt; agency == Some(AGENCY.len()) && stops.is_none());
+    Ok(())
+}
+
+// Nor is a folder at the end of a link.
+#[test]
+fn a_linked_folder_with_another_file_is_not_read(rt: HostRuntime) -> Result<(), Fail> {
+    write_folder(&rt, "linked_to", &[("agency.txt", AGENCY)])?;
+    symlink(&rt, "linked_to", "link_to_folder")?;
+    let (agency, stops) = read_and_add(&rt, "link_to_folder", "linked_to/stops.txt")?;
+    fs::remove_file(&rt, "link_to_folder")?;
+    fs::remove_file(&rt, "linked_to/agency.txt")?;
+    fs::remove_file(&rt, "linked_to/stops.txt")?;
+    fs::remove_dir(&rt, "linked_to")?;
+    assert!(rt; agency == Some(AGENCY.len()) && stops.is_none());
+    Ok(())
+}
+
+// A link to a file in another folder is read as that file.
+#[test]
+fn a_link_to_a_file_is_read(rt: HostRuntime) -> Result<(), Fail> {
+    write_folder(&rt, "of_the_file", &[("stops.txt", STOPS)])?;
+    fs::create_dir(&rt, "of_the_link")?;
+    symlink(&rt, "../of_the_file/stops.txt", "of_the_link/stops.txt")?;
+    let whole = is_read(&rt, 100, "of_the_link", "stops.txt", STOPS);
+    fs::remove_file(&rt, "of_the_link/stops.txt")?;
+    fs::remove_dir(&rt, "of_the_link")?;
+    fs::remove_file(&rt, "of_the_file/stops.txt")?;
+    fs::remove_dir(&rt, "of_the_file")?;
+    assert!(rt; whole == Ok(true));
     Ok(())
 }
 

@@ -31,5 +31,19 @@ returns-clause-refused g c =
 
 pub returns-clause-unusable : goal.returns-clause-unusable
 returns-clause-unusable g c =
-    IfErr-weaker c.build_reported-built.result _ _ (λ failure is. unusable_weaker failure _ _ (λ unwritable. inr unwritable) is)
-    c.build_reported-built.ensures.unusable
+    let began = c.new-files.result.files in
+    let then = c.build_reported-built.new.files.files in
+    let asked = c.args.request.now in
+    let same : began.folder.now ≡ asked.folder.now = search rules in
+    IfErr-weaker c.build_reported-built.result _ _ (λ failure is. unusable_weaker failure _ _ (λ (unwritable, (t, names, report, content, read, loaded)).
+    inr (
+      unwritable,
+      (
+        t,
+        names,
+        report,
+        built_of g.H.Disk.gives then.disk.now then.state asked.folder.now began.folder.now then.folder.now began.reads then.reads
+            (g.H.ImageDisk.may_hold c.args.rt.now) (g.H.WallClock.may_show c.args.rt.now) asked.plan c.in-Ok.plan t names report
+            same c.in-Ok.ensures.plan then.given (content, read, loaded),
+      ),
+    )) is) c.build_reported-built.ensures.unusable

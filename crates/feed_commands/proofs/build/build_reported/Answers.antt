@@ -34,3 +34,17 @@ returns-in-Err-clause-refused g c unless = (
   c.in-Err.ensures.failed ∙ as_failed (ImageValue × Report) (g.F.FeedFiles.words.failed c.args.files.now.files) c.in-Err.fault,
   λ content shows. c.in-Err.ensures.err content shows unless,
 )
+
+-- an image was made of all files before it couldn't be written
+pub returns-in-Err-put_image-clause-unusable : goal.returns-in-Err-put_image-clause-unusable
+returns-in-Err-put_image-clause-unusable g c = λ other.
+    let loaded = c.in-Ok.loaded in
+    let (content, read, is) =
+    whole_of g.F.FeedFiles.words.reads (g.F.FeedFiles.words.reads c.args.files.now.files) c.load_reported.new.files.files
+    c.report_writing.new.self.files
+    (λ content. IsLoaded content c.args.plan loaded.0.timetable loaded.0.names loaded.1)
+    c.report_writing.ensures c.in-Ok.ensures.all_read
+    (λ content read. c.in-Ok.ensures.ok content (inr (all_tables, read))) in (
+      c.in-Err-put_image.ensures.failed (λ none. other (c.kind.ensures ∙ none)),
+      (loaded.0.timetable, loaded.0.names, loaded.1, content, read, is),
+    )

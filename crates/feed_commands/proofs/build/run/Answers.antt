@@ -45,14 +45,16 @@ returns-in-Err-Refused g c =
 
 pub returns-in-Err-Unreadable : goal.returns-in-Err-Unreadable
 returns-in-Err-Unreadable g c =
-    let Unusable = IsUnusable (g.H.ImageDisk.may_fail c.args.rt.now) (g.H.OutDisk.files c.args.rt.now) c.args.request in
+    let Unusable = IsUnusable g.H.Disk.gives (g.H.ImageDisk.may_hold c.args.rt.now) (g.H.ImageDisk.may_fail c.args.rt.now)
+    (g.H.WallClock.may_show c.args.rt.now) (g.H.OutDisk.files c.args.rt.now) c.args.request in
     let figures = c.in-Err-Unreadable in
     let can = subst (λ (failure : BuildFailure). IfUnusable failure Unusable) figures.field-0-is figures.ensures.unusable in
     inr (inr (inl (c.report_unread_zone.ensures, can), refl))
 
 pub returns-in-Err-Unwritten : goal.returns-in-Err-Unwritten
 returns-in-Err-Unwritten g c =
-    let Unusable = IsUnusable (g.H.ImageDisk.may_fail c.args.rt.now) (g.H.OutDisk.files c.args.rt.now) c.args.request in
+    let Unusable = IsUnusable g.H.Disk.gives (g.H.ImageDisk.may_hold c.args.rt.now) (g.H.ImageDisk.may_fail c.args.rt.now)
+    (g.H.WallClock.may_show c.args.rt.now) (g.H.OutDisk.files c.args.rt.now) c.args.request in
     let figures = c.in-Err-Unwritten in
     let can = subst (λ (failure : BuildFailure). IfUnusable failure Unusable) figures.field-0-is figures.ensures.unusable in
     let done = c.report_unwritten.ensures in

@@ -22,7 +22,7 @@ returns c =
     let names = names_of c.service_indices.new.named in
     let active : (day : Day) → map (λ service. service_runs service day) c.deref-6.result.now ≡ active_among feed names day = λ day.
     ap (λ (services : List Service). map (λ service. service_runs service day) services) c.deref-6.ensures.value
-    ∙ c.in_ok-each.ensures c.deref.result.now c.deref-2.result.now c.in_ok-services.ensures day
+    ∙ c.in_ok-each.ensures c.deref.result.now c.deref-2.result.now c.in_ok-services.ensures.holds day
     ∙ ap (λ (rows : List CalendarRow). map (λ name. is_active rows c.deref-2.result.now name day) names) c.deref.ensures.value
     ∙ ap (λ (rows : List CalendarDateRow). map (λ name. is_active feed.calendar.items rows name day) names) c.deref-2.ensures.value in
     let named : AreNamed names c.deref-5.result.now c.deref-4.result.now =

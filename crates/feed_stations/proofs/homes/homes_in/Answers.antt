@@ -19,11 +19,11 @@ loop-row_index-preserved c =
     record {
       fine = row_fine Stops (orphan_fault (station_named c.args.rows.now)) c.args.rows.now c.loop-row_index.row_index c.index-rows-row_index.result
           (omega arith)
-          c.index-rows-row_index.is (orphan_as_found _ _ c.in-Ok.ensures c.index-rows-row_index.result _ c.in-Ok-home_of.ensures.fine)
+          c.index-rows-row_index.is (orphan_as_found _ _ c.in-Ok.ensures.holds c.index-rows-row_index.result _ c.in-Ok-home_of.ensures.fine)
           c.loop-row_index.invariant.fine;
       homes = homes_more (station_named c.args.rows.now) c.args.rows.now c.loop-row_index.row_index c.index-rows-row_index.result c.loop-row_index.homes.items
           c.push.new.self.items c.in-Ok-home_of.home (omega arith) c.index-rows-row_index.is grown
-          (home_as_found _ _ c.in-Ok.ensures c.loop-row_index.row_index c.index-rows-row_index.result c.in-Ok-home_of.home c.in-Ok-home_of.ensures.home)
+          (home_as_found _ _ c.in-Ok.ensures.holds c.loop-row_index.row_index c.index-rows-row_index.result c.in-Ok-home_of.home c.in-Ok-home_of.ensures.home)
           c.loop-row_index.invariant.homes;
     }
 
@@ -31,5 +31,5 @@ pub returns-in-Err-clause-err : goal.returns-in-Err-clause-err
 returns-in-Err-clause-err c = λ _.
     rw c.fault_at.ensures (row_wrong Stops (orphan_fault (station_named c.args.rows.now)) c.args.rows.now c.loop-row_index.row_index
     c.index-rows-row_index.result
-    c.in-Err.kind (omega arith) c.index-rows-row_index.is (orphan_as_found _ _ c.in-Ok.ensures c.index-rows-row_index.result _ c.in-Err.ensures.err)
+    c.in-Err.kind (omega arith) c.index-rows-row_index.is (orphan_as_found _ _ c.in-Ok.ensures.holds c.index-rows-row_index.result _ c.in-Err.ensures.err)
     c.loop-row_index.invariant.fine)

@@ -2,11 +2,11 @@ use Rattle.std.proofs.Common.{sym, ◌∙◌}
 use Rattle.gtfs_tables.proofs.NameLemmas.{held-kept, held-put}
 use Rattle.gtfs_tables.proofs.names.add_first.Goals as goal
 
-pub returns-in_ok-insert : goal.returns-in_ok-insert
-returns-in_ok-insert g c =
+pub returns-in_ok-insert-clause-adds : goal.returns-in_ok-insert-clause-adds
+returns-in_ok-insert-clause-adds g c =
     held-kept c.args.names.now c.insert.new.self c.insert-in-Some.new.self c.args.id c.in-Some.first c.args.name
     (sym c.in_ok-first.ensures.old ∙ c.in-Some.is) c.in_ok-first.ensures.updates c.in_ok-insert.ensures.updates
 
-pub returns-in_default : goal.returns-in_default
-returns-in_default g c =
+pub returns-in_default-clause-adds : goal.returns-in_default-clause-adds
+returns-in_default-clause-adds g c =
     held-put c.args.names.now c.insert.new.self c.args.id c.args.name (sym c.in_ok-first.ensures.old ∙ c.in_default.is) c.in_ok-first.ensures.updates

@@ -11,6 +11,7 @@ pub loop-index-init : goal.loop-index-init
 loop-index-init c = record {
   number = search rules;
   held = λ id. held-none c.in_ok-names.names id c.in_ok-names.ensures.empty ∙ sym (first_below-start _);
+  hash = c.in_ok-names.ensures.hasher;
 }
 
 pub loop-index-preserved : goal.loop-index-preserved
@@ -35,8 +36,9 @@ loop-index-preserved c = record {
       let before = c.loop-index.invariant.held id in
       let count = c.loop-index.invariant.number in
       let step = stop_named-more c.args.stops.now c.loop-index.index c.index-stops-index.result id (omega arith) c.index-stops-index.is in
-      let put = c.in_ok-add_first.ensures id in
+      let put = c.in_ok-add_first.ensures.adds id in
       let text = c.as_str.ensures.value in
       let name = c.of-name.ensures in
       cc;
+  hash = c.in_ok-add_first.ensures.hash ∙ c.loop-index.invariant.hash;
 }

@@ -9,7 +9,8 @@ use Rattle.image_commands.proofs.asked.do_asked.Goals as goal
 pub returns-in-Journey : goal.returns-in-Journey
 returns-in-Journey g c =
     let Printed = PrintsAsked (g.H.ImageDisk.may_hold c.args.rt.now) (g.H.OutDisk.files c.args.rt.now) in
-    let Unusable = IsUnusable (g.H.ImageDisk.may_fail c.args.rt.now) (g.H.ImageDisk.may_hold c.args.rt.now) (g.H.OutDisk.files c.args.rt.now) in
+    let Unusable = IsUnusable (g.H.ImageDisk.may_fail c.args.rt.now) (g.H.ImageDisk.may_hold c.args.rt.now) (g.H.OutDisk.files c.args.rt.now)
+    c.args.image.now in
     let image = c.args.image.now in
     let before = g.O.Write.contents c.args.output.now in
     let outcome = c.run-in-Journey in
@@ -23,7 +24,8 @@ returns-in-Journey g c =
 pub returns-in-Profile : goal.returns-in-Profile
 returns-in-Profile g c =
     let Printed = PrintsAsked (g.H.ImageDisk.may_hold c.args.rt.now) (g.H.OutDisk.files c.args.rt.now) in
-    let Unusable = IsUnusable (g.H.ImageDisk.may_fail c.args.rt.now) (g.H.ImageDisk.may_hold c.args.rt.now) (g.H.OutDisk.files c.args.rt.now) in
+    let Unusable = IsUnusable (g.H.ImageDisk.may_fail c.args.rt.now) (g.H.ImageDisk.may_hold c.args.rt.now) (g.H.OutDisk.files c.args.rt.now)
+    c.args.image.now in
     let image = c.args.image.now in
     let before = g.O.Write.contents c.args.output.now in
     let outcome = c.run-in-Profile in
@@ -37,7 +39,8 @@ returns-in-Profile g c =
 pub returns-in-Departures : goal.returns-in-Departures
 returns-in-Departures g c =
     let Printed = PrintsAsked (g.H.ImageDisk.may_hold c.args.rt.now) (g.H.OutDisk.files c.args.rt.now) in
-    let Unusable = IsUnusable (g.H.ImageDisk.may_fail c.args.rt.now) (g.H.ImageDisk.may_hold c.args.rt.now) (g.H.OutDisk.files c.args.rt.now) in
+    let Unusable = IsUnusable (g.H.ImageDisk.may_fail c.args.rt.now) (g.H.ImageDisk.may_hold c.args.rt.now) (g.H.OutDisk.files c.args.rt.now)
+    c.args.image.now in
     let image = c.args.image.now in
     let before = g.O.Write.contents c.args.output.now in
     let outcome = c.run-in-Departures in

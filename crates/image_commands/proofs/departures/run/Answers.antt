@@ -9,7 +9,7 @@ use Rattle.station_answers.specs.Naming.{IsFaultBetween}
 use Rattle.command_requests.specs.declared.requests.DeparturesRequest.{DeparturesRequest}
 use Rattle.image_commands.specs.Commands.{PrintsDepartures}
 use Rattle.image_commands.specs.Departing.{AreAllShown, AreShownBy, AsksOfAll, HasUnknownFrom, IsListUnreadable, IsNoListFrom}
-use Rattle.image_commands.specs.Departing.{IsNoneAsked, list_status, targets_asked, window_asked}
+use Rattle.image_commands.specs.Departing.{IsNoneAsked, LacksList, list_status, targets_asked, window_asked}
 use Rattle.command_endings.specs.Ending.{IsOutcome, Prints, PrintsOnly}
 use Rattle.image_commands.specs.Refusing.{refusal_line}
 use Rattle.image_commands.specs.declared.refusal.CommandRefusal.TheVariants.{Query}
@@ -37,12 +37,12 @@ module _ (may_hold : List ℕ → Option (List ℕ) → Type 0) (may_fail : List
   -- a list that names no stops is refused in silence, or can't be read
   unlisted : (asked : (b : SetQueryValue) × AsksOfAll image request b) (failure : NoList) (fault : Option ErrorKind) (status : ℕ) (known : Option (List ℕ))
       → IsNoListFrom may_hold may_fail request.from image.names failure → status ≡ list_status failure
-      → IsOutcome (PrintsDepartures may_hold image request) (IsListUnreadable may_fail may_hold request.from) fault status known known
+      → IsOutcome (PrintsDepartures may_hold image request) (LacksList may_fail may_hold image request) fault status known known
   unlisted asked (UnknownStop number) fault status known unknown is =
       refused_silently (AreAllShown may_hold image request) (IsNoneAsked may_hold image request) _ fault status known
       (inr (asked.0, asked.1, has_unknown request.from number unknown, refl)) is
-  unlisted asked Unreadable fault status known unknown is = inr (inr (inl (is, not_read request.from unknown), refl))
-  unlisted asked NotText fault status known unknown is = inr (inr (inl (is, not_text request.from unknown), refl))
+  unlisted asked Unreadable fault status known unknown is = inr (inr (inl (is, (not_read request.from unknown, asked)), refl))
+  unlisted asked NotText fault status known unknown is = inr (inr (inl (is, (not_text request.from unknown, asked)), refl))
   unlisted asked OutOfMemory fault status known unknown is = inr (inr (inr is, refl))
 
 pub returns-else-status-eq-REFUSED : goal.returns-else-status-eq-REFUSED

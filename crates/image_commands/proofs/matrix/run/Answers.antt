@@ -36,7 +36,7 @@ returns-in-Ok-clause-unlisted g c = λ is. absurd (ends_asked _ c.make_table.ens
 
 pub returns-in-Ok-clause-cut : goal.returns-in-Ok-clause-cut
 returns-in-Ok-clause-cut g c = λ ends.
-    inr (c.table_of-table.result, asked g (goal.at.returns-in-Ok-clause-cut g c).After-table_of-table, c.make_table.ensures.cut ends)
+    inr (inr (c.table_of-table.result, asked g (goal.at.returns-in-Ok-clause-cut g c).After-table_of-table, c.make_table.ensures.cut ends))
 
 pub returns-in-Ok-clause-spent : goal.returns-in-Ok-clause-spent
 returns-in-Ok-clause-spent g c = λ is.

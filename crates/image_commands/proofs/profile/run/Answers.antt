@@ -15,7 +15,7 @@ returns-in-Ok g c =
     let profile = c.in-Ok.profile in
     outcome_of (PrintsOnly (λ text. IsPicturePut disk request.picture profile.picture × (text ≡ string_bytes profile.text)))
     (PrintsProfile disk image request) _ _ _ _ _ _
-    (λ s text is. inl (is.0, (profile, c.in-Ok.ensures, is.1.0, is.1.1))) (λ can. can) c.print_profile.ensures
+    (λ s text is. inl (is.0, (profile, c.in-Ok.ensures, is.1.0, is.1.1))) (λ can. (can, (profile, c.in-Ok.ensures))) c.print_profile.ensures
 
 pub returns-in-Err-Bad : goal.returns-in-Err-Bad
 returns-in-Err-Bad g c =

@@ -14,7 +14,7 @@ use Rattle.fronts.proofs.Growth.{more_lists, more_none}
 use Rattle.fronts.proofs.Mapped.{takes_points, taken_if_ok}
 use Rattle.fronts.proofs.OnePut.{put_more, put_joined}
 use Rattle.fronts.proofs.front_lists.FrontLists.insert_ahead.Given as given
-use Rattle.fronts.proofs.front_lists.FrontLists.insert_ahead.Goals.{In_ok-push, After-deref-3}
+use Rattle.fronts.proofs.front_lists.FrontLists.insert_ahead.Goals.{In_ok-append, After-deref-3}
 use Rattle.fronts.proofs.front_lists.FrontLists.insert_ahead.Goals as goal
 
 pub front_betters-requires-clause-value : goal.front_betters-requires-clause-value
@@ -46,25 +46,25 @@ returns-then-front_betters-clause-taken g c =
           c.deref-2.ensures.value c.walk-value.ensures c.front_betters.ensures c.if-front_betters.true));
     }
 
-pub returns-in_err-push-clause-more : goal.returns-in_err-push-clause-more
-returns-in_err-push-clause-more g c =
+pub returns-in_err-append-clause-more : goal.returns-in_err-append-clause-more
+returns-in_err-append-clause-more g c =
     let lists = c.args.self.now in
     record {
       sound = c.requires.may.sound;
       criterion = refl;
       entries = extends_none (entries_of lists);
       items = extends_none (items_of lists);
-      steps = subst (λ steps. Extends (steps_of lists) steps) (sym c.in_err-push.ensures.items) (extends_none (steps_of lists));
+      steps = subst (λ steps. Extends (steps_of lists) steps) (sym c.in_err-append.ensures.same) (extends_none (steps_of lists));
     }
 
 -- the point that is put
-abbrev point : (g : given.Over) (c : In_ok-push g) → Item g.row.C-V.Denot
+abbrev point : (g : given.Over) (c : In_ok-append g) → Item g.row.C-V.Denot
 point g c = record { departure = c.args.boarding.departure; value = c.walk-value.result; tag = c.in_ok-tag.tag }
 
-numbered : (g : given.Over) (c : In_ok-push g) → c.in_ok-tag.tag ≡ length (steps_of c.args.self.now)
+numbered : (g : given.Over) (c : In_ok-append g) → c.in_ok-tag.tag ≡ length (steps_of c.args.self.now)
 numbered g c = let tag_is = c.in_ok-tag.ensures in omega (arith, tag_is)
 
-fresh : (g : given.Over) (c : In_ok-push g)
+fresh : (g : given.Over) (c : In_ok-append g)
     → betters (g.C.Criterion.rules (lists_criterion c.args.self.now))
     (front (entries_of c.args.self.now) (items_of c.args.self.now) c.args.head) c.walk-value.result ≡ false
 fresh g c =
@@ -73,22 +73,22 @@ fresh g c =
     c.args.head c.walk-value.result c.front_betters.result c.deref.ensures.value c.deref-2.ensures.value c.front_betters.ensures
     c.if-front_betters.false
 
-may_put : (g : given.Over) (c : In_ok-push g)
+may_put : (g : given.Over) (c : In_ok-append g)
     → MayPut (g.C.Criterion.rules (lists_criterion c.args.self.now)) (entries_of c.args.self.now) (items_of c.args.self.now)
     c.args.boarding.departure c.args.head (point g c ∷ [])
 may_put g c =
     let lists = c.args.self.now in
     let rules = g.C.Criterion.rules (lists_criterion lists) in
     ahead_may rules (g.met.C.Criterion.laws (lists_criterion lists)) (entries_of lists) (items_of lists) c.args.head
-    c.args.boarding c.args.ride c.requires.may c.requires.ahead (steps_of lists) c.push.new.self.items c.in_ok-tag.tag
-    c.walk-value.result c.walk-value.ensures c.in_ok-push.ensures.items (numbered g c) (fresh g c)
+    c.args.boarding c.args.ride c.requires.may c.requires.ahead (steps_of lists) c.append.new.items.items c.in_ok-tag.tag
+    c.walk-value.result c.walk-value.ensures c.in_ok-append.ensures.added (numbered g c) (fresh g c)
 
 -- what the lists are once it is put
-taken : (g : given.Over) (c : In_ok-push g) (entries : List (FrontEntry g.row.C-V.Denot)) (items : List (Item g.row.C-V.Denot)) (new : ℕ)
+taken : (g : given.Over) (c : In_ok-append g) (entries : List (FrontEntry g.row.C-V.Denot)) (items : List (Item g.row.C-V.Denot)) (new : ℕ)
     → IsJoined (g.C.Criterion.rules (lists_criterion c.args.self.now)) (point g c ∷ [])
     (points_from (entries_of c.args.self.now) (items_of c.args.self.now) c.args.head) (entries_of c.args.self.now) entries
     (items_of c.args.self.now) items new
-    → (new < length entries) × TakesBoardings (g.C.Criterion.rules (lists_criterion c.args.self.now)) c.push.new.self.items
+    → (new < length entries) × TakesBoardings (g.C.Criterion.rules (lists_criterion c.args.self.now)) c.append.new.items.items
     c.args.boarding (c.args.ride ∷ []) (points_from (entries_of c.args.self.now) (items_of c.args.self.now) c.args.head)
     (points_from entries items new)
 taken g c entries items new put =
@@ -96,20 +96,20 @@ taken g c entries items new put =
     let rules = g.C.Criterion.rules (lists_criterion lists) in (
       put.within,
       ahead_one rules (g.met.C.Criterion.laws (lists_criterion lists)) (entries_of lists) (items_of lists) c.args.head
-          c.args.boarding c.args.ride c.requires.may c.requires.ahead (steps_of lists) c.push.new.self.items c.in_ok-tag.tag
-          c.walk-value.result c.walk-value.ensures c.in_ok-push.ensures.items (numbered g c) (fresh g c)
+          c.args.boarding c.args.ride c.requires.may c.requires.ahead (steps_of lists) c.append.new.items.items c.in_ok-tag.tag
+          c.walk-value.result c.walk-value.ensures c.in_ok-append.ensures.added (numbered g c) (fresh g c)
           (points_from entries items new) put.union,
     )
 
 pub outdoes-requires-clause-value : goal.outdoes-requires-clause-value
 outdoes-requires-clause-value g c =
-    let here = (goal.at.outdoes-requires-clause-value g c).In_ok-push in
+    let here = (goal.at.outdoes-requires-clause-value g c).In_ok-append in
     (may_put g here).admitted (point g here) (contains_first (point g here) [])
 
 pub put_alone-requires-clause-may : goal.put_alone-requires-clause-may
 put_alone-requires-clause-may g c =
     let lists = c.args.self.now in
-    let here = (goal.at.put_alone-requires-clause-may g c).In_ok-push in
+    let here = (goal.at.put_alone-requires-clause-may g c).In_ok-append in
     subst (λ items. MayPut (g.C.Criterion.rules (lists_criterion lists)) (entries_of lists) items c.args.boarding.departure
     c.args.head (point g here ∷ [])) (sym c.deref-then-outdoes.ensures.value) (may_put g here)
 
@@ -118,28 +118,28 @@ returns-then-outdoes-clause-more g c =
     let lists = c.args.self.now in
     more_lists g.C.Criterion.rules lists _ (subst (λ items. AreMore (g.C.Criterion.rules (lists_criterion lists)) (entries_of lists)
     items c.put_alone.new.entries.items items) c.deref-then-outdoes.ensures.value
-    (put_more _ _ _ _ _ _ _ _ c.put_alone.result c.put_alone.ensures)) refl (_, c.in_ok-push.ensures.items)
+    (put_more _ _ _ _ _ _ _ _ c.put_alone.result c.put_alone.ensures)) refl (_, c.in_ok-append.ensures.added)
 
 pub returns-then-outdoes-clause-taken : goal.returns-then-outdoes-clause-taken
 returns-then-outdoes-clause-taken g c =
     let lists = c.args.self.now in
     let rules = g.C.Criterion.rules (lists_criterion lists) in
-    let here = (goal.at.returns-then-outdoes-clause-taken g c).In_ok-push in
+    let here = (goal.at.returns-then-outdoes-clause-taken g c).In_ok-append in
     let entries = c.put_alone.new.entries.items in
     taken_if_ok g.C.Criterion.rules c.args.boarding (c.args.ride ∷ []) lists _ c.args.head c.put_alone.result
     (IfOk-weaker c.put_alone.result _ _ (taken g here entries (items_of lists))
     (subst (λ items. IfOk c.put_alone.result (IsJoined rules (point g here ∷ []) (points_from (entries_of lists) items c.args.head)
     (entries_of lists) entries items items)) c.deref-then-outdoes.ensures.value (put_joined _ _ _ _ _ _ _ _ c.put_alone.result c.put_alone.ensures)))
 
-pub returns-in_err-push-2-clause-more : goal.returns-in_err-push-2-clause-more
-returns-in_err-push-2-clause-more g c =
+pub returns-in_err-push-clause-more : goal.returns-in_err-push-clause-more
+returns-in_err-push-clause-more g c =
     let lists = c.args.self.now in
     record {
       sound = c.requires.may.sound;
       criterion = refl;
       entries = extends_none (entries_of lists);
       items = extends_none (items_of lists);
-      steps = (_, c.in_ok-push.ensures.items);
+      steps = (_, c.in_ok-append.ensures.added);
     }
 
 -- the point is all that is kept
@@ -147,19 +147,19 @@ kept_is : (g : given.Over) (c : After-deref-3 g) → c.deref-3.result.now
     ≡ record { departure = c.args.boarding.departure; value = c.walk-value.result; tag = c.in_ok-tag.tag } ∷ []
 kept_is g c =
     let x : Item g.row.C-V.Denot = record { departure = c.args.boarding.departure; value = c.walk-value.result; tag = c.in_ok-tag.tag } in
-    c.deref-3.ensures.value ∙ c.in_ok-push-2.ensures.items ∙ ap (λ ps. ps ++ x ∷ []) c.clear.ensures.items
+    c.deref-3.ensures.value ∙ c.in_ok-push.ensures.items ∙ ap (λ ps. ps ++ x ∷ []) c.clear.ensures.items
 
 pub put-requires : goal.put-requires
 put-requires g c =
     let lists = c.args.self.now in
     record {
       may = subst (MayPut (g.C.Criterion.rules (lists_criterion lists)) (entries_of lists) (items_of lists) c.args.boarding.departure c.args.head)
-          (sym (kept_is g (goal.at.put-requires g c).After-deref-3)) (may_put g (goal.at.put-requires g c).In_ok-push);
+          (sym (kept_is g (goal.at.put-requires g c).After-deref-3)) (may_put g (goal.at.put-requires g c).In_ok-append);
     }
 
 pub returns-clause-more : goal.returns-clause-more
 returns-clause-more g c =
-    more_lists g.C.Criterion.rules c.args.self.now _ (put_more _ _ _ _ _ _ _ _ c.put.result c.put.ensures) refl (_, c.in_ok-push.ensures.items)
+    more_lists g.C.Criterion.rules c.args.self.now _ (put_more _ _ _ _ _ _ _ _ c.put.result c.put.ensures) refl (_, c.in_ok-append.ensures.added)
 
 pub returns-clause-taken : goal.returns-clause-taken
 returns-clause-taken g c =
@@ -168,7 +168,7 @@ returns-clause-taken g c =
     let entries = c.put.new.entries.items in
     let items = c.put.new.items.items in
     taken_if_ok g.C.Criterion.rules c.args.boarding (c.args.ride ∷ []) lists _ c.args.head c.put.result
-    (IfOk-weaker c.put.result _ _ (taken g (goal.at.returns-clause-taken g c).In_ok-push entries items)
+    (IfOk-weaker c.put.result _ _ (taken g (goal.at.returns-clause-taken g c).In_ok-append entries items)
     (subst (λ ps. IfOk c.put.result (IsJoined rules ps (points_from (entries_of lists) (items_of lists) c.args.head)
     (entries_of lists) entries (items_of lists) items)) (kept_is g (goal.at.returns-clause-taken g c).After-deref-3)
     (put_joined _ _ _ _ _ _ _ _ c.put.result c.put.ensures)))

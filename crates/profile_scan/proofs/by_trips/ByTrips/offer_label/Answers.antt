@@ -45,14 +45,14 @@ insert_at-requires-clause-there c =
     let long = c.in_ok-fill.ensures.trips_are in
     omega (arith, trip, trips, long)
 
-pub returns-in_ok-push : goal.returns-in_ok-push
-returns-in_ok-push c =
+pub returns-in_ok-append : goal.returns-in_ok-append
+returns-in_ok-append c =
     let old = c.args.self.now in
     label_stands (question c.args.asked.now.query) c.args.hop.now old c.requires.can c.fill.new.self
-    (filled (goal.at.returns-in_ok-push c).After-insert_at) c.args.value c.in_ok-tag.tag c.args.step c.requires.admitted
+    (filled (goal.at.returns-in_ok-append c).After-insert_at) c.args.value c.in_ok-tag.tag c.args.step c.requires.admitted
     (c.in_ok-tag.ensures.0 ∙ ap (λ n. 8 * n) (c.len.ensures ∙ old.lanes.exits.ok.0))
-    (record { labels = c.insert_at.new.bags; points = c.fill.new.self.points }) c.push.new.self c.in_ok-stands.stands refl c.in_ok-stands.ensures
-    c.in_ok-push.ensures.items
+    (record { labels = c.insert_at.new.bags; points = c.fill.new.self.points }) c.append.new.items c.in_ok-stands.stands refl c.in_ok-stands.ensures
+    c.in_ok-append.ensures.added
 
 pub returns-else-stands : goal.returns-else-stands
 returns-else-stands c =

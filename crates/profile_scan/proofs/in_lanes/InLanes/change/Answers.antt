@@ -9,12 +9,12 @@ use Rattle.profile_scan.specs.InLanes.{LaneTakes}
 use Rattle.profile_scan.proofs.LanesLeft.{change_lowered, change_none}
 use Rattle.profile_scan.proofs.in_lanes.InLanes.change.Goals as goal
 
-pub returns-in_ok-push-in-Lowered : goal.returns-in_ok-push-in-Lowered
-returns-in_ok-push-in-Lowered c =
-    change_lowered (question c.args.asked.now.query) c.args.hop.now c.args.self.now c.requires c.change.new.self c.push.new.self c.front_from-entry.result
+pub returns-in_ok-append-in-Lowered : goal.returns-in_ok-append-in-Lowered
+returns-in_ok-append-in-Lowered c =
+    change_lowered (question c.args.asked.now.query) c.args.hop.now c.args.self.now c.requires c.change.new.self c.append.new.items c.front_from-entry.result
     c.in_ok-first.first c.front.result.now c.front_from-entry.ensures c.front.ensures
     (c.in_ok-first.ensures.0 ∙ ap (λ n. 8 * n) (c.len.ensures ∙ c.args.self.now.exits.ok.0))
-    c.in_ok-push-in-Lowered.ensures.items c.in-Lowered.ensures.0
+    c.in_ok-append-in-Lowered.ensures.added c.in-Lowered.ensures.0
 
 pub returns-in-NoNews : goal.returns-in-NoNews
 returns-in-NoNews c =

@@ -5,12 +5,12 @@ use Rattle.profile_scan.specs.InLanes.{changes_but_eight}
 use Rattle.profile_scan.proofs.LanesLeft.{eight_lowered, eight_none}
 use Rattle.profile_scan.proofs.in_lanes.InLanes.change_but_eight.Goals as goal
 
-pub returns-in_ok-push-in-Lowered : goal.returns-in_ok-push-in-Lowered
-returns-in_ok-push-in-Lowered c =
-    eight_lowered (question c.args.asked.now.query) c.args.hop.now c.args.self.now c.requires.can c.change.new.self c.push.new.self c.args.entry
+pub returns-in_ok-append-in-Lowered : goal.returns-in_ok-append-in-Lowered
+returns-in_ok-append-in-Lowered c =
+    eight_lowered (question c.args.asked.now.query) c.args.hop.now c.args.self.now c.requires.can c.change.new.self c.append.new.items c.args.entry
     c.in_ok-first.first c.front.result.now c.requires.entry c.front.ensures c.but_eight-front.result c.but_eight-front.ensures.only
     c.but_eight-front.ensures.all (c.in_ok-first.ensures.0 ∙ ap (λ n. 8 * n) (c.len.ensures ∙ c.args.self.now.exits.ok.0))
-    c.in_ok-push-in-Lowered.ensures.items c.in-Lowered.ensures.0
+    c.in_ok-append-in-Lowered.ensures.added c.in-Lowered.ensures.0
 
 pub returns-in-NoNews : goal.returns-in-NoNews
 returns-in-NoNews c =

@@ -7,12 +7,12 @@ use Rattle.profile_scan.specs.InLanes.{LaneTakes}
 use Rattle.profile_scan.proofs.LanesLeft.{end_lowered, end_none}
 use Rattle.profile_scan.proofs.in_lanes.InLanes.end.Goals as goal
 
-pub returns-in_ok-push-in-Lowered : goal.returns-in_ok-push-in-Lowered
-returns-in_ok-push-in-Lowered c =
+pub returns-in_ok-append-in-Lowered : goal.returns-in_ok-append-in-Lowered
+returns-in_ok-append-in-Lowered c =
     let end = c.in-Some.ensures in
     end_lowered (question c.args.asked.now.query) c.args.hop.now c.args.self.now c.requires c.in-Some.end.walk c.in-Some.end.time c.in_ok-first.first
-    end.0 end.1 end.3 c.end.new.self c.push.new.self (c.in_ok-first.ensures.0 ∙ ap (λ n. 8 * n) (c.len.ensures ∙ c.args.self.now.exits.ok.0))
-    c.in_ok-push-in-Lowered.ensures.items
+    end.0 end.1 end.3 c.end.new.self c.append.new.items (c.in_ok-first.ensures.0 ∙ ap (λ n. 8 * n) (c.len.ensures ∙ c.args.self.now.exits.ok.0))
+    c.in_ok-append-in-Lowered.ensures.added
     c.in-Lowered.ensures.0
 
 pub returns-in-NoNews : goal.returns-in-NoNews
