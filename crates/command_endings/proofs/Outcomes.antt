@@ -1,20 +1,12 @@
 -- How a command ends once it has printed a text, or has tried to.
-use Rattle.std.proofs.Common.{◌≡◌, ◌≢◌, ◌⊎◌, ℕ, List, [], Option, arith, inl, inr, length, refl, subst, sym}
-use Rattle.std.proofs.lemmas.List.{take_all}
+use Rattle.std.proofs.Common.{◌≡◌, ◌≢◌, ◌⊎◌, ℕ, List, [], Option, arith, inl, inr, refl}
 use Rattle.std.specs.Io.KnownBytes.{Appends}
 use Rattle.std.specs.declared.io.ErrorKind.{ErrorKind}
 use Rattle.std.specs.declared.io.ErrorKind.TheVariants.{OutOfMemory as WasOutOfMemory}
 use Rattle.command_requests.specs.declared.statuses.TheConstants.{ACCEPTED, INPUT_OUTPUT, OUT_OF_MEMORY, REFUSED}
-use Rattle.command_endings.specs.Ending.{EndsUndone, IsBegun, IsDone, IsOutcome, Prints, PrintsOnly, PrintsRefusal}
+use Rattle.command_endings.specs.Ending.{EndsUndone, IsDone, IsOutcome, Prints, PrintsOnly, PrintsRefusal}
 use Rattle.image_files.proofs.Appended.{nothing_appended}
-use Rattle.image_files.specs.Watching.{HasFault}
-
--- all of a text was written
-pub begun_whole : (before after : Option (List ℕ)) (text : List ℕ) → Appends before after text → IsBegun before after text
-begun_whole before after text whole = record {
-  count = length text;
-  added = subst (Appends before after) (sym (take_all (length text) text (omega arith))) whole;
-}
+use Rattle.image_files.specs.Watching.{HasFault, IsBegun}
 
 -- what may be printed may be printed by others too, and so may what can't be used
 pub outcome_of : (Is May : ℕ → List ℕ → Type 0) (F G : Type 0) (fault : Option ErrorKind) (status : ℕ) (before after : Option (List ℕ))

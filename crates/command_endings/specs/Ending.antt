@@ -1,9 +1,9 @@
 -- How a command ends: with which status, and what it has printed then.
-use Rattle.std.specs.Prelude.{◌≡◌, ◌⊎◌, ℕ, List, Option, take}
+use Rattle.std.specs.Prelude.{◌≡◌, ◌⊎◌, ℕ, List, Option}
 use Rattle.std.specs.Io.KnownBytes.{Appends}
 use Rattle.std.specs.declared.io.ErrorKind.{ErrorKind}
 use Rattle.command_requests.specs.declared.statuses.TheConstants.{ACCEPTED, INPUT_OUTPUT, OUT_OF_MEMORY, REFUSED}
-use Rattle.image_files.specs.Watching.{HasFault}
+use Rattle.image_files.specs.Watching.{HasFault, IsBegun}
 
 -- what was given is refused, or a file or a line can't be read or written, or memory ran out
 abbrev pub EndsUndone : ℕ → Type 0
@@ -12,11 +12,6 @@ EndsUndone status = (status ≡ REFUSED) ⊎ (status ≡ INPUT_OUTPUT) ⊎ (stat
 -- one of these, or what was asked for is done
 abbrev pub Ends : ℕ → Type 0
 Ends status = (status ≡ ACCEPTED) ⊎ EndsUndone status
-
--- a first part of the text, possibly empty or all of it, was added to what was written before, and nothing else
-pub record IsBegun (before after : Option (List ℕ)) (text : List ℕ) : Type 0 where
-  pub count : ℕ
-  pub added : Appends before after (take count text)
 
 -- the status that goes with a text is itself that of a failed call, as with the line of a file that can't be read, and the whole text was added
 abbrev pub IsDone : ℕ → List ℕ → Option (List ℕ) → Option (List ℕ) → Type 0

@@ -4,8 +4,8 @@ ghost use Rattle.std.specs.Prelude.{◌≡◌, ◌≢◌, ◌⊎◌, IfErr, IfOk
 ghost use Rattle.std.specs.declared.io.ErrorKind.TheVariants.{OutOfMemory as WasOutOfMemory};
 ghost use Rattle.std.specs.Io.KnownBytes.{Appends};
 ghost use Rattle.command_requests.specs.declared.statuses.TheConstants.{INPUT_OUTPUT, OUT_OF_MEMORY};
-ghost use Rattle.command_endings.specs.Ending.{IsBegun, IsDone};
-ghost use Rattle.image_files.specs.Watching.{HasFault};
+ghost use Rattle.command_endings.specs.Ending.{IsDone};
+ghost use Rattle.image_files.specs.Watching.{HasFault, IsBegun};
 
 pub use command_requests::statuses::{
     ACCEPTED, COMMAND_LINE, INPUT_OUTPUT, OUT_OF_MEMORY, REFUSED,

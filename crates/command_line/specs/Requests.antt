@@ -20,6 +20,8 @@ use Rattle.command_requests.specs.declared.requests.DaysRequest.{DaysRequest}
 use Rattle.command_requests.specs.declared.requests.DeparturesForm.{DeparturesForm}
 use Rattle.command_requests.specs.declared.requests.DeparturesForm.TheVariants as departures
 use Rattle.command_requests.specs.declared.requests.DeparturesRequest.{DeparturesRequest}
+use Rattle.command_requests.specs.declared.requests.ImageRequest.{ImageRequest}
+use Rattle.command_requests.specs.declared.requests.ImageRequest.TheVariants as over
 use Rattle.command_requests.specs.declared.requests.InfoRequest.{InfoRequest}
 use Rattle.command_requests.specs.declared.requests.JourneyRequest.{JourneyRequest}
 use Rattle.command_requests.specs.declared.requests.MatrixRequest.{MatrixRequest}
@@ -203,26 +205,34 @@ module _ (rows : List Row) where
   abbrev pub IsServe : ServeRequest → Type 0
   IsServe r = HasFeeds r.feeds.items × HasServeOptions r
 
--- the command of this name, with these values, is the request
+-- the command of this name over an image, with these values, is the request
+abbrev pub IsImageRequest : Text → List Row → ImageRequest → Type 0
+IsImageRequest name rows (over.Verify image) = (name ≡ codes "verify") × HasText rows (codes "image") image.now
+IsImageRequest name rows (over.Info r) = (name ≡ codes "info") × IsInfo rows r
+IsImageRequest name rows (over.Journey r) = (name ≡ codes "journey") × IsJourney rows r
+IsImageRequest name rows (over.Profile r) = (name ≡ codes "profile") × IsProfile rows r
+IsImageRequest name rows (over.Departures r) = (name ≡ codes "departures") × IsDepartures rows r
+IsImageRequest name rows (over.Stops r) = (name ≡ codes "stops") × IsStops rows r
+IsImageRequest name rows (over.Upgrade r) = (name ≡ codes "upgrade") × IsUpgrade rows r
+
+-- the same of any command
 abbrev pub IsRequest : Text → List Row → CommandRequest → Type 0
-IsRequest name rows (command.Verify image) = (name ≡ codes "verify") × HasText rows (codes "image") image.now
-IsRequest name rows (command.Info r) = (name ≡ codes "info") × IsInfo rows r
-IsRequest name rows (command.Journey r) = (name ≡ codes "journey") × IsJourney rows r
-IsRequest name rows (command.Profile r) = (name ≡ codes "profile") × IsProfile rows r
-IsRequest name rows (command.Departures r) = (name ≡ codes "departures") × IsDepartures rows r
+IsRequest name rows (command.OverImage r) = IsImageRequest name rows r
 IsRequest name rows (command.Matrix r) = (name ≡ codes "matrix") × IsMatrix rows r
 IsRequest name rows (command.Tables r) = (name ≡ codes "tables") × IsTables rows r
 IsRequest name rows (command.Days r) = (name ≡ codes "days") × IsDays rows r
 IsRequest name rows (command.Stations r) = (name ≡ codes "stations") × IsStations rows r
 IsRequest name rows (command.Build r) = (name ≡ codes "build") × IsBuild rows r
-IsRequest name rows (command.Stops r) = (name ≡ codes "stops") × IsStops rows r
-IsRequest name rows (command.Upgrade r) = (name ≡ codes "upgrade") × IsUpgrade rows r
 IsRequest name rows (command.Serve r) = (name ≡ codes "serve") × IsServe rows r
 
 -- the request has a list, which takes memory
+abbrev pub HasStopList : ImageRequest → Type 0
+HasStopList (over.Profile r) = Unit {0}
+HasStopList (over.Departures r) = Unit {0}
+HasStopList _ = ⊥
+
 abbrev pub HasList : CommandRequest → Type 0
-HasList (command.Profile r) = Unit {0}
-HasList (command.Departures r) = Unit {0}
+HasList (command.OverImage r) = HasStopList r
 HasList (command.Serve r) = Unit {0}
 HasList _ = ⊥
 

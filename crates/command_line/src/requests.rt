@@ -6,6 +6,7 @@ ghost use Rattle.std.specs.List.{All, Any};
 ghost use Rattle.clap.specs.Words.{Text, found_of, rows_of, subcommand_rows_of};
 ghost use Rattle.command_requests.specs.declared.requests.CommandRequest.{CommandRequest};
 ghost use Rattle.command_requests.specs.declared.requests.DeparturesRequest.{DeparturesRequest};
+ghost use Rattle.command_requests.specs.declared.requests.ImageRequest.{ImageRequest};
 ghost use Rattle.command_requests.specs.declared.requests.NamedFolder.{NamedFolder};
 ghost use Rattle.command_requests.specs.declared.requests.ProfileRequest.{ProfileRequest};
 ghost use Rattle.command_requests.specs.declared.requests.ServeRequest.{ServeRequest};
@@ -13,7 +14,8 @@ ghost use Rattle.command_line.specs.declared.reading.NoCommand.{NoCommand};
 ghost use Rattle.command_line.specs.Requests.{AreDistinct, AsksAnswer, AsksDepartures, Finds, HasDeparturesOptions};
 ghost use Rattle.command_line.specs.Requests.{HasFeeds, HasList, HasPictureRows, HasPlan, HasProfileOptions};
 ghost use Rattle.command_line.specs.Requests.{HasSeconds, HasServeOptions, HasStops, HasWorkers, IsBuild, IsDays, IsDepartures};
-ghost use Rattle.command_line.specs.Requests.{IsHelp, IsInfo, IsJourney, IsMatrix, IsProfile, IsRequest, IsServe};
+ghost use Rattle.command_line.specs.Requests.{HasStopList, IsHelp, IsImageRequest, IsInfo, IsJourney, IsMatrix};
+ghost use Rattle.command_line.specs.Requests.{IsProfile, IsRequest, IsServe};
 ghost use Rattle.command_line.specs.Requests.{IsStations, IsStops, IsTables, IsUpgrade, Reads, text_sought};
 
 use crate::messages::{
@@ -28,9 +30,9 @@ use crate::values::named_folder;
 use clap::ArgMatches;
 use command_requests::{
     AnswerForm, BuildRequest, CommandRequest, DaysRequest, DeparturesForm, DeparturesRequest,
-    InfoRequest, JourneyRequest, MatrixRequest, NamedFolder, PictureRows, PlanText, ProfileRequest,
-    Question, Seconds, ServeRequest, StationsRequest, StopsRequest, TableWorkers, TablesRequest,
-    UpgradeRequest, Workers, days_of,
+    ImageRequest, InfoRequest, JourneyRequest, MatrixRequest, NamedFolder, PictureRows, PlanText,
+    ProfileRequest, Question, Seconds, ServeRequest, StationsRequest, StopsRequest, TableWorkers,
+    TablesRequest, UpgradeRequest, Workers, days_of,
 };
 use std::alloc::Global;
 
@@ -57,8 +59,14 @@ fn named_request<'a>(
     ensures { Finds (IsRequest name.now (rows_of (found_of matches.now))) result }
 {
     match name {
-        "profile" => Ok(CommandRequest::Profile(profile_request(alloc, matches)?)),
-        "departures" => Ok(CommandRequest::Departures(departures_request(alloc, matches)?)),
+        "profile" => {
+            let request = profile_request(alloc, matches)?;
+            Ok(CommandRequest::OverImage(ImageRequest::Profile(request)))
+        }
+        "departures" => {
+            let request = departures_request(alloc, matches)?;
+            Ok(CommandRequest::OverImage(ImageRequest::Departures(request)))
+        }
         "serve" => Ok(CommandRequest::Serve(serve_request(alloc, matches)?)),
         _ => match plain_request(name, matches) {
             Some(request) => Ok(request),
@@ -73,16 +81,26 @@ fn plain_request<'a>(name: &str, matches: &ArgMatches<'a>) -> Option<CommandRequ
         → HasList r) (IsRequest name.now (rows_of (found_of matches.now))) }
 {
     match name {
-        "verify" => text_at(matches, "image").map(CommandRequest::Verify),
-        "info" => info_request(matches).map(CommandRequest::Info),
-        "journey" => journey_request(matches).map(CommandRequest::Journey),
         "matrix" => matrix_request(matches).map(CommandRequest::Matrix),
-        "stops" => stops_request(matches).map(CommandRequest::Stops),
         "tables" => tables_request(matches).map(CommandRequest::Tables),
         "days" => days_request(matches).map(CommandRequest::Days),
         "stations" => stations_request(matches).map(CommandRequest::Stations),
         "build" => build_request(matches).map(CommandRequest::Build),
-        "upgrade" => upgrade_request(matches).map(CommandRequest::Upgrade),
+        _ => image_request(name, matches).map(CommandRequest::OverImage),
+    }
+}
+
+// The same of a command over an image.
+fn image_request<'a>(name: &str, matches: &ArgMatches<'a>) -> Option<ImageRequest<'a>>
+    ensures { MatchOption result ((r : ImageRequest) → IsImageRequest name.now (rows_of (found_of matches.now)) r
+        → HasStopList r) (IsImageRequest name.now (rows_of (found_of matches.now))) }
+{
+    match name {
+        "verify" => text_at(matches, "image").map(ImageRequest::Verify),
+        "info" => info_request(matches).map(ImageRequest::Info),
+        "journey" => journey_request(matches).map(ImageRequest::Journey),
+        "stops" => stops_request(matches).map(ImageRequest::Stops),
+        "upgrade" => upgrade_request(matches).map(ImageRequest::Upgrade),
         _ => None,
     }
 }

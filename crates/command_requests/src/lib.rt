@@ -15,6 +15,6 @@ pub use plans::{
 };
 pub use requests::{
     AnswerForm, BuildRequest, CommandRequest, DaysRequest, DeparturesForm, DeparturesRequest,
-    InfoRequest, JourneyRequest, MatrixRequest, NamedFolder, ProfileRequest, Question,
-    ServeRequest, StationsRequest, StopsRequest, TablesRequest, UpgradeRequest,
+    ImageRequest, InfoRequest, JourneyRequest, MatrixRequest, NamedFolder, ProfileRequest,
+    Question, ServeRequest, StationsRequest, StopsRequest, TablesRequest, UpgradeRequest,
 };

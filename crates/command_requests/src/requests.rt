@@ -6,16 +6,8 @@ use criteria::CriterionName;
 /// A command with its arguments.
 #[derive(Drop)]
 pub enum CommandRequest<'a> {
-    /// To verify the image in a file, or in the standard input for `-`.
-    Verify(&'a str),
-    /// To print what an image has.
-    Info(InfoRequest<'a>),
-    /// To check a journey against an image.
-    Journey(JourneyRequest<'a>),
-    /// To answer a question over an image.
-    Profile(ProfileRequest<'a>),
-    /// To answer the queries from every stop to one, or to any of several, over an image.
-    Departures(DeparturesRequest<'a>),
+    /// A command over an image.
+    OverImage(ImageRequest<'a>),
     /// To write a table of travel times over an image.
     Matrix(MatrixRequest<'a>),
     /// To read the tables of a feed's folder.
@@ -26,12 +18,47 @@ pub enum CommandRequest<'a> {
     Stations(StationsRequest<'a>),
     /// To make the image of a feed's folder.
     Build(BuildRequest<'a>),
-    /// To list stops by their names.
-    Stops(StopsRequest<'a>),
-    /// To rewrite an image in the current layout.
-    Upgrade(UpgradeRequest<'a>),
     /// To serve sessions.
     Serve(ServeRequest<'a>),
+}
+
+/// A command over the image at a path, where `-` is the standard input.
+#[derive(Drop)]
+pub enum ImageRequest<'a> {
+    /// To verify it.
+    Verify(&'a str),
+    /// To print what it has.
+    Info(InfoRequest<'a>),
+    /// To check a journey against it.
+    Journey(JourneyRequest<'a>),
+    /// To answer a question over it.
+    Profile(ProfileRequest<'a>),
+    /// To answer the queries from every stop to one, or to any of several, over it.
+    Departures(DeparturesRequest<'a>),
+    /// To list those of its stops whose names contain a text.
+    Stops(StopsRequest<'a>),
+    /// To write it anew, in the current layout.
+    Upgrade(UpgradeRequest<'a>),
+}
+
+impl<'a> ImageRequest<'a> {
+    ghost use Rattle.std.specs.Prelude.{◌≡◌};
+    ghost use Rattle.command_requests.specs.Paths.{path_of};
+
+    /// The path of the image.
+    pub fn path(&self) -> &'a str
+        ensures { result.now ≡ path_of self.now }
+    {
+        match self {
+            ImageRequest::Verify(image) => *image,
+            ImageRequest::Info(request) => request.image,
+            ImageRequest::Journey(request) => request.image,
+            ImageRequest::Profile(request) => request.image,
+            ImageRequest::Departures(request) => request.image,
+            ImageRequest::Stops(request) => request.image,
+            ImageRequest::Upgrade(request) => request.image,
+        }
+    }
 }
 
 /// The file of an image, or `-` for the standard input, and whether what it has is printed as JSON.

@@ -3,6 +3,7 @@ use Rattle.std.proofs.Common.{◌≡◌, ◌∙◌, ℕ, zero, suc, ◌+◌, ◌
 use Rattle.std.proofs.Common.{option_map, string_bytes}
 use Rattle.std.specs.Global.{Vec}
 use Rattle.std.proofs.lemmas.List.{get_or-map, length-map, map-append, take_all, take_more}
+use Rattle.std.proofs.lemmas.List.Sums.{fold_more}
 use Rattle.std.proofs.lemmas.Option.{get_or_from_slice_get, slice_get-map}
 use Rattle.reasoning.proofs.ListLemmas.{all_zip-push}
 use Rattle.gtfs_rows.specs.Ids.{StandsAt, seen_also}
@@ -12,7 +13,7 @@ use Rattle.gtfs_tables.specs.Joined.{makes_connections}
 use Rattle.gtfs_tables.specs.declared.tables.Feed.{Feed}
 use Rattle.gtfs_tables.specs.declared.tables.Trip.{Trip}
 use Rattle.service_days.specs.Services.{is_active}
-use Rattle.connections.specs.Active.{AreNamed, active_among}
+use Rattle.connections.specs.Active.{AreNamed, active_among, names_also}
 use Rattle.connections.specs.Runs.{runs_on}
 use Rattle.connections.specs.declared.days.ServiceDay.{ServiceDay}
 
@@ -33,6 +34,13 @@ named_more names new trips i trip indices more index lt is seen there now was =
     let before : AreNamed new (take i trips) indices = rw seen (also_named names (string_bytes trip.service) (take i trips) indices was) in
     let next : take (i + 1) trips ≡ take i trips ++ trip ∷ [] = take_more trips i trip lt ∙ ap (λ (t : Trip). take i trips ++ t ∷ []) (sym is) in
     rw (next, now) (all_zip-push (λ (t : Trip) k. StandsAt new k (string_bytes t.service)) (take i trips) indices trip index before there)
+
+-- the names, with the service of a trip more
+pub names_more : (names : List (List ℕ)) (trips : List Trip) (i : ℕ) (trip : Trip) → i < length trips → trip ≡ get_or trips i trip
+    → seen_also (names_also names (take i trips)) (string_bytes trip.service) ≡ names_also names (take (i + 1) trips)
+names_more names trips i trip lt is =
+    let add : List (List ℕ) → Trip → List (List ℕ) = λ so_far t. seen_also so_far (string_bytes t.service) in
+    ap (add (names_also names (take i trips))) is ∙ sym (fold_more add names trips i trip lt)
 
 -- that of the trip at an index
 named_at : (names : List (List ℕ)) (trips : List Trip) (indices : List ℕ) (i : ℕ) (trip : Trip) (d : ℕ) → AreNamed names trips indices

@@ -1,8 +1,8 @@
 -- The services of trips that run on the days of a plan.
-use Rattle.std.specs.Prelude.{◌≡◌, ℕ, List, Bool, map}
+use Rattle.std.specs.Prelude.{◌≡◌, ℕ, List, Bool, fold, map}
 use Rattle.std.specs.List.{AllZip}
 use Rattle.std.specs.String.{string_bytes}
-use Rattle.gtfs_rows.specs.Ids.{StandsAt}
+use Rattle.gtfs_rows.specs.Ids.{StandsAt, seen_also}
 use Rattle.gtfs_rows.specs.declared.values.Day.{Day}
 use Rattle.gtfs_tables.specs.declared.tables.Feed.{Feed}
 use Rattle.gtfs_tables.specs.declared.tables.Trip.{Trip}
@@ -12,6 +12,10 @@ use Rattle.connections.specs.declared.trip_services.TripServices.{TripServices}
 -- each trip's index is that of its service among the names
 abbrev pub AreNamed : List (List ℕ) → List Trip → List ℕ → Type 0
 AreNamed names trips indices = AllZip (λ trip index. StandsAt names index (string_bytes trip.service)) trips indices
+
+-- the names, with the services of the trips that aren't among them, in the order of the trips
+abbrev pub names_also : List (List ℕ) → List Trip → List (List ℕ)
+names_also = fold (λ names (trip : Trip). seen_also names (string_bytes trip.service))
 
 -- for each service, whether it runs on a day
 abbrev pub active_among : Feed → List (List ℕ) → Day → List Bool

@@ -1,10 +1,10 @@
 //! The services of a feed's trips, and which of them run on each day of a plan, determined once for the plan.
 
-ghost use Rattle.std.specs.Prelude.{◌≡◌, length, map, IfOk};
+ghost use Rattle.std.specs.Prelude.{◌≡◌, length, map, IfOk, OnOk};
 ghost use Rattle.gtfs_tables.specs.declared.tables.Feed.{Feed as JoinedFeed};
 ghost use Rattle.service_days.specs.Named.{names_of};
 ghost use Rattle.service_days.specs.Services.{HoldsServices};
-ghost use Rattle.connections.specs.Active.{AreActive, AreNamed, active_among};
+ghost use Rattle.connections.specs.Active.{AreActive, AreNamed, active_among, names_also};
 
 use crate::days::ServiceDay;
 use gtfs_tables::Trip;
@@ -40,7 +40,8 @@ impl TripServices {
     }
 }
 
-/// Returns the index of each trip's service among the named ones, to which it is added. Memory may run out.
+/// Returns the index of each trip's service among the named ones, to which it is added if it isn't there. Memory may
+/// run out.
 pub fn service_indices(
     alloc: Global,
     named: &mut NamedServices,
@@ -48,6 +49,7 @@ pub fn service_indices(
 ) -> Result<Vec<usize>, AllocError>
     ensures len { IfOk result (λ indices. length indices.items ≡ length trips.now) }
     ensures named { IfOk result (λ indices. AreNamed (names_of named.new) trips.now indices.items) }
+    ensures names { OnOk result (names_of named.new ≡ names_also (names_of named.old) trips.now) }
 {
     let mut indices = Vec::with_capacity(alloc, trips.len())?;
     for trip in trips {

@@ -2,4 +2,4 @@
 
 /// The sum of all sources but this file, as `release/sources --program` prints it. `release/stamp` writes it, and
 /// `.ci/run` compares it with the sources.
-pub const SOURCES: &str = "25f3a7350f4095865d0e9efb2492e6a79ac2e81792bec43ca27008bda551c4b7";
+pub const SOURCES: &str = "45f99980965da545ea4c626e08fbf331a88b8b5ab0a73aed3824efb29aa51af1";

@@ -5,13 +5,13 @@ use Rattle.command_requests.specs.declared.ends.SessionCounts.{SessionCounts}
 use Rattle.command_requests.specs.declared.requests.ServeRequest.{ServeRequest}
 use Rattle.csa_program.specs.Acceptor.{AreAsMany}
 use Rattle.csa_program.specs.Hosting.{IsHosted, IsRunTo, first_loader, form_asked}
-use Rattle.epochs.specs.ShelfLoads.{ShelfLoaderValue}
-use Rattle.epochs.specs.ShelfSeats.{NoticeValue, SeatsHanded, ShelfSeatValue}
-use Rattle.epochs.specs.ShelfWords.{shelf_seats}
+use Rattle.shelves.specs.ShelfLoads.{ShelfLoaderValue}
+use Rattle.shelves.specs.ShelfSeats.{NoticeValue, SeatsHanded, ShelfSeatValue}
+use Rattle.shelves.specs.ShelfWords.{shelf_seats}
 use Rattle.image_layout.specs.Image.{ImageValue}
 use Rattle.client_queue.specs.Dealing.{SourceWords}
 use Rattle.lines.specs.Streams.{StreamWords}
-use Rattle.ordered_loads.specs.Words.{LoadWords}
+use Rattle.feed_loads.specs.Words.{LoadWords}
 use Rattle.session.specs.declared.reply_form.ReplyForm.{ReplyForm}
 use Rattle.workers.specs.Headline.{IsRunAt, ServerInput, server_input_of}
 use Rattle.workers.specs.Words.{ClientWords, SessionWords, sessions_of}

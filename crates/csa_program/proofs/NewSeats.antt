@@ -2,7 +2,7 @@
 use Rattle.std.proofs.Common.{◌≡◌, ◌<◌, ◌≤◌, ◌∙◌, ℕ, zero, suc, List, [], ◌∷◌, arith, length, refl, slice_get, subst, sym, take}
 use Rattle.std.proofs.lemmas.List.{length-take-le}
 use Rattle.atomic_table.specs.Seated.{TableId}
-use Rattle.epochs.specs.ShelfSeats.{ShelfSeatValue, SeatsHanded}
+use Rattle.shelves.specs.ShelfSeats.{ShelfSeatValue, SeatsHanded}
 
 -- what stands at a place of the first so many
 at_take : {X : Type 0} (xs : List X) (k j : ℕ) → j < k → slice_get (take k xs) j ≡ slice_get xs j

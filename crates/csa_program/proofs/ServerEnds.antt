@@ -7,8 +7,8 @@ use Rattle.std.specs.Io.KnownBytes.{Appends}
 use Rattle.std.specs.declared.io.ErrorKind.{ErrorKind}
 use Rattle.std.proofs.KnownBytes.{Appends-trans}
 use Rattle.command_endings.proofs.Outcomes.{fault_of_text, outcome_of}
-use Rattle.command_endings.specs.Ending.{EndsUndone, IsBegun, IsDone, IsOutcome, PrintsRefusal}
-use Rattle.image_files.specs.Watching.{HasFault}
+use Rattle.command_endings.specs.Ending.{EndsUndone, IsDone, IsOutcome, PrintsRefusal}
+use Rattle.image_files.specs.Watching.{HasFault, IsBegun}
 use Rattle.command_requests.specs.Ending.{status_of}
 use Rattle.command_requests.specs.declared.ends.SessionCounts.{SessionCounts}
 use Rattle.command_requests.specs.declared.plans.ZoneText.{ZoneText}

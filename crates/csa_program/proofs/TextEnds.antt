@@ -1,14 +1,14 @@
 -- How the printing of a text ends.
-use Rattle.std.proofs.Common.{◌≡◌, ◌≢◌, ◌+◌, ◌++◌, ◌∙◌, ◌⊎◌, ℕ, List, Option, arith, inl, inr, length, subst, sym, take}
+use Rattle.std.proofs.Common.{◌≡◌, ◌≢◌, ◌++◌, ◌∙◌, ◌⊎◌, ℕ, List, Option, arith, inl, inr, length, subst, sym, take}
 use Rattle.std.proofs.KnownBytes.{Appends-trans}
-use Rattle.std.proofs.Math.Seq.{take-append-add}
 use Rattle.std.proofs.lemmas.Bool.{cases_lt}
 use Rattle.std.proofs.lemmas.List.{take-append-le, take_all}
 use Rattle.std.specs.Io.KnownBytes.{Appends}
 use Rattle.std.specs.declared.io.ErrorKind.{ErrorKind}
-use Rattle.command_endings.specs.Ending.{IsBegun, IsDone}
+use Rattle.command_endings.specs.Ending.{IsDone}
 use Rattle.command_endings.proofs.Outcomes.{fault_of_text}
-use Rattle.image_files.specs.Watching.{HasFault}
+use Rattle.image_files.proofs.Appended.{begun_after}
+use Rattle.image_files.specs.Watching.{HasFault, IsBegun}
 use Rattle.command_requests.specs.declared.statuses.TheConstants.{ACCEPTED, INPUT_OUTPUT}
 use Rattle.csa_program.specs.Running.{IsTextEnd}
 
@@ -35,20 +35,11 @@ begun_first before after u v part = elim (cases_lt part.count (length u)) [
   }
 ]
 
--- a text was printed, and then a first part of another
-pub begun_then : (before then after : Option (List ℕ)) (u v : List ℕ) → Appends before then u → IsBegun then after v
-    → IsBegun before after (u ++ v)
-begun_then before then after u v whole part = record {
-  count = length u + part.count;
-  added = subst (Appends before after) (sym (take-append-add u v part.count))
-      (Appends-trans before then after u (take part.count v) whole part.added);
-}
-
--- .. or the whole of it
+-- a text was printed, and then another, or a first part of it
 pub text_told_behind : (before then after : Option (List ℕ)) (u v : List ℕ) (fault : Option ErrorKind) (status : ℕ) → Appends before then u
     → (status ≡ ACCEPTED) ⊎ (status ≡ INPUT_OUTPUT) → (status ≢ INPUT_OUTPUT → Appends then after v) → IsBegun then after v
     → (status ≡ INPUT_OUTPUT → IsDone ACCEPTED v then after ⊎ HasFault fault) → IsTextEnd (u ++ v) fault status before after
 text_told_behind before then after u v fault status first (inl e) whole begun failed =
     inl (e, Appends-trans before then after u v first (whole (λ three. omega (arith, e, three))))
 text_told_behind before then after u v fault status first (inr e) whole begun failed =
-    inr (e, fault_of_text ACCEPTED v fault then after (λ zero. omega (arith, zero)) (failed e), begun_then before then after u v first begun)
+    inr (e, fault_of_text ACCEPTED v fault then after (λ zero. omega (arith, zero)) (failed e), begun_after before then after u v first begun)

@@ -1,11 +1,10 @@
 -- A command whose output has a fault is neither done nor refused.
-use Rattle.std.proofs.Common.{◌≡◌, ◌≢◌, ◌⊎◌, ◌++◌, ◌∙◌, ℕ, ℤ, Bool, List, [], Option, Result, Ok, Err}
+use Rattle.std.proofs.Common.{◌≡◌, ◌≢◌, ◌⊎◌, ◌++◌, ℕ, ℤ, Bool, List, Option, Result, Ok, Err}
 use Rattle.std.proofs.Common.{arith, inl, inr, length, refl, subst, string_bytes, sym, take}
-use Rattle.std.proofs.lemmas.List.{append-nil, take_all}
+use Rattle.std.proofs.lemmas.List.{take_all}
 use Rattle.std.specs.Io.KnownBytes.{Appends}
 use Rattle.std.specs.declared.io.ErrorKind.{ErrorKind}
-use Rattle.command_endings.proofs.Outcomes.{begun_whole}
-use Rattle.command_endings.specs.Ending.{IsBegun, IsOutcome}
+use Rattle.command_endings.specs.Ending.{IsOutcome}
 use Rattle.command_line.specs.declared.reading.NoCommand.{NoCommand}
 use Rattle.command_line.specs.declared.reading.NoCommand.TheVariants.{Help, Mistake, OutOfMemory}
 use Rattle.command_requests.specs.declared.requests.CommandRequest.{CommandRequest}
@@ -14,20 +13,20 @@ use Rattle.command_requests.specs.declared.requests.MatrixRequest.{MatrixRequest
 use Rattle.command_requests.specs.declared.ends.SessionCounts.{SessionCounts}
 use Rattle.command_requests.specs.declared.requests.ServeRequest.{ServeRequest}
 use Rattle.command_requests.specs.declared.statuses.TheConstants.{ACCEPTED, COMMAND_LINE, INPUT_OUTPUT, OUT_OF_MEMORY, REFUSED}
-use Rattle.csa_program.specs.Running.{IsEnd, IsEndOf, IsServeEnd, IsTableEnd, IsTextEnd}
+use Rattle.csa_program.specs.Running.{IsEnd, IsEndOf, IsServeEnd, IsTableCut, IsTableEnd, IsTextEnd}
 use Rattle.csa_program.specs.Serving.{IsEndAt, port_text, served_text}
 use Rattle.feed_files.specs.Files.{Gives}
-use Rattle.image_commands.specs.Matrices.{IsShownInPart, IsTableCutShort, IsTableRefused, IsTableShown, counts_of}
+use Rattle.image_commands.proofs.MatrixLemmas.{shown_in_part}
+use Rattle.image_commands.specs.Matrices.{IsTableRefused}
 use Rattle.image_commands.specs.Opening.{IsRefusedImage, SpellsImage}
 use Rattle.image_commands.specs.Refusing.{refusal_line}
 use Rattle.image_commands.specs.declared.refusal.CommandRefusal.TheVariants.{Query as OfQuery}
 use Rattle.timetable.specs.declared.query.QueryFault.TheVariants.{BadWindow}
-use Rattle.image_files.specs.Held.{HoldsOfBytes, IsUnreadable}
+use Rattle.image_files.proofs.Appended.{begun_by_all}
+use Rattle.image_files.specs.Held.{HoldsOfBytes}
 use Rattle.image_layout.specs.Image.{ImageValue}
 use Rattle.image_files.specs.Out.{OutFiles}
 use Rattle.image_files.specs.Watching.{HasFault}
-use Rattle.matrix_rows.specs.Tables.{IsTable, IsTableBegun}
-use Rattle.matrix_rows.specs.declared.table.TravelTable.{TravelTable}
 
 -- what was asked for is done, or refused
 abbrev IsSettled : ℕ → Type 0
@@ -45,60 +44,35 @@ not_mistaken : (status : ℕ) → IsSettled status → status ≢ COMMAND_LINE
 not_mistaken status (inl done) other = omega (arith, done, other)
 not_mistaken status (inr done) other = omega (arith, done, other)
 
--- all of a table is a first part of it
-begun_all : (table : TravelTable) (before after : Option (List ℕ)) → (text : List ℕ) × IsTable table text × Appends before after text
-    → IsTableBegun table before after
-begun_all table before after (text, is, whole) = record {
-  first = table.targets.now;
-  others = [];
-  rows = is.rows;
-  targets = append-nil table.targets.now;
-  are = is.are;
-  begun = record { written = text; left = []; whole = append-nil text ∙ is.text_is; added = whole };
-}
-
 module _ (fault : Option ErrorKind) (has : HasFault fault) where
   -- the whole text is a first part of it
   pub outcome_unwritten : (Is : ℕ → List ℕ → Type 0) (Unusable : Type 0) (status : ℕ) (before after : Option (List ℕ)) → IsSettled status
       → IsOutcome Is Unusable fault status before after → IsOutcome Is Unusable fault INPUT_OUTPUT before after
   outcome_unwritten Is Unusable status before after done (inl (text, is, whole)) =
-      inr (inl (refl, has, status, text, is, begun_whole before after text whole))
+      inr (inl (refl, has, status, text, is, begun_by_all before after text whole))
   outcome_unwritten Is Unusable status before after done (inr (inl three)) = absurd (not_failed status done three.0)
   outcome_unwritten Is Unusable status before after done (inr (inr (inl (failed, can), silent))) = absurd (not_failed status done failed)
   outcome_unwritten Is Unusable status before after done (inr (inr (inr none, silent))) = absurd (not_spent status done none)
 
   text_unwritten : (text : List ℕ) (status : ℕ) (before after : Option (List ℕ)) → IsSettled status → IsTextEnd text fault status before after
       → IsTextEnd text fault INPUT_OUTPUT before after
-  text_unwritten text status before after done (inl (is, whole)) = inr (refl, has, begun_whole before after text whole)
+  text_unwritten text status before after done (inl (is, whole)) = inr (refl, has, begun_by_all before after text whole)
   text_unwritten text status before after done (inr three) = absurd (not_failed status done three.0)
-
-  -- .. and so is a whole table
-  shown_in_part : (disk : OutFiles) (table : TravelTable) (out : List ℕ) (before after : Option (List ℕ)) → IsTableShown disk table out before after
-      → IsShownInPart table out before after
-  shown_in_part disk table out before after shown = record {
-    begun = λ here. begun_all table before after (shown.shown here);
-    counted = λ elsewhere. begun_whole before after (counts_of table) (shown.counted elsewhere);
-  }
 
   module _ (may_hold : List ℕ → Option (List ℕ) → Type 0) (may_fail : List ℕ → Type 0) (disk : OutFiles) (input : Option (List ℕ))
       (input_failed : Type 0) (request : MatrixRequest) (before after : Option (List ℕ)) where
-    -- what was printed of a table if its output has a fault
-    abbrev IsCut : Type 0
-    IsCut = (IsUnreadable may_fail request.image.now input_failed × (after ≡ before))
-        ⊎ (HasFault fault × (line : List ℕ) × IsRefusedImage may_hold request.image.now input line × IsBegun before after line)
-        ⊎ ((image : ImageValue) × HoldsOfBytes may_hold request.image.now input (SpellsImage image)
-        × IsTableCutShort may_hold may_fail disk image request fault before after)
-
     refused_unwritten : ((line : List ℕ) × IsRefusedImage may_hold request.image.now input line × Appends before after line)
         ⊎ ((image : ImageValue) × HoldsOfBytes may_hold request.image.now input (SpellsImage image)
-        × IsTableRefused may_hold image request before after) → IsCut
-    refused_unwritten (inl (line, refused, whole)) = inr (inl (has, line, refused, begun_whole before after line whole))
+        × IsTableRefused may_hold image request before after)
+        → IsTableCut may_hold may_fail disk input input_failed request fault before after
+    refused_unwritten (inl (line, refused, whole)) = inr (inl (has, line, refused, begun_by_all before after line whole))
     refused_unwritten (inr (image, held, inl (table, of, bad))) =
         let line = refusal_line (OfQuery BadWindow) in
-        inr (inr (image, held, inr (inr (table, of, inr (inl (has, bad.0, begun_whole before after line bad.1))))))
+        inr (inr (image, held, inr (inr (table, of, inr (inl (has, bad.0, begun_by_all before after line bad.1))))))
     refused_unwritten (inr (image, held, inr (unknown, same))) = inr (inr (image, held, inr (inl (has, unknown, same))))
 
-    cut_unwritten : (status : ℕ) → IsSettled status → IsTableEnd may_hold may_fail disk input input_failed request fault status before after → IsCut
+    cut_unwritten : (status : ℕ) → IsSettled status → IsTableEnd may_hold may_fail disk input input_failed request fault status before after
+        → IsTableCut may_hold may_fail disk input input_failed request fault before after
     cut_unwritten status (inl done) ended =
         let (image, held, (table, of, window, shown)) = ended.printed done in
         inr (inr (image, held, inr (inr (table, of, inr (inr (has, window, shown_in_part disk table request.out.now before after shown))))))
@@ -149,13 +123,7 @@ module _ {D : Type 0} (may_hold : List ℕ → Option (List ℕ) → Type 0) (ma
     (fault : Option ErrorKind) (has : HasFault fault) (status : ℕ) (before after : Option (List ℕ)) (done : IsSettled status) where
   end_unwritten : (request : CommandRequest) → IsEnd may_hold may_fail gives disk may_show input input_failed fault request status before after
       → IsEnd may_hold may_fail gives disk may_show input input_failed fault request INPUT_OUTPUT before after
-  end_unwritten (requests.Verify image) ended = outcome_unwritten fault has _ _ status before after done ended
-  end_unwritten (requests.Info request) ended = outcome_unwritten fault has _ _ status before after done ended
-  end_unwritten (requests.Journey request) ended = outcome_unwritten fault has _ _ status before after done ended
-  end_unwritten (requests.Stops request) ended = outcome_unwritten fault has _ _ status before after done ended
-  end_unwritten (requests.Upgrade request) ended = outcome_unwritten fault has _ _ status before after done ended
-  end_unwritten (requests.Profile request) ended = outcome_unwritten fault has _ _ status before after done ended
-  end_unwritten (requests.Departures request) ended = outcome_unwritten fault has _ _ status before after done ended
+  end_unwritten (requests.OverImage asked) ended = outcome_unwritten fault has _ _ status before after done ended
   end_unwritten (requests.Matrix request) ended = table_unwritten fault has may_hold may_fail disk input input_failed request before after status done ended
   end_unwritten (requests.Tables request) ended = outcome_unwritten fault has _ _ status before after done ended
   end_unwritten (requests.Days request) ended = outcome_unwritten fault has _ _ status before after done ended

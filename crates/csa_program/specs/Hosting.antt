@@ -3,15 +3,15 @@ use Rattle.std.specs.Prelude.{◌≡◌, ℕ, List, [], Bool, false, length}
 use Rattle.atomic_table.specs.Seated.{TableId}
 use Rattle.command_requests.specs.declared.ends.SessionCounts.{SessionCounts}
 use Rattle.command_requests.specs.declared.requests.ServeRequest.{ServeRequest}
-use Rattle.epochs.specs.ShelfLoads.{ShelfLoaderValue}
-use Rattle.epochs.specs.ShelfSeats.{NoticeValue, SeatsHanded, ShelfSeatValue}
+use Rattle.shelves.specs.ShelfLoads.{ShelfLoaderValue}
+use Rattle.shelves.specs.ShelfSeats.{NoticeValue, SeatsHanded, ShelfSeatValue}
 use Rattle.image_layout.specs.Image.{ImageValue}
 use Rattle.session.specs.declared.reply_form.ReplyForm.{ReplyForm}
 use Rattle.shelf_steps.specs.Handed.{handed}
 use Rattle.shelf_steps.specs.declared.views.View.{View}
 use Rattle.workers.specs.Headline.{IsRunAt, server_input_of}
 use Rattle.client_queue.specs.Dealing.{SourceWords}
-use Rattle.ordered_loads.specs.Words.{LoadWords}
+use Rattle.feed_loads.specs.Words.{LoadWords}
 use Rattle.workers.specs.Words.{SessionWords}
 use Rattle.workers.specs.declared.outcome.ServingOutcome.{ServingOutcome}
 use Rattle.csa_program.specs.Acceptor.{AreAsMany}

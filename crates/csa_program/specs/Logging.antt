@@ -1,6 +1,6 @@
 -- Parts of the lines that a server logs, between the instant and the seconds.
 use Rattle.std.specs.Prelude.{List, ℕ, ◌++◌, codes, decimal}
-use Rattle.ordered_loads.specs.declared.loading.LoadedVersion.{LoadedVersion}
+use Rattle.feed_loads.specs.declared.loading.LoadedVersion.{LoadedVersion}
 use Rattle.workers.specs.declared.served.SessionEnd.{SessionEnd}
 
 -- how a session ended

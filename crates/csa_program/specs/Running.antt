@@ -4,7 +4,7 @@ use Rattle.std.specs.Io.KnownBytes.{Appends}
 use Rattle.std.specs.declared.io.ErrorKind.{ErrorKind}
 use Rattle.feed_files.specs.Files.{Gives}
 use Rattle.image_files.specs.Held.{HoldsOfBytes, IsUnreadable}
-use Rattle.image_files.specs.Watching.{HasFault}
+use Rattle.image_files.specs.Watching.{HasFault, IsBegun}
 use Rattle.image_files.specs.Out.{OutFiles}
 use Rattle.image_layout.specs.Image.{ImageValue}
 use Rattle.command_line.specs.declared.reading.NoCommand.{NoCommand}
@@ -15,11 +15,10 @@ use Rattle.command_requests.specs.declared.requests.MatrixRequest.{MatrixRequest
 use Rattle.command_requests.specs.declared.requests.ServeRequest.{ServeRequest}
 use Rattle.command_requests.specs.declared.statuses.TheConstants.{ACCEPTED, COMMAND_LINE, INPUT_OUTPUT, OUT_OF_MEMORY, REFUSED}
 use Rattle.feed_commands.specs.Building.{IsReport, IsUnusable as BuildIsUnusable}
-use Rattle.image_commands.specs.Commands.{IsUnusable, PrintsAsked, PrintsDepartures, PrintsProfile, path_of}
-use Rattle.image_commands.specs.Answering.{LacksPicture}
-use Rattle.image_commands.specs.Departing.{LacksList}
-use Rattle.image_commands.specs.declared.asked.ImageRequest.{ImageRequest}
-use Rattle.command_endings.specs.Ending.{IsBegun, IsOutcome, PrintsRefusal}
+use Rattle.command_requests.specs.Paths.{path_of}
+use Rattle.command_requests.specs.declared.requests.ImageRequest.{ImageRequest}
+use Rattle.image_commands.specs.Commands.{IsUnusable, PrintsAsked}
+use Rattle.command_endings.specs.Ending.{IsOutcome, PrintsRefusal}
 use Rattle.feed_commands.specs.Folders.{AreDaysOf, IsBuildRefusal, IsTablesRefusalOf}
 use Rattle.image_commands.specs.Matrices.{EndsTable, IsTableCutShort, IsTablePrinted, IsTableRefused, IsTableSpent, IsTableUnlisted}
 use Rattle.image_commands.specs.Opening.{IsRefusedImage, PrintsOver, SpellsImage}
@@ -29,7 +28,6 @@ use Rattle.feed_plans.specs.Planning.{IsPlanBy}
 use Rattle.feed_plans.specs.Zoning.{AreZoneBytes, IsNoZoneOf, IsZoneUnreadable}
 use Rattle.feed_commands.specs.Stations.{IsStopsRefusal, IsTextOf}
 use Rattle.feed_commands.specs.Tabling.{IsCounts}
-use Rattle.image_commands.specs.declared.asked.ImageRequest.TheVariants as images
 use Rattle.csa_program.specs.Serving.{IsEndAt}
 
 -- a text was printed; or the output has a fault, and a first part of it was
@@ -37,30 +35,34 @@ abbrev pub IsTextEnd : List ℕ → Option ErrorKind → ℕ → Option (List �
 IsTextEnd text fault status before after =
     ((status ≡ ACCEPTED) × Appends before after text) ⊎ ((status ≡ INPUT_OUTPUT) × HasFault fault × IsBegun before after text)
 
--- a table over the image at its path ended so; `may_hold` says what a file at a path may hold, `may_fail` that it may not be read, and the path `-` is the
--- input, of which it is said whether a read failed
-pub record IsTableEnd (may_hold : List ℕ → Option (List ℕ) → Type 0) (may_fail : List ℕ → Type 0) (disk : OutFiles) (input : Option (List ℕ))
-    (input_failed : Type 0) (request : MatrixRequest) (fault : Option ErrorKind) (status : ℕ) (before after : Option (List ℕ)) : Type 0 where
-  pub ends : EndsTable status
-  pub printed : status ≡ ACCEPTED → (image : ImageValue) × HoldsOfBytes may_hold request.image.now input (SpellsImage image)
-      × IsTablePrinted may_hold disk image request before after
-  pub refused : status ≡ REFUSED
-      → ((line : List ℕ) × IsRefusedImage may_hold request.image.now input line × Appends before after line)
-      ⊎ ((image : ImageValue) × HoldsOfBytes may_hold request.image.now input (SpellsImage image)
-      × IsTableRefused may_hold image request before after)
-  pub unlisted : status ≡ COMMAND_LINE → (image : ImageValue) × HoldsOfBytes may_hold request.image.now input (SpellsImage image)
-      × IsTableUnlisted may_hold image request before after
-  -- the image can't be read, or the output has a fault, or a file of the table can't be read or written
-  pub cut : status ≡ INPUT_OUTPUT
-      → (IsUnreadable may_fail request.image.now input_failed × (after ≡ before))
+-- `may_hold` says what a file at a path may hold, `may_fail` that it may not be read, and the path `-` is the input, of which it is said whether a read failed
+module _ (may_hold : List ℕ → Option (List ℕ) → Type 0) (may_fail : List ℕ → Type 0) (disk : OutFiles) (input : Option (List ℕ))
+    (input_failed : Type 0) (request : MatrixRequest) (fault : Option ErrorKind) where
+  -- what was printed of a table if it ends with 3: the image can't be read, or the output has a fault, or a file of the table can't be read or written
+  abbrev pub IsTableCut : Option (List ℕ) → Option (List ℕ) → Type 0
+  IsTableCut before after =
+      (IsUnreadable may_fail request.image.now input_failed × (after ≡ before))
       ⊎ (HasFault fault × (line : List ℕ) × IsRefusedImage may_hold request.image.now input line × IsBegun before after line)
       ⊎ ((image : ImageValue) × HoldsOfBytes may_hold request.image.now input (SpellsImage image)
       × IsTableCutShort may_hold may_fail disk image request fault before after)
-  -- memory ran out
-  pub spent : status ≡ OUT_OF_MEMORY
-      → (after ≡ before)
-      ⊎ ((image : ImageValue) × HoldsOfBytes may_hold request.image.now input (SpellsImage image)
-      × IsTableSpent may_hold image request before after)
+
+  -- a table over the image at its path ended so
+  pub record IsTableEnd (status : ℕ) (before after : Option (List ℕ)) : Type 0 where
+    pub ends : EndsTable status
+    pub printed : status ≡ ACCEPTED → (image : ImageValue) × HoldsOfBytes may_hold request.image.now input (SpellsImage image)
+        × IsTablePrinted may_hold disk image request before after
+    pub refused : status ≡ REFUSED
+        → ((line : List ℕ) × IsRefusedImage may_hold request.image.now input line × Appends before after line)
+        ⊎ ((image : ImageValue) × HoldsOfBytes may_hold request.image.now input (SpellsImage image)
+        × IsTableRefused may_hold image request before after)
+    pub unlisted : status ≡ COMMAND_LINE → (image : ImageValue) × HoldsOfBytes may_hold request.image.now input (SpellsImage image)
+        × IsTableUnlisted may_hold image request before after
+    pub cut : status ≡ INPUT_OUTPUT → IsTableCut before after
+    -- memory ran out
+    pub spent : status ≡ OUT_OF_MEMORY
+        → (after ≡ before)
+        ⊎ ((image : ImageValue) × HoldsOfBytes may_hold request.image.now input (SpellsImage image)
+        × IsTableSpent may_hold image request before after)
 
 -- the image at a path may not be read; or there is one, and what is needed besides isn't to be had
 abbrev pub IsUnusableOver : (List ℕ → Option (List ℕ) → Type 0) → (List ℕ → Type 0) → Option (List ℕ) → Type 0 → List ℕ → (ImageValue → Type 0) → Type 0
@@ -102,27 +104,21 @@ module _ (may_hold : List ℕ → Option (List ℕ) → Type 0) (may_fail : List
   abbrev pub IsServeEnd : Option ErrorKind → ℕ → Option (List ℕ) → Option (List ℕ) → Type 0
   IsServeEnd fault status before after = IsOutcome IsServeRefusal IsUnservable fault status before after ⊎ IsEndOfRun fault status before after
 
+-- a command over the image at its path ended so; `disk` says what is known of files that are written, and `fault` is that of the output
+abbrev pub IsEndOver : (List ℕ → Option (List ℕ) → Type 0) → (List ℕ → Type 0) → OutFiles → Option (List ℕ) → Type 0 → Option ErrorKind → ImageRequest
+    → ℕ → Option (List ℕ) → Option (List ℕ) → Type 0
+IsEndOver may_hold may_fail disk input input_failed fault asked =
+    IsOutcome (PrintsOver may_hold (path_of asked) input (λ image. PrintsAsked may_hold disk image asked))
+    (IsUnusableOver may_hold may_fail input input_failed (path_of asked) (λ image. IsUnusable may_fail may_hold disk image asked)) fault
+
 -- `gives` says what a disk of some kind may give for a folder in some state and the name of a file, and `disk` what is known of files that are written;
 -- `may_fail` that a file at a path may not be read, and `input_failed` that a read of the input failed; `fault` is that of the output
 module _ {D : Type 0} (may_hold : List ℕ → Option (List ℕ) → Type 0) (may_fail : List ℕ → Type 0) (gives : Gives D) (disk : OutFiles)
     (may_show : Option ℤ → Type 0) (input : Option (List ℕ)) (input_failed : Type 0)
     (fault : Option ErrorKind) where
-  -- a command over the image at its path ended so
-  abbrev pub IsEndOver : ImageRequest → ℕ → Option (List ℕ) → Option (List ℕ) → Type 0
-  IsEndOver asked = IsOutcome (PrintsOver may_hold (path_of asked) input (λ i. PrintsAsked may_hold disk i asked))
-      (IsUnusableOver may_hold may_fail input input_failed (path_of asked) (λ i. IsUnusable may_fail may_hold disk i asked)) fault
-
   -- a command ended so, over the image at its path, or over the files of its folder
   abbrev pub IsEnd : CommandRequest → ℕ → Option (List ℕ) → Option (List ℕ) → Type 0
-  IsEnd (requests.Verify image) = IsEndOver (images.Verify image)
-  IsEnd (requests.Info request) = IsEndOver (images.Info request)
-  IsEnd (requests.Journey request) = IsEndOver (images.Journey request)
-  IsEnd (requests.Stops request) = IsEndOver (images.Stops request)
-  IsEnd (requests.Upgrade request) = IsEndOver (images.Upgrade request)
-  IsEnd (requests.Profile request) = IsOutcome (PrintsOver may_hold request.image.now input (λ i. PrintsProfile disk i request))
-      (IsUnusableOver may_hold may_fail input input_failed request.image.now (λ i. LacksPicture disk i request)) fault
-  IsEnd (requests.Departures request) = IsOutcome (PrintsOver may_hold request.image.now input (λ i. PrintsDepartures may_hold i request))
-      (IsUnusableOver may_hold may_fail input input_failed request.image.now (λ i. LacksList may_fail may_hold i request)) fault
+  IsEnd (requests.OverImage asked) = IsEndOver may_hold may_fail disk input input_failed fault asked
   IsEnd (requests.Matrix request) = IsTableEnd may_hold may_fail disk input input_failed request fault
   IsEnd (requests.Tables request) = IsOutcome (PrintsOfFeed (IsCounts gives request) (IsTablesRefusalOf gives request.folder.now)) ⊥ fault
   IsEnd (requests.Days request) =

@@ -2,12 +2,11 @@
 use Rattle.std.specs.Prelude.{◌≡◌, ◌⊎◌, List, ℕ, ◌++◌, Bool, true, false, Option, codes, decimal, take}
 use Rattle.std.specs.Io.KnownBytes.{Appends}
 use Rattle.std.specs.declared.io.ErrorKind.{ErrorKind}
-use Rattle.command_endings.specs.Ending.{IsBegun}
 use Rattle.command_requests.specs.Ending.{sessions_in, status_of}
 use Rattle.command_requests.specs.declared.statuses.TheConstants.{INPUT_OUTPUT, OUT_OF_MEMORY}
 use Rattle.command_requests.specs.declared.ends.SessionCounts.{SessionCounts}
 use Rattle.command_requests.specs.declared.requests.ServeRequest.{ServeRequest}
-use Rattle.image_files.specs.Watching.{HasFault}
+use Rattle.image_files.specs.Watching.{HasFault, IsBegun}
 use Rattle.image_layout.specs.Image.{ImageValue}
 use Rattle.std.specs.Option.{option_map}
 use Rattle.answer_replies.specs.declared.point_form.PointForm.{PointForm}

@@ -1,8 +1,8 @@
 //! What standard error says of a feed that a server loads, or doesn't.
 
-use epochs::PublishFault;
 use feed_commands::explain_refused;
 use feed_messages::explain;
+use shelves::PublishFault;
 use std::io::Write;
 use std::rt::Files;
 use workers::{LoadRefusal, LoadedVersion};

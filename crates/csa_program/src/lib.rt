@@ -4,15 +4,9 @@
 ghost use Rattle.std.specs.Prelude.{◌≡◌, ◌++◌, ◌⊎◌, None, Result, codes, map};
 ghost use Rattle.command_line.specs.declared.reading.NoCommand.{NoCommand};
 ghost use Rattle.command_requests.specs.declared.requests.CommandRequest.{CommandRequest};
-ghost use Rattle.image_commands.specs.Commands.{IsUnusable, PrintsAsked, PrintsDepartures, PrintsProfile, path_of};
-ghost use Rattle.command_endings.specs.Ending.{IsOutcome};
-ghost use Rattle.image_commands.specs.Opening.{PrintsOver};
-ghost use Rattle.image_commands.specs.Answering.{LacksPicture};
-ghost use Rattle.image_commands.specs.Departing.{LacksList};
 ghost use Rattle.command_requests.specs.declared.statuses.TheConstants.{ACCEPTED, INPUT_OUTPUT, REFUSED};
-ghost use Rattle.image_files.specs.Held.{IsUnreadable};
 ghost use Rattle.image_files.specs.Watching.{HasFault};
-ghost use Rattle.csa_program.specs.Running.{IsEnd, IsEndOf, IsTableEnd, IsTextEnd, IsUnusableOver};
+ghost use Rattle.csa_program.specs.Running.{IsEnd, IsEndOf, IsEndOver, IsTableEnd, IsTextEnd};
 
 mod accepting;
 mod asking;
@@ -36,12 +30,12 @@ pub use crate::machine::Machine;
 pub use crate::showing::ShownWriter;
 use command_endings::status;
 use command_line::{NoCommand, wants_warnings};
-use command_requests::{CommandRequest, DeparturesRequest, MatrixRequest, ProfileRequest};
+use command_requests::{CommandRequest, ImageRequest, MatrixRequest};
 use feed_commands::{build, days, explain_zone, stations, tables};
 pub use feed_files::Disk;
 use feed_messages::{explain, reason_of};
 use image_commands::matrix::TableNotes;
-use image_commands::{ImageRequest, answer, matrix, open_image};
+use image_commands::{answer, matrix, open_image};
 use image_files::{ImageDisk, OutDisk, Watched, WatchedRead};
 use std::convert::AsStr;
 use std::io::{ErrorKind, IsTerminal, Write};
@@ -202,93 +196,26 @@ fn run_request<
         (I.remaining input.old) (I.may_fail input.old) (O.noted output.new)
         request.entry result (O.contents output.old) (O.contents output.new) }
 {
-    let warnings = notes.warnings;
     match request {
-        CommandRequest::Verify(image) => {
-            let asked = ImageRequest::Verify(image);
-            answer_over(rt, asked, input, output, errors, warnings)
-        }
-        CommandRequest::Info(request) => {
-            let asked = ImageRequest::Info(request);
-            answer_over(rt, asked, input, output, errors, warnings)
-        }
-        CommandRequest::Journey(request) => {
-            let asked = ImageRequest::Journey(request);
-            answer_over(rt, asked, input, output, errors, warnings)
-        }
-        CommandRequest::Profile(request) => {
-            answer_profile(rt, request, input, output, errors, warnings)
-        }
-        CommandRequest::Departures(request) => {
-            answer_departures(rt, request, input, output, errors, warnings)
+        CommandRequest::OverImage(asked) => {
+            answer_over(rt, &asked, input, output, errors, notes.warnings)
         }
         CommandRequest::Matrix(request) => matrix_over(rt, request, input, output, errors, notes),
-        CommandRequest::Stops(request) => {
-            let asked = ImageRequest::Stops(request);
-            answer_over(rt, asked, input, output, errors, warnings)
-        }
         CommandRequest::Tables(request) => tables::run(rt, request, output, errors),
         CommandRequest::Days(request) => days::run(rt, request, output, errors),
         CommandRequest::Stations(request) => stations::run(rt, request, output, errors),
         CommandRequest::Build(request) => {
-            build::run(rt, request, output, errors, notes.is_terminal, warnings)
-        }
-        CommandRequest::Upgrade(request) => {
-            let asked = ImageRequest::Upgrade(request);
-            answer_over(rt, asked, input, output, errors, warnings)
+            build::run(
+                rt,
+                request,
+                output,
+                errors,
+                notes.is_terminal,
+                notes.warnings,
+            )
         }
         CommandRequest::Serve(request) => serve::run(rt, request, input, output, errors),
     }
-}
-
-// Answers a question.
-fn answer_profile<
-    H: OutDisk + ImageDisk<Image = H::File> + AllocGlobal,
-    I: WatchedRead,
-    O: Watched,
-    E: Write,
->(
-    rt: &H,
-    request: ProfileRequest<'_>,
-    input: &mut I,
-    output: &mut O,
-    errors: &mut E,
-    warnings: bool,
-) -> u8
-    ensures { IsOutcome (PrintsOver (H.ImageDisk.may_hold rt.now) request.entry.image.now (I.remaining input.old)
-        (λ image. PrintsProfile (H.OutDisk.files rt.now) image request.entry))
-        (IsUnusableOver (H.ImageDisk.may_hold rt.now) (H.ImageDisk.may_fail rt.now) (I.remaining input.old)
-        (I.may_fail input.old) request.entry.image.now
-        (λ image. LacksPicture (H.OutDisk.files rt.now) image request.entry)) (O.noted output.new) result
-        (O.contents output.old) (O.contents output.new) }
-{
-    let asked = ImageRequest::Profile(&request);
-    answer_over(rt, asked, input, output, errors, warnings)
-}
-
-// Answers the queries from every stop.
-fn answer_departures<
-    H: OutDisk + ImageDisk<Image = H::File> + AllocGlobal,
-    I: WatchedRead,
-    O: Watched,
-    E: Write,
->(
-    rt: &H,
-    request: DeparturesRequest<'_>,
-    input: &mut I,
-    output: &mut O,
-    errors: &mut E,
-    warnings: bool,
-) -> u8
-    ensures { IsOutcome (PrintsOver (H.ImageDisk.may_hold rt.now) request.entry.image.now (I.remaining input.old)
-        (λ image. PrintsDepartures (H.ImageDisk.may_hold rt.now) image request.entry))
-        (IsUnusableOver (H.ImageDisk.may_hold rt.now) (H.ImageDisk.may_fail rt.now) (I.remaining input.old)
-        (I.may_fail input.old) request.entry.image.now
-        (λ image. LacksList (H.ImageDisk.may_fail rt.now) (H.ImageDisk.may_hold rt.now) image request.entry))
-        (O.noted output.new) result (O.contents output.old) (O.contents output.new) }
-{
-    let asked = ImageRequest::Departures(&request);
-    answer_over(rt, asked, input, output, errors, warnings)
 }
 
 // Opens the image and writes the table of travel times that is asked for. If the image can't be opened, returns the
@@ -324,19 +251,15 @@ fn answer_over<
     E: Write,
 >(
     rt: &H,
-    asked: ImageRequest<'_>,
+    asked: &ImageRequest<'_>,
     input: &mut I,
     output: &mut O,
     errors: &mut E,
     warnings: bool,
 ) -> u8
-    ensures { IsOutcome (PrintsOver (H.ImageDisk.may_hold rt.now) (path_of asked.entry) (I.remaining input.old)
-        (λ image. PrintsAsked (H.ImageDisk.may_hold rt.now) (H.OutDisk.files rt.now) image asked.entry))
-        (IsUnusableOver (H.ImageDisk.may_hold rt.now) (H.ImageDisk.may_fail rt.now) (I.remaining input.old)
-        (I.may_fail input.old) (path_of asked.entry)
-        (λ image. IsUnusable (H.ImageDisk.may_fail rt.now) (H.ImageDisk.may_hold rt.now) (H.OutDisk.files rt.now) image
-        asked.entry))
-        (O.noted output.new) result (O.contents output.old) (O.contents output.new) }
+    ensures { IsEndOver (H.ImageDisk.may_hold rt.now) (H.ImageDisk.may_fail rt.now) (H.OutDisk.files rt.now)
+        (I.remaining input.old) (I.may_fail input.old) (O.noted output.new) asked.now result
+        (O.contents output.old) (O.contents output.new) }
 {
     match open_image(rt, asked.path(), input, output, errors) {
         Ok(image) => answer(rt, &image, asked, output, errors, warnings),

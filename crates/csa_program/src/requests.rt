@@ -1,7 +1,8 @@
 //! The requests that a session sends: how many lines are read, and how long the session took to answer them.
 
-ghost use Rattle.std.specs.Prelude.{◌≡◌, ◌≤◌, ◌⊎◌, length, take, false, is_some, true};
+ghost use Rattle.std.specs.Prelude.{◌≡◌, ◌≤◌, ◌⊎◌, [], length, take, is_some, true};
 ghost use Rattle.std.specs.Prelude.{IsTrue, List, MatchOption, None, Option, Some, ℕ};
+ghost use Rattle.std.specs.Io.KnownBytes.{Consumes};
 ghost use Rattle.csa_program.specs.Reading.{IsNoSession};
 
 use crate::client_sessions::ClientSession;
@@ -37,6 +38,8 @@ impl Peek for TcpStream {
 #[derive(Drop)]
 pub struct Requests<S, V> {
     stream: S,
+    /// Whether no read has given a byte yet.
+    is_new: bool,
     /// How many lines have ended.
     ended: u64,
     /// Whether a line has begun and not ended yet.
@@ -58,6 +61,7 @@ impl<S, V> Requests<S, V> {
     {
         Requests {
             stream,
+            is_new: true,
             ended: 0,
             has_begun: false,
             has_failed: false,
@@ -84,17 +88,14 @@ impl<S, V> Requests<S, V> {
         &mut self.stream
     }
 
-    fn is_new(&self) -> bool
-        ensures { IsTrue result → (self.now.ended ≡ 0) × (self.now.has_begun ≡ false) }
-    {
-        self.ended == 0 && !self.has_begun
-    }
-
+    // Counts the lines of what a read gave.
     fn note(&mut self, bytes: &[u8])
-        ensures { self.new.stream ≡ self.old.stream }
+        ensures stream { self.new.stream ≡ self.old.stream }
+        ensures new { self.new.is_new ≡ true → (self.old.is_new ≡ true) × (bytes.now ≡ []) }
     {
         self.ended = self.ended.saturating_add(line_ends(bytes));
         if let Some(last) = bytes.last() {
+            self.is_new = false;
             self.has_begun = *last != b'\n';
         }
     }
@@ -134,21 +135,24 @@ impl<'a, S: Peek, L: Host> Requests<S, ClientSession<'a, L>> {
     // Whether the session is not read: no line of JSON begins with a capital letter, and the first one of HTTP does.
     fn is_turned_away(&self) -> bool
         ensures { IsTrue result → (is_some self.now.client_session.rules.idle ≡ true)
-            × (self.now.ended ≡ 0) × (self.now.has_begun ≡ false) × IsNoSession S.shows self.now.stream }
+            × (self.now.is_new ≡ true) × IsNoSession S.shows self.now.stream }
     {
-        self.client_session.is_strict() && self.is_new() && self.begins_no_session()
+        self.client_session.is_strict() && self.is_new && self.begins_no_session()
     }
 }
 
 impl<'a, S: Peek, L: Host> ReadStream for Requests<S, ClientSession<'a, L>> {
-    // A read fails only as one of the stream; or without one, if the session is turned away.
+    // A read fails only as one of the stream; or without one, if the session is turned away, and then no read before it
+    // gave a byte.
     ghost words = { record {
       bytes = λ requests. S.ReadStream.words.bytes requests.stream;
-      works = λ before after. S.ReadStream.words.works before.stream after.stream;
+      works = λ before after. S.ReadStream.words.works before.stream after.stream
+          × (after.is_new ≡ true → (before.is_new ≡ true)
+          × Consumes (S.ReadStream.words.bytes before.stream) (S.ReadStream.words.bytes after.stream) []);
       flushes = λ before after. ⊥;
       fails = λ before after. S.ReadStream.words.fails before.stream after.stream
           ⊎ ((after.stream ≡ before.stream) × (is_some before.client_session.rules.idle ≡ true)
-          × (before.ended ≡ 0) × (before.has_begun ≡ false) × IsNoSession S.shows before.stream);
+          × (before.is_new ≡ true) × IsNoSession S.shows before.stream);
     } };
 
     fn read_once(&mut self, room: &mut [u8]) -> Result<usize, ReadFailed> {

@@ -1,10 +1,10 @@
 -- What seats hold stays what was published.
 use Rattle.std.proofs.Common.{◌≡◌, ℕ, List, ◌∷◌, [], Some, ap, sym, ◌∙◌, inl, inr}
 use Rattle.image_layout.specs.Image.{ImageValue}
-use Rattle.epochs.specs.Seats.{WorkerSeatValue}
+use Rattle.epochs.specs.WorkerSeats.{WorkerSeatValue}
 use Rattle.epochs.specs.Pins.{Pins}
 use Rattle.epochs.specs.History.{TableValue, image_of}
-use Rattle.epochs.specs.SeatLaws.{HoldsPublished, TableCall}
+use Rattle.epochs.specs.TableLaws.{HoldsPublished, TableCall}
 use Rattle.shelf_steps.proofs.Loads.{image_of-append}
 
 same_images : (before after : List ImageValue) (seat : WorkerSeatValue) → after ≡ before → HoldsPublished before seat → HoldsPublished after seat

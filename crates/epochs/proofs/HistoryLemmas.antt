@@ -1,5 +1,5 @@
 -- What keeps the history beside the table.
-use Rattle.std.proofs.Common.{◌≡◌, ◌≢◌, ℕ, ◌≤◌, List, [], ◌∷◌, ◌++◌, length, Option, Some, slice_get, get_or, refl, ap, sym, ◌∙◌, subst, arith}
+use Rattle.std.proofs.Common.{◌≡◌, ◌≢◌, ℕ, ◌≤◌, List, [], ◌∷◌, ◌++◌, length, Option, None, Some, slice_get, get_or, refl, ap, sym, ◌∙◌, subst, arith}
 use Rattle.std.specs.Arc.{arc_value}
 use Rattle.std.proofs.lemmas.Option.{get_or_from_slice_get, slice_get_within, slice_get-get_or}
 use Rattle.reasoning.proofs.ListLemmas.{slice_get-set_same}
@@ -9,37 +9,18 @@ use Rattle.version_core.specs.declared.event.Reply.{Reply}
 use Rattle.version_core.specs.declared.state.Worker.{Worker}
 use Rattle.version_core.specs.declared.state.Shelf.{Shelf}
 use Rattle.version_core.specs.State.{State, start, looked}
-use Rattle.version_core.specs.Steps.{Step, LookStep, TakeStep, DropStep, IsIdle}
+use Rattle.version_core.specs.Actors.{actor}
+use Rattle.version_core.specs.Steps.{Step, LookStep, TakeStep, IsIdle}
 use Rattle.version_core.specs.Invariants.{KeepsInvariants}
 use Rattle.version_core.specs.Rest.{IsNoLoad, RestStays}
 use Rattle.version_core.specs.Laws.{RunsGrow, LooksAndTakesHold}
 use Rattle.shelf_steps.specs.declared.edition.Edition.{Edition}
 use Rattle.epochs.specs.History.{IsHistory, AreShelved, IsEdition}
 use Rattle.epochs.specs.Pins.{IsCurrent, IsLookAndTake}
+use Rattle.shelves.proofs.Resting.{LeavesShelves, other_leaves}
 
--- what a worker's event leaves alone
-pub record SameShelves (s t : State) : Type 0 where
-  pub shelves : t.shelves ≡ s.shelves
-  pub editions : t.editions ≡ s.editions
-
-same_by : (s t u : State) → t ≡ u → SameShelves s u → SameShelves s t
-same_by s t u e same = subst (λ x. SameShelves s x) (sym e) same
-
-pub look_same : (s t : State) (w : ℕ) (r : Reply) → LookStep s w r t → SameShelves s t
-look_same s t w (Reply.Looked v k) h = same_by s t _ h.3 (record { shelves = refl; editions = refl })
-look_same s t w Reply.NotNow h = same_by s t s h.1 (record { shelves = refl; editions = refl })
-look_same s t w _ h = absurd h
-
-pub take_same : (s t : State) (w : ℕ) (r : Reply) → TakeStep s w r t → SameShelves s t
-take_same s t w (Reply.Holds v) h = same_by s t _ h.3 (record { shelves = refl; editions = refl })
-take_same s t w Reply.Late h = same_by s t _ h.4 (record { shelves = refl; editions = refl })
-take_same s t w Reply.NotNow h = same_by s t s h.1 (record { shelves = refl; editions = refl })
-take_same s t w _ h = absurd h
-
-pub drop_same : (s t : State) (w : ℕ) (r : Reply) → DropStep s w r t → SameShelves s t
-drop_same s t w Reply.Dropped h = same_by s t _ h.2 (record { shelves = refl; editions = refl })
-drop_same s t w Reply.NotNow h = same_by s t s h.1 (record { shelves = refl; editions = refl })
-drop_same s t w _ h = absurd h
+pub worker_leaves : (s t : State) (e : Event) (w : ℕ) (r : Reply) → actor e ≡ Some w → Step s e r t → LeavesShelves s t
+worker_leaves s t e w r its step = other_leaves s e r t (λ none. let z : Some w ≡ None = sym its ∙ none in cc) step
 
 -- an event that is no load and opens nothing
 pub history_goes_on : (s t : State) (before events : List Event) (images : List ImageValue) (event : Event) (r : Reply)
@@ -52,7 +33,7 @@ history_goes_on s t before events images event r grow stays h no_load step same 
   numbered = λ i e is. h.numbered i e (ap (λ (l : List ℕ). slice_get l i) (sym same) ∙ is);
 }
 
-pub still_shelved : (s t : State) (editions : List (Option Edition)) (images : List ImageValue) → SameShelves s t
+pub still_shelved : (s t : State) (editions : List (Option Edition)) (images : List ImageValue) → LeavesShelves s t
     → AreShelved s.shelves editions images → AreShelved t.shelves editions images
 still_shelved s t editions images same h = subst (λ (l : List Shelf). AreShelved l editions images) (sym same.shelves) h
 

@@ -1,5 +1,5 @@
 -- What a loader's seat is answered.
-use Rattle.std.proofs.Common.{◌≡◌, ◌≢◌, ℕ, zero, suc, ◌<◌, ◌≤◌, true, List, [], ◌∷◌, ◌++◌, Some, slice_get, get_or, refl, ap, sym, ◌∙◌, arith, inl, inr}
+use Rattle.std.proofs.Common.{◌≡◌, ◌≢◌, ℕ, zero, suc, ◌<◌, ◌≤◌, true, List, [], ◌∷◌, ◌++◌, Some, slice_get, get_or, refl, ap, sym, ◌∙◌, subst, arith, inl, inr}
 use Rattle.std.proofs.lemmas.Option.{slice_get_within, slice_get-get_or}
 use Rattle.image_layout.specs.Image.{ImageValue}
 use Rattle.version_core.specs.declared.state.Shelf.{Shelf}
@@ -9,10 +9,11 @@ use Rattle.version_core.specs.Invariants.{KeepsInvariants, version_of}
 use Rattle.version_core.specs.Rest.{IsAtRest}
 use Rattle.std.specs.Option.{option_and_then}
 use Rattle.reasoning.proofs.ListLemmas.{slice_get-replicate, slice_get-set_other}
-use Rattle.epochs.specs.declared.collected.Collected.{Collected}
-use Rattle.epochs.specs.declared.faults.PublishFault.{PublishFault}
-use Rattle.epochs.specs.declared.seats.LoaderAnswer.{LoaderAnswer}
-use Rattle.epochs.specs.Seats.{RefuseStep, WorkerSeatValue, idle_seat}
+use Rattle.shelves.specs.declared.collected.Collected.{Collected}
+use Rattle.shelves.specs.declared.faults.PublishFault.{PublishFault}
+use Rattle.shelves.specs.declared.answers.LoaderAnswer.{LoaderAnswer}
+use Rattle.shelves.specs.Seats.{ShowsRefusal}
+use Rattle.epochs.specs.WorkerSeats.{WorkerSeatValue, idle_seat}
 use Rattle.epochs.specs.Pins.{SeatFits, Pins, Releases}
 use Rattle.epochs.specs.History.{TableValue}
 use Rattle.epochs.specs.Publishing.{Collects, MakesRoom, Publishes, RefusesPublish, AreFull, StaysCurrent, is_freed, busy_count}
@@ -52,7 +53,7 @@ version_within a room b image version kept rest after rested made h =
 
 pub refused_so : (a b : TableValue) (before after : List LoaderAnswer) (fault : PublishFault) → KeepsInvariants a.state
     → RefusesPublish a fault b → after ≡ before ++ LoaderAnswer.PublishRefused fault ∷ []
-    → RefuseStep before fault after
+    → ShowsRefusal before fault after
 refused_so a b before after PublishFault.VersionsSpent kept h fact = fact
 refused_so a b before after PublishFault.OutOfMemory kept h fact = fact
 refused_so a b before after (PublishFault.ShelvesFull counts) kept h fact =
@@ -118,19 +119,11 @@ collected_stays a b found h = record {
   images = h.images;
 }
 
+same_stays : (a b : TableValue) → b ≡ a → StaysCurrent a b
+same_stays a b same = subst (λ t. StaysCurrent a t) (sym same) (record { current = refl; shelf = refl; images = refl })
+
 -- what a refusal leaves as it was
 pub stays_current : (a b : TableValue) (fault : PublishFault) → RefusesPublish a fault b → StaysCurrent a b
-stays_current a b PublishFault.VersionsSpent h = record {
-  current = ap (λ (t : TableValue). t.state.current) h.1;
-  shelf = ap (λ (t : TableValue). t.state.current_shelf) h.1;
-  images = ap (λ (t : TableValue). t.images) h.1;
-}
+stays_current a b PublishFault.VersionsSpent h = same_stays a b h.1
 stays_current a b (PublishFault.ShelvesFull counts) h = collected_stays a b h.2.0 h.2.1
-stays_current a b PublishFault.OutOfMemory h = elim h.1 [
-  | inl x ↦ (record {
-    current = ap (λ (t : TableValue). t.state.current) x.1;
-    shelf = ap (λ (t : TableValue). t.state.current_shelf) x.1;
-    images = ap (λ (t : TableValue). t.images) x.1;
-  })
-  | inr y ↦ collected_stays a b y.1.0 y.1.1
-]
+stays_current a b PublishFault.OutOfMemory h = elim h.1 [ inl x ↦ same_stays a b x.1 | inr y ↦ collected_stays a b y.1.0 y.1.1 ]

@@ -1,7 +1,6 @@
 -- Tries at closing shelves.
-use Rattle.std.proofs.Common.{◌≡◌, ℕ, zero, suc, ◌+◌, ◌<◌, ◌≤◌, Bool, true, false, List, [], ◌∷◌, ◌++◌, length, set}
-use Rattle.std.proofs.Common.{Option, Some, None, slice_get, get_or, refl, ap, sym, ◌∙◌, subst, arith, inl}
-use Rattle.std.proofs.Common.{inr, append_assoc, length-set}
+use Rattle.std.proofs.Common.{◌≡◌, ◌≢◌, ℕ, zero, suc, ◌+◌, ◌<◌, ◌≤◌, Bool, true, false, List, [], ◌∷◌, ◌++◌, length, set}
+use Rattle.std.proofs.Common.{Option, Some, None, slice_get, get_or, refl, ap, sym, ◌∙◌, subst, arith, inl, inr, append_assoc, length-set}
 use Rattle.std.proofs.lemmas.Option.{get_or_from_slice_get, slice_get_within}
 use mathlib.Core.Logic.{dite}
 use native.Mathlib.Decide.{ℕ_discrete}
@@ -18,57 +17,55 @@ use Rattle.version_core.specs.Rest.{IsAtRest, RestIsFull}
 use Rattle.version_core.specs.Laws.{RunsJoin}
 use Rattle.version_core.proofs.Lists.{slice_get-set}
 use Rattle.shelf_steps.specs.declared.edition.Edition.{Edition}
-use Rattle.epochs.specs.declared.collected.Collected.{Collected}
+use Rattle.shelves.specs.declared.collected.Collected.{Collected}
 use Rattle.epochs.specs.History.{TableValue, AreShelved, StandsOn}
 use Rattle.epochs.specs.Publishing.{TriesShelf, Collects, tries, try_at, is_freed, busy_count, after_try, HasFree, AreFull}
 
--- a closing shelf with nobody there is freed
+-- a try at a closing shelf: what it finds there, and what is there afterwards, follow from the count
+tries_closing : (s t : State) (k v count : ℕ) (freed : Bool) (busy : ℕ) (reply : Reply) (before events : List Event) (images : List ImageValue)
+    → IsClosing s k v → get_or s.counts k 0 ≡ count → t ≡ record s { shelves = t.shelves }
+    → ((j : ℕ) → j ≢ k → slice_get t.shelves j ≡ slice_get s.shelves j)
+    → (freed ≡ is_freed (Shelf.Closing v) count) × (busy ≡ busy_count (Shelf.Closing v) count)
+    × (slice_get t.shelves k ≡ Some (after_try (Shelf.Closing v) count))
+    → CollectStep s k reply t → events ≡ before ++ Event.Collect k ∷ []
+    → TriesShelf (record { state = s; events = before; images = images }) k freed busy (record { state = t; events = events; images = images })
+tries_closing s t k v count freed busy reply before events images closing counted same others found step more =
+    let tried : try_at k (slice_get s.shelves k) ≡ Event.Collect k ∷ [] = ap (λ o. try_at k o) closing in
+    record {
+      run = subst (λ (l : List Event). IsRun s l t) (sym tried) (record { replies = reply ∷ []; run = (t, step, refl) });
+      events = more ∙ ap (λ (l : List Event). before ++ l) (sym tried);
+      images = refl;
+      state = same;
+      others = others;
+      found = λ shelf here.
+          let both : Some (Shelf.Closing v) ≡ Some shelf = sym closing ∙ here in
+          let one : Shelf.Closing v ≡ shelf = cc in
+          subst (λ (x : Shelf). (freed ≡ is_freed x (get_or s.counts k 0)) × (busy ≡ busy_count x (get_or s.counts k 0))
+          × (slice_get t.shelves k ≡ Some (after_try x (get_or s.counts k 0)))) one
+          (subst (λ n. (freed ≡ is_freed (Shelf.Closing v) n) × (busy ≡ busy_count (Shelf.Closing v) n)
+          × (slice_get t.shelves k ≡ Some (after_try (Shelf.Closing v) n))) (sym counted) found);
+    }
+
+-- with no worker there it is freed
 pub tries_freed : (s t : State) (k v : ℕ) (before events : List Event) (images : List ImageValue) → IsClosing s k v
     → get_or s.counts k 0 ≡ 0 → t ≡ shelved s k Shelf.Free → CollectStep s k Reply.Freed t
     → events ≡ before ++ Event.Collect k ∷ []
     → TriesShelf (record { state = s; events = before; images = images }) k true 0 (record { state = t; events = events; images = images })
 tries_freed s t k v before events images closing none is step more =
-    let tried : try_at k (slice_get s.shelves k) ≡ Event.Collect k ∷ [] = ap (λ o. try_at k o) closing in
-    record {
-      run = subst (λ (l : List Event). IsRun s l t) (sym tried) (record { replies = Reply.Freed ∷ []; run = (t, step, refl) });
-      events = more ∙ ap (λ (l : List Event). before ++ l) (sym tried);
-      images = refl;
-      state = subst (λ (x : State). x ≡ record s { shelves = x.shelves }) (sym is) refl;
-      others = λ j other. ap (λ (x : State). slice_get x.shelves j) is ∙ slice_get-set_other s.shelves k j Shelf.Free other;
-      found = λ shelf here.
-          let both : Some (Shelf.Closing v) ≡ Some shelf = sym closing ∙ here in
-          let one : Shelf.Closing v ≡ shelf = cc in
-          subst (λ (x : Shelf). (true ≡ is_freed x (get_or s.counts k 0)) × (0 ≡ busy_count x (get_or s.counts k 0))
-          × (slice_get t.shelves k ≡ Some (after_try x (get_or s.counts k 0)))) one
-          (subst (λ n. (true ≡ is_freed (Shelf.Closing v) n) × (0 ≡ busy_count (Shelf.Closing v) n)
-          × (slice_get t.shelves k ≡ Some (after_try (Shelf.Closing v) n))) (sym none)
-          (refl, refl, ap (λ (x : State). slice_get x.shelves k) is ∙ slice_get-set_same s.shelves k Shelf.Free (slice_get_within s.shelves k _ closing)));
-    }
+    tries_closing s t k v 0 true 0 Reply.Freed before events images closing none (subst (λ (x : State). x ≡ record s { shelves = x.shelves }) (sym is) refl)
+    (λ j other. ap (λ (x : State). slice_get x.shelves j) is ∙ slice_get-set_other s.shelves k j Shelf.Free other)
+    (refl, refl, ap (λ (x : State). slice_get x.shelves k) is ∙ slice_get-set_same s.shelves k Shelf.Free (slice_get_within s.shelves k _ closing)) step more
 
--- one with workers there stays
+-- with workers there it stays
 pub tries_busy : (s t : State) (k v count : ℕ) (before events : List Event) (images : List ImageValue) → IsClosing s k v
     → get_or s.counts k 0 ≡ count → 0 < count → t ≡ s → CollectStep s k (Reply.Busy count) t
     → events ≡ before ++ Event.Collect k ∷ []
     → TriesShelf (record { state = s; events = before; images = images }) k false count (record { state = t; events = events; images = images })
 tries_busy s t k v zero before events images closing some more_than is step more = absurd (omega arith)
 tries_busy s t k v (suc n) before events images closing some more_than is step more =
-    let tried : try_at k (slice_get s.shelves k) ≡ Event.Collect k ∷ [] = ap (λ o. try_at k o) closing in
-    record {
-      run = subst (λ (l : List Event). IsRun s l t) (sym tried) (record { replies = Reply.Busy (suc n) ∷ []; run = (t, step, refl) });
-      events = more ∙ ap (λ (l : List Event). before ++ l) (sym tried);
-      images = refl;
-      state = subst (λ (x : State). x ≡ record s { shelves = x.shelves }) (sym is) refl;
-      others = λ j other. ap (λ (x : State). slice_get x.shelves j) is;
-      found = λ shelf here.
-          let both : Some (Shelf.Closing v) ≡ Some shelf = sym closing ∙ here in
-          let one : Shelf.Closing v ≡ shelf = cc in
-          subst (λ (x : Shelf). (false ≡ is_freed x (get_or s.counts k 0))
-          × (suc n ≡ busy_count x (get_or s.counts k 0))
-          × (slice_get t.shelves k ≡ Some (after_try x (get_or s.counts k 0)))) one
-          (subst (λ m. (false ≡ is_freed (Shelf.Closing v) m) × (suc n ≡ busy_count (Shelf.Closing v) m)
-          × (slice_get t.shelves k ≡ Some (after_try (Shelf.Closing v) m))) (sym some)
-          (refl, refl, ap (λ (x : State). slice_get x.shelves k) is ∙ closing));
-    }
+    tries_closing s t k v (suc n) false (suc n) (Reply.Busy (suc n)) before events images closing some
+    (subst (λ (x : State). x ≡ record s { shelves = x.shelves }) (sym is) refl) (λ j other. ap (λ (x : State). slice_get x.shelves j) is)
+    (refl, refl, ap (λ (x : State). slice_get x.shelves k) is ∙ closing) step more
 
 -- a shelf that is freed lets its edition go
 pub free_shelved : (shelves : List Shelf) (editions : List (Option Edition)) (images : List ImageValue) (k : ℕ)

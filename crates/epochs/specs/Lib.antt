@@ -1,13 +1,6 @@
-pub mod FaultNumber
-pub mod Seats
+pub mod WorkerSeats
 pub mod History
-pub mod SeatHistory
 pub mod Pins
 pub mod Publishing
 pub mod Locked
-pub mod SeatLaws
-pub mod ShelfSeats
-pub mod ShelfLoads
-pub mod Pinned
-pub mod Words
-pub mod ShelfWords
+pub mod TableLaws

@@ -2,9 +2,9 @@
 use Rattle.std.specs.Prelude.{◌≡◌, ℕ, Result, Ok, Err, [], ◌∷◌}
 use Rattle.version_core.specs.State.{start}
 use Rattle.image_layout.specs.Image.{ImageValue}
-use Rattle.epochs.specs.declared.faults.PinFault.{PinFault}
-use Rattle.epochs.specs.declared.faults.PublishFault.{PublishFault}
-use Rattle.epochs.specs.Seats.{WorkerSeatValue}
+use Rattle.shelves.specs.declared.faults.PinFault.{PinFault}
+use Rattle.shelves.specs.declared.faults.PublishFault.{PublishFault}
+use Rattle.epochs.specs.WorkerSeats.{WorkerSeatValue}
 use Rattle.epochs.specs.History.{TableValue, IsHistory}
 use Rattle.epochs.specs.Pins.{HoldsAt, Pins, RefusesPin, Releases, RefusesRelease}
 use Rattle.epochs.specs.Publishing.{MakesRoom, Publishes, RefusesPublish}

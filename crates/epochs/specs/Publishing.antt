@@ -1,4 +1,4 @@
--- What a loader does to a table: it publishes images, and collects the shelves that nobody needs.
+-- What a loader does to a table: it publishes images, and collects the shelves that no worker needs.
 use Rattle.std.specs.Prelude.{◌≡◌, ◌≢◌, ℕ, zero, suc, ◌+◌, ◌<◌, Bool, true, false, List, [], ◌∷◌, ◌++◌, slice_get, slice_index, Option, Some, ◌⊎◌}
 use Rattle.image_layout.specs.Image.{ImageValue}
 use Rattle.version_core.specs.declared.event.Event.{Event}
@@ -7,8 +7,8 @@ use Rattle.version_core.specs.declared.state.Shelf.{Shelf}
 use Rattle.version_core.specs.State.{State, newest}
 use Rattle.version_core.specs.Steps.{IsFree}
 use Rattle.version_core.specs.Runs.{Run, IsRun}
-use Rattle.epochs.specs.declared.faults.PublishFault.{PublishFault}
-use Rattle.epochs.specs.declared.collected.Collected.{Collected}
+use Rattle.shelves.specs.declared.faults.PublishFault.{PublishFault}
+use Rattle.shelves.specs.declared.collected.Collected.{Collected}
 use Rattle.epochs.specs.History.{TableValue}
 
 -- the try at a shelf, if it is closing
@@ -21,7 +21,7 @@ abbrev pub tries : List Shelf → ℕ → List Event
 tries shelves zero = []
 tries shelves (suc k) = tries shelves k ++ try_at k (slice_get shelves k)
 
--- a shelf that is closing with nobody there is freed, and one with workers there is busy
+-- a shelf that is closing with no worker there is freed, and one with workers there is busy
 abbrev pub is_freed : Shelf → ℕ → Bool
 is_freed (Shelf.Closing v) zero = true
 is_freed _ _ = false

@@ -1,32 +1,16 @@
-//! Versions of images, which workers pin and one loader publishes: on shelves without a lock, or under one lock.
+//! The same versions as in `shelves`, which stands here too, and under one lock.
 #![tactic(auto)]
 
-mod collected;
-mod faults;
 pub mod laws;
 mod locked;
-mod named;
-mod notice;
 mod seats;
-mod shelf_loader;
-mod shelf_seats;
-mod shelves;
-mod solo;
 mod table;
-mod versions;
 
-pub use collected::Collected;
-pub use faults::{PinFault, PublishFault};
 pub use locked::LockedShelves;
-pub use named::{
-    Branded, HasTable, ManySeats, NamedLoader, NamedNotice, NamedSeat, NamedShelves, ShelvesName,
+pub use seats::{LoaderSeat, WorkerSeat};
+pub use shelves::{
+    Branded, Collected, Edition, HasTable, LoaderAnswer, Loads, ManySeats, NamedLoader,
+    NamedNotice, NamedSeat, NamedShelves, Notice, OneSeat, PinFault, PublishFault, SeatAnswer,
+    ShelfLoader, ShelfSeat, Shelves, ShelvesName, SoloShelves, Versions,
 };
-pub use notice::Notice;
-pub use seats::{LoaderAnswer, LoaderSeat, SeatAnswer, WorkerSeat};
-pub use shelf_loader::ShelfLoader;
-pub use shelf_seats::ShelfSeat;
-pub use shelf_steps::Edition;
-pub use shelves::Shelves;
-pub use solo::{OneSeat, SoloShelves};
 pub use table::VersionTable;
-pub use versions::{Loads, Versions};

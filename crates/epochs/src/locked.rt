@@ -3,17 +3,17 @@
 ghost use Rattle.std.specs.Prelude.{◌≡◌, [], Ok, Err, None, Some, IfOk, IfErr, MatchOption, MatchResult};
 ghost use Rattle.std.specs.Arc.{arc_value};
 ghost use Rattle.std.specs.Sync.Mutex.{mutex_guard_value};
-ghost use Rattle.epochs.specs.Seats.{PinStep, ReleaseStep, PublishStep, RefuseStep, CollectStep, idle_seats};
+ghost use Rattle.shelves.specs.Seats.{ShowsPin, ShowsRelease, ShowsPublish, ShowsRefusal, ShowsCollection};
+ghost use Rattle.epochs.specs.WorkerSeats.{idle_seats};
 ghost use Rattle.epochs.specs.Publishing.{Collects};
 ghost use Rattle.epochs.specs.Locked.{HasHistory, UnderLock, PinsAt, ReleasesAt, PublishesAt, IsNew};
-ghost use Rattle.epochs.specs.declared.faults.PublishFault.{PublishFault};
+ghost use Rattle.shelves.specs.declared.faults.PublishFault.{PublishFault};
 
-use crate::collected::Collected;
-use crate::faults::{PinFault, PublishFault};
 use crate::seats::{LoaderSeat, WorkerSeat};
 use crate::table::VersionTable;
 use image_verifier::Verified;
 use shelf_steps::Edition;
+use shelves::{Collected, PinFault, PublishFault};
 use std::alloc::{AllocError, Global};
 use std::snapshot::Snapshot;
 use std::sync::{Arc, Mutex, MutexGuard, Wait};
@@ -83,8 +83,8 @@ fn publish_at(
 ) -> Result<u64, (Arc<Verified, Global>, PublishFault)>
     requires { HasHistory table.old }
     ensures back { IfErr result (λ e. e.0 ≡ image) }
-    ensures loader { MatchResult result (λ v. PublishStep loader.old (arc_value image) v loader.new)
-        (λ e. RefuseStep loader.old e.1 loader.new) }
+    ensures loader { MatchResult result (λ v. ShowsPublish loader.old (arc_value image) v loader.new)
+        (λ e. ShowsRefusal loader.old e.1 loader.new) }
     ensures table { MatchResult result (λ v. UnderLock (λ a b. PublishesAt a (arc_value image) (Ok v) b))
         (λ e. UnderLock (λ a b. PublishesAt a (arc_value image) (Err e.1) b)) }
 {
@@ -109,7 +109,7 @@ impl LockedShelves {
     /// never with `Moved`.
     pub fn pin<R: Wait>(&self, rt: &R, seat: &mut WorkerSeat) -> Result<(), PinFault>
         ensures number { seat.new.number ≡ seat.old.number }
-        ensures pin { PinStep seat.old.shown result seat.new.shown }
+        ensures pin { ShowsPin seat.old.shown result seat.new.shown }
         ensures table { UnderLock (λ a b. PinsAt a seat.old result b seat.new) }
     {
         let mut table = with_history(self.table.lock(rt));
@@ -132,7 +132,7 @@ impl LockedShelves {
     /// if the table says something else of its worker; then only the seat is emptied.
     pub fn release<R: Wait>(&self, rt: &R, seat: &mut WorkerSeat) -> Result<(), PinFault>
         ensures number { seat.new.number ≡ seat.old.number }
-        ensures release { ReleaseStep seat.old.shown result seat.new.shown }
+        ensures release { ShowsRelease seat.old.shown result seat.new.shown }
         ensures table { UnderLock (λ a b. ReleasesAt a seat.old result b seat.new) }
     {
         let mut table = with_history(self.table.lock(rt));
@@ -149,8 +149,8 @@ impl LockedShelves {
         image: Arc<Verified, Global>,
     ) -> Result<u64, (Arc<Verified, Global>, PublishFault)>
         ensures back { IfErr result (λ e. e.0 ≡ image) }
-        ensures loader { MatchResult result (λ v. PublishStep loader.old (arc_value image) v loader.new)
-            (λ e. RefuseStep loader.old e.1 loader.new) }
+        ensures loader { MatchResult result (λ v. ShowsPublish loader.old (arc_value image) v loader.new)
+            (λ e. ShowsRefusal loader.old e.1 loader.new) }
         ensures table { MatchResult result (λ v. UnderLock (λ a b. PublishesAt a (arc_value image) (Ok v) b))
             (λ e. UnderLock (λ a b. PublishesAt a (arc_value image) (Err e.1) b)) }
     {
@@ -160,7 +160,7 @@ impl LockedShelves {
 
     /// Tries each closing shelf, and frees it if no worker is there.
     pub fn collect<R: Wait>(&self, rt: &R, loader: &mut LoaderSeat) -> Collected
-        ensures loader { CollectStep loader.old result loader.new }
+        ensures loader { ShowsCollection loader.old result loader.new }
         ensures table { UnderLock (λ a b. Collects a result b) }
     {
         let mut table = with_history(self.table.lock(rt));

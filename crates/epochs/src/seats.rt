@@ -1,35 +1,18 @@
-//! The seats from which workers pin versions and a loader publishes them.
+//! The seats from which workers pin versions and a loader publishes them, under one lock.
 
 ghost use Rattle.std.specs.Prelude.{◌≡◌, ◌≢◌, ◌≤◌, Ok, Err, None, Some, MatchOption, MatchBool};
 ghost use Rattle.std.specs.Arc.{arc_value};
 ghost use Rattle.version_core.specs.declared.state.Worker.{Worker};
-ghost use Rattle.epochs.specs.declared.faults.PinFault.{PinFault};
-ghost use Rattle.epochs.specs.Seats.{PinStep, IsHolding, IsEmpty, idle_seat, with_answer, emptied};
+ghost use Rattle.shelves.specs.Seats.{ShowsPin, with_answer, emptied};
+ghost use Rattle.epochs.specs.WorkerSeats.{IsHolding, IsEmpty, idle_seat};
 
-use crate::collected::Collected;
-use crate::faults::{PinFault, PublishFault};
 use image_verifier::Verified;
 use shelf_steps::Edition;
+use shelves::{LoaderAnswer, SeatAnswer};
 use std::marker::Model;
 use std::snapshot::Snapshot;
 use timetable::Trace;
 use version_core::Worker;
-
-/// An answer to a worker's seat. Only contracts see it.
-#[derive(Drop)]
-pub enum SeatAnswer {
-    Pinned {
-        version: u64,
-        image: Snapshot<Verified>,
-    },
-    PinRefused {
-        fault: PinFault,
-    },
-    Released,
-    ReleaseRefused {
-        fault: PinFault,
-    },
-}
 
 // The edition that a seat holds, and its shelf.
 #[derive(Drop)]
@@ -49,7 +32,7 @@ pub struct WorkerSeat {
 }
 
 impl Model for WorkerSeat {
-    ghost use Rattle.epochs.specs.Seats.{WorkerSeatValue, worker_of, held_of};
+    ghost use Rattle.epochs.specs.WorkerSeats.{WorkerSeatValue, worker_of, held_of};
 
     ghost Value = { WorkerSeatValue };
 
@@ -132,7 +115,7 @@ impl WorkerSeat {
         ensures worker { self.new.worker ≡ Worker.Holding shelf edition.version }
         ensures held { self.new.shown.held ≡ Some (edition.version, arc_value edition.image) }
         ensures seen { self.new.shown.seen ≡ edition.version }
-        ensures pin { PinStep self.old.shown (Ok tt) self.new.shown }
+        ensures pin { ShowsPin self.old.shown (Ok tt) self.new.shown }
     {
         let image = Snapshot::of(&*edition.image);
         self.answers.note(&SeatAnswer::Pinned {
@@ -159,21 +142,6 @@ impl WorkerSeat {
     }
 }
 
-/// An answer to the loader's seat. Only contracts see it.
-#[derive(Drop)]
-pub enum LoaderAnswer {
-    Published {
-        version: u64,
-        image: Snapshot<Verified>,
-    },
-    PublishRefused {
-        fault: PublishFault,
-    },
-    Collected {
-        found: Collected,
-    },
-}
-
 /// The loader's seat at shelves under one lock. Contracts see what it was answered so far.
 #[derive(Drop)]
 pub struct LoaderSeat {
@@ -182,7 +150,7 @@ pub struct LoaderSeat {
 
 impl Model for LoaderSeat {
     ghost use Rattle.std.specs.Prelude.{List};
-    ghost use Rattle.epochs.specs.declared.seats.LoaderAnswer.{LoaderAnswer};
+    ghost use Rattle.shelves.specs.declared.answers.LoaderAnswer.{LoaderAnswer};
 
     ghost Value = { List LoaderAnswer };
 

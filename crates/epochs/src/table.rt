@@ -9,19 +9,18 @@ ghost use Rattle.version_core.specs.Invariants.{KeepsInvariants};
 ghost use Rattle.version_core.specs.Laws.{LooksAndTakesHold, DropsLetGo, RunsGrow};
 ghost use Rattle.version_core.specs.Rest.{RestStays};
 ghost use Rattle.version_core.specs.declared.state.Worker.{Worker};
-ghost use Rattle.epochs.specs.Seats.{PinStep, ReleaseStep, PublishStep, RefuseStep, CollectStep};
+ghost use Rattle.shelves.specs.Seats.{ShowsPin, ShowsRelease, ShowsPublish, ShowsRefusal, ShowsCollection};
 ghost use Rattle.epochs.specs.History.{IsHistory, LeadsTo, HeldHaveImages, TableValue};
 ghost use Rattle.epochs.specs.Pins.{HoldsAt, SeatFits, Pins, RefusesPin, Releases, RefusesRelease, IsOffer};
 ghost use Rattle.epochs.specs.Pins.{IsCurrent, IsLookAndTake, IsDrop};
 ghost use Rattle.epochs.specs.Publishing.{TriesShelf, Collects, HasFree, MakesRoom, Publishes, RefusesPublish};
 ghost use Rattle.epochs.specs.Publishing.{StaysCurrent};
-ghost use Rattle.epochs.specs.declared.faults.PublishFault.{PublishFault};
+ghost use Rattle.shelves.specs.declared.faults.PublishFault.{PublishFault};
 
-use crate::collected::Collected;
-use crate::faults::{PinFault, PublishFault};
-use crate::seats::{LoaderAnswer, LoaderSeat, SeatAnswer, WorkerSeat};
+use crate::seats::{LoaderSeat, WorkerSeat};
 use image_verifier::Verified;
 use shelf_steps::Edition;
+use shelves::{Collected, LoaderAnswer, PinFault, PublishFault, SeatAnswer};
 use std::alloc::{AllocError, Global};
 use std::marker::Model;
 use std::snapshot::Snapshot;
@@ -90,7 +89,7 @@ impl VersionTable {
     /// Lets the seat's worker look and take, so that the seat holds the current version. A refusal leaves the table as
     /// it was.
     pub fn pin(&mut self, seat: &mut WorkerSeat) -> Result<(), PinFault>
-        ensures seat { PinStep seat.old.shown result seat.new.shown }
+        ensures seat { ShowsPin seat.old.shown result seat.new.shown }
         ensures number { seat.new.number ≡ seat.old.number }
         ensures pinned { OnOk result (Pins self.old seat.old self.new seat.new) }
         ensures known { OnOk result (HoldsAt self.new seat.new.number seat.new.shown.held) }
@@ -179,7 +178,7 @@ impl VersionTable {
     /// Lets the seat's worker drop what the seat holds. If the core says something else of the worker than the seat
     /// does, the seat is emptied, and nothing else changes.
     pub fn release(&mut self, seat: &mut WorkerSeat) -> Result<(), PinFault>
-        ensures seat { ReleaseStep seat.old.shown result seat.new.shown }
+        ensures seat { ShowsRelease seat.old.shown result seat.new.shown }
         ensures number { seat.new.number ≡ seat.old.number }
         ensures released { OnOk result (Releases self.old seat.old self.new seat.new) }
         ensures refused { IfErr result (RefusesRelease self.old.state seat.old) }
@@ -214,7 +213,7 @@ impl VersionTable {
     /// Tries each closing shelf, and frees it if no worker is there.
     pub fn collect(&mut self, loader: &mut LoaderSeat) -> Collected
         ensures collected { Collects self.old result self.new }
-        ensures loader { CollectStep loader.old result loader.new }
+        ensures loader { ShowsCollection loader.old result loader.new }
     {
         self.history();
         let found = self.try_shelves();
@@ -293,8 +292,8 @@ impl VersionTable {
         ensures refused { IfErr result (λ e. RefusesPublish self.old e.1 self.new) }
         ensures back { IfErr result (λ e. e.0 ≡ image) }
         ensures same { OnErr result (StaysCurrent self.old self.new) }
-        ensures loader { MatchResult result (λ v. PublishStep loader.old (arc_value image) v loader.new)
-            (λ e. RefuseStep loader.old e.1 loader.new) }
+        ensures loader { MatchResult result (λ v. ShowsPublish loader.old (arc_value image) v loader.new)
+            (λ e. ShowsRefusal loader.old e.1 loader.new) }
     {
         self.history();
         let shown = Snapshot::of(&*image);

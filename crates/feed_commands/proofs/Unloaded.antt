@@ -5,8 +5,8 @@ use Rattle.std.specs.declared.io.ErrorKind.{ErrorKind}
 use Rattle.feed_loader.specs.Refused.{IsWantOfMemory}
 use Rattle.feed_loader.specs.declared.fault.LoadFault.{LoadFault}
 use Rattle.command_requests.specs.declared.statuses.TheConstants.{INPUT_OUTPUT, OUT_OF_MEMORY, REFUSED}
-use Rattle.command_endings.specs.Ending.{EndsUndone, IsBegun, IsDone, IsOutcome}
-use Rattle.image_files.specs.Watching.{HasFault}
+use Rattle.command_endings.specs.Ending.{EndsUndone, IsDone, IsOutcome}
+use Rattle.image_files.specs.Watching.{HasFault, IsBegun}
 use Rattle.feed_commands.specs.Refusing.{PrintsOfFeed, RefusesFeed, feed_line, refusal_status}
 
 -- the line of a feed that isn't loaded was printed, or a first part of it, or nothing since memory ran out

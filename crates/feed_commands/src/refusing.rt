@@ -4,8 +4,8 @@ ghost use Rattle.std.specs.Prelude.{◌≡◌, ◌⊎◌, ◌++◌, IfOk, OnOk, 
 ghost use Rattle.std.specs.Io.KnownBytes.{Appends};
 ghost use Rattle.command_requests.specs.declared.statuses.TheConstants.{INPUT_OUTPUT, OUT_OF_MEMORY, REFUSED};
 ghost use Rattle.feed_loader.specs.Refused.{IsWantOfMemory};
-ghost use Rattle.command_endings.specs.Ending.{EndsUndone, IsBegun, IsDone};
-ghost use Rattle.image_files.specs.Watching.{HasFault};
+ghost use Rattle.command_endings.specs.Ending.{EndsUndone, IsDone};
+ghost use Rattle.image_files.specs.Watching.{HasFault, IsBegun};
 ghost use Rattle.command_endings.specs.Refusing.{place_text, word_text};
 ghost use Rattle.feed_commands.specs.Refusing.{RefusesFeed, feed_line, feed_positions, refusal_status};
 

@@ -8,7 +8,7 @@ ghost use Rattle.indexmap.specs.IndexSet.{hasher_of};
 ghost use Rattle.std.specs.Str.{bytes_eq};
 ghost use Rattle.gtfs_rows.specs.Source.{Record, last_of};
 ghost use Rattle.gtfs_rows.specs.Cells.{ColumnIndices};
-ghost use Rattle.gtfs_rows.specs.Tables.{HoldsRows, IsFaultOf, AreKept, key_fault, values_of, key_of};
+ghost use Rattle.gtfs_rows.specs.Tables.{HoldsRows, IsFaultOf, IsRefusal, AreKept, key_fault, values_of, key_of};
 ghost use Rattle.gtfs_rows.specs.declared.fault.Table.{Table as File};
 
 use crate::columns::Key;
@@ -113,6 +113,19 @@ impl<R: Row> TableRows for KeyedRows<R> {
     }
 }
 
+// Returns the rows of a file with their keys, which are looked up by the hash, or the first fault of the file.
+fn keyed_rows<R: Row>(alloc: Global, hash: IdHash, bytes: &[u8]) -> Result<KeyedRows<R>, TableFault>
+    ensures ok { IfOk result (λ keyed. HoldsRows R.TABLE R.spells bytes.now keyed.rows.items) }
+    ensures hash { IfOk result (λ keyed. hasher_of keyed.kept ≡ hash) }
+    ensures err { IfErr result (IsRefusal R.TABLE bytes.now) }
+{
+    let keyed = KeyedRows {
+        rows: Vec::new(alloc),
+        kept: IndexSet::with_hasher(alloc, hash),
+    };
+    read_table(keyed, alloc, bytes)
+}
+
 impl<R: Row> TableFile for Vec<R> {
     ghost TABLE = { R.TABLE };
 
@@ -125,10 +138,6 @@ impl<R: Row> TableFile for Vec<R> {
     const TABLE: Table = R::TABLE;
 
     fn read(alloc: Global, hash: IdHash, bytes: &[u8]) -> Result<Vec<R>, TableFault> {
-        let keyed: KeyedRows<R> = KeyedRows {
-            rows: Vec::new(alloc),
-            kept: IndexSet::with_hasher(alloc, hash),
-        };
-        read_table(keyed, alloc, bytes).map(|keyed| keyed.rows)
+        keyed_rows(alloc, hash, bytes).map(|keyed| keyed.rows)
     }
 }

@@ -31,6 +31,7 @@ pub struct StopTimes {
 }
 
 // Returns the time of a text, in seconds after the start of the service day; none if it is blank.
+#[inline(always)]
 fn given(text: &[u8]) -> Result<Option<u32>, FaultKind>
     ensures ok { IfOk result (λ t. t ≡ given_time text.now) }
     ensures fault { result_err result ≡ time_fault text.now }
@@ -68,6 +69,7 @@ fn stop_index(
 }
 
 // Returns the arrival, the departure and the stop_sequence of a record, or what is wrong with them.
+#[inline(always)]
 pub(crate) fn stop_time(records: &Records<'_>) -> Result<(Option<u32>, Option<u32>, u32), FaultKind>
     ensures arrival { IfOk result (λ v. v.0 ≡ given_time (shown records.now 1)) }
     ensures departure { IfOk result (λ v. v.1 ≡ given_time (shown records.now 2)) }

@@ -20,6 +20,7 @@ pub struct TimeFault;
 
 impl Time {
     /// Returns the seconds of a text `H:MM:SS` or `HH:MM:SS`, which may be later than 24:00:00.
+    #[inline(always)]
     pub fn parse(text: &[u8]) -> Result<u32, TimeFault>
         ensures { result_ok result ≡ time_of text.now }
     {
@@ -45,6 +46,7 @@ fn seconds_of(text: &[u8]) -> Option<u32>
 }
 
 // Returns the time of a text, in seconds after the start of the service day; `BadTime` if it isn't one, or blank.
+#[inline(always)]
 pub(crate) fn clock_time(text: &[u8]) -> Result<u32, FaultKind>
     ensures ok { IfOk result (λ t. time_of text.now ≡ Some t) }
     ensures fault { result_err result ≡ fault_unless (time_of text.now) FaultKind.BadTime }
@@ -137,6 +139,7 @@ fn civil(day: Day) -> Option<Day>
 }
 
 /// Returns the number of a text: one to nine decimal digits, after which a point and one or more zeros may follow.
+#[inline(always)]
 pub fn number(text: &[u8]) -> Option<u32>
     ensures { result ≡ number_of text.now }
 {
@@ -148,7 +151,8 @@ pub fn number(text: &[u8]) -> Option<u32>
     }
 }
 
-// Returns the number of a text of any length.
+// Returns the number of a text of any length. This is never inlined, so that shorter numbers cost no call.
+#[inline(never)]
 #[tactic(auto, using(crate::proofs::ValueLemmas::take_passes))]
 fn longer_number(text: &[u8]) -> Option<u32>
     ensures { result ≡ number_of text.now }

@@ -1,5 +1,5 @@
 mod AnswerLemmas
-mod MatrixLemmas
+pub mod MatrixLemmas
 mod Picturing
 mod Ranges
 mod StopLines

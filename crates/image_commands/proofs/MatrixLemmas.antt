@@ -1,9 +1,10 @@
 -- Whether a table can be made, and why it isn't.
 use Rattle.std.proofs.Common.{◌≡◌, ◌≢◌, ◌<◌, ◌⊎◌, ℕ, List, [], ◌∷◌, Option, None, Some, Result, Ok, Err, Contains, IfErr, IfOk, MatchResult, OnErr}
-use Rattle.std.proofs.Common.{arith, codes, inl, inr, subst, sym}
+use Rattle.std.proofs.Common.{append-nil, arith, codes, inl, inr, subst, sym}
 use Rattle.std.specs.Borrow.{Bor}
 use Rattle.std.specs.Global.{Vec}
 use Rattle.std.specs.List.{AllZip}
+use Rattle.std.specs.Io.KnownBytes.{Appends}
 use Rattle.std.specs.IoError.{error_kind}
 use Rattle.std.specs.declared.io.Error.{Error}
 use Rattle.std.specs.declared.io.ErrorKind.{ErrorKind}
@@ -11,18 +12,19 @@ use Rattle.std.specs.declared.io.ErrorKind.TheVariants.{OutOfMemory as WasOutOfM
 use Rattle.std.proofs.lemmas.List.Elements.{Contains-append_right}
 use Rattle.reasoning.proofs.ListLemmas.{contains_cases, contains_first, not_in_nil}
 use Rattle.image_layout.specs.Image.{ImageValue}
-use Rattle.matrix_rows.specs.Tables.{AreWithin, CanBeMade, HasWindow, IsTableBegun}
+use Rattle.matrix_rows.specs.Tables.{AreWithin, CanBeMade, HasWindow, IsTable, IsTableBegun}
 use Rattle.matrix_rows.specs.declared.table.TravelTable.{TravelTable}
 use Rattle.command_requests.specs.declared.requests.MatrixRequest.{MatrixRequest}
 use Rattle.command_requests.specs.declared.statuses.TheConstants.{ACCEPTED, COMMAND_LINE, INPUT_OUTPUT, OUT_OF_MEMORY}
 use Rattle.command_endings.specs.Ending.{Ends}
+use Rattle.image_files.proofs.Appended.{begun_by_all}
 use Rattle.image_files.specs.Texts.{IsNoTextAt, IsTextAt}
 use Rattle.image_files.specs.Out.{OutFiles}
 use Rattle.image_files.specs.Watching.{HasFault}
 use Rattle.image_files.specs.Writing.{IsUnwritable}
 use Rattle.image_commands.specs.Departing.{IsListUnreadable}
 use Rattle.image_commands.specs.Matrices.{AreListedIn, AreNoSources, AreOfList, AreSources, EndsTable, EndsUnlisted, IsCutShort}
-use Rattle.image_commands.specs.Matrices.{IsShownInPart, IsSpent, IsTableOf, IsTableSpent, IsUnasked, IsUnlisted, IsUnlistedIn}
+use Rattle.image_commands.specs.Matrices.{IsShownInPart, IsSpent, IsTableOf, IsTableShown, IsTableSpent, IsUnasked, IsUnlisted, IsUnlistedIn, counts_of}
 use Rattle.image_commands.proofs.Ranges.{below_all}
 
 -- the stops of sets of one stop each
@@ -190,3 +192,22 @@ pub at_kind : {T : Type 0} (P : Type 0) (outcome : Result T Error) (status : ℕ
     → IfErr outcome (λ error. error_kind error ≢ WasOutOfMemory → P) → status ≡ INPUT_OUTPUT → P
 at_kind P (Ok done) status accepted kind failed is = absurd (omega (arith, accepted, is))
 at_kind P (Err error) status accepted kind failed is = failed (kind is)
+
+-- all of a table is a first part of it, and so is all that is printed of it
+begun_all : (table : TravelTable) (before after : Option (List ℕ)) → (text : List ℕ) × IsTable table text × Appends before after text
+    → IsTableBegun table before after
+begun_all table before after (text, is, whole) = record {
+  first = table.targets.now;
+  others = [];
+  rows = is.rows;
+  targets = append-nil table.targets.now;
+  are = is.are;
+  begun = begun_by_all before after _ (subst (Appends before after) is.text_is whole);
+}
+
+pub shown_in_part : (disk : OutFiles) (table : TravelTable) (out : List ℕ) (before after : Option (List ℕ)) → IsTableShown disk table out before after
+    → IsShownInPart table out before after
+shown_in_part disk table out before after shown = record {
+  begun = λ here. begun_all table before after (shown.shown here);
+  counted = λ elsewhere. begun_by_all before after (counts_of table) (shown.counted elsewhere);
+}

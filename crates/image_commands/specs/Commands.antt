@@ -12,18 +12,8 @@ use Rattle.command_endings.specs.Ending.{Prints, PrintsOnly}
 use Rattle.image_commands.specs.Informing.{IsInfo}
 use Rattle.image_commands.specs.Judging.{IsAccepted, IsFaulty}
 use Rattle.image_commands.specs.StopLines.{AreStopsAsked}
-use Rattle.image_commands.specs.declared.asked.ImageRequest.{ImageRequest}
-use Rattle.image_commands.specs.declared.asked.ImageRequest.TheVariants.{Verify, Info, Journey, Profile, Departures, Stops, Upgrade}
-
--- the path of the image
-abbrev pub path_of : ImageRequest → List ℕ
-path_of (Verify image) = image.now
-path_of (Info request) = request.image.now
-path_of (Journey request) = request.image.now
-path_of (Profile request) = request.now.image.now
-path_of (Departures request) = request.now.image.now
-path_of (Stops request) = request.image.now
-path_of (Upgrade request) = request.image.now
+use Rattle.command_requests.specs.declared.requests.ImageRequest.{ImageRequest}
+use Rattle.command_requests.specs.declared.requests.ImageRequest.TheVariants.{Verify, Info, Journey, Profile, Departures, Stops, Upgrade}
 
 -- the image was put at the path in the current layout, and the line has its counts
 abbrev pub IsUpgraded : OutFiles → ImageValue → List ℕ → List ℕ → Type 0
@@ -34,8 +24,8 @@ abbrev pub IsUnusable : (List ℕ → Type 0) → (List ℕ → Option (List ℕ
 IsUnusable may_fail may_hold disk image (Verify path) = ⊥
 IsUnusable may_fail may_hold disk image (Info request) = ⊥
 IsUnusable may_fail may_hold disk image (Journey request) = ⊥
-IsUnusable may_fail may_hold disk image (Profile request) = LacksPicture disk image request.now
-IsUnusable may_fail may_hold disk image (Departures request) = LacksList may_fail may_hold image request.now
+IsUnusable may_fail may_hold disk image (Profile request) = LacksPicture disk image request
+IsUnusable may_fail may_hold disk image (Departures request) = LacksList may_fail may_hold image request
 IsUnusable may_fail may_hold disk image (Stops request) = ⊥
 IsUnusable may_fail may_hold disk image (Upgrade request) = IsUnwritable disk request.out.now
 
@@ -54,7 +44,7 @@ module _ (may_hold : List ℕ → Option (List ℕ) → Type 0) (disk : OutFiles
   PrintsAsked image (Verify path) = PrintsOnly (λ text. text ≡ counts_line image)
   PrintsAsked image (Info request) = PrintsOnly (IsInfo request.json image)
   PrintsAsked image (Journey request) = Prints (IsAccepted image request.question request.text.now) (IsFaulty image request.question request.text.now)
-  PrintsAsked image (Profile request) = PrintsProfile disk image request.now
-  PrintsAsked image (Departures request) = PrintsDepartures may_hold image request.now
+  PrintsAsked image (Profile request) = PrintsProfile disk image request
+  PrintsAsked image (Departures request) = PrintsDepartures may_hold image request
   PrintsAsked image (Stops request) = PrintsOnly (AreStopsAsked image request)
   PrintsAsked image (Upgrade request) = PrintsOnly (IsUpgraded disk image request.out.now)

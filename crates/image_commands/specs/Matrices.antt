@@ -19,9 +19,9 @@ use Rattle.matrix_rows.specs.declared.lists.SetListFault.TheVariants.{Empty, Lin
 use Rattle.matrix_rows.specs.declared.table.TravelTable.{TravelTable}
 use Rattle.command_requests.specs.declared.requests.MatrixRequest.{MatrixRequest}
 use Rattle.command_requests.specs.declared.statuses.TheConstants.{ACCEPTED, COMMAND_LINE, INPUT_OUTPUT, OUT_OF_MEMORY, REFUSED}
-use Rattle.command_endings.specs.Ending.{Ends, EndsUndone, IsBegun}
+use Rattle.command_endings.specs.Ending.{Ends, EndsUndone}
 use Rattle.image_files.specs.Texts.{HoldsOfText, IsNoTextAt}
-use Rattle.image_files.specs.Watching.{HasFault}
+use Rattle.image_files.specs.Watching.{HasFault, IsBegun}
 use Rattle.image_commands.specs.Departing.{IsListUnreadable}
 use Rattle.image_commands.specs.Refusing.{refusal_line}
 use Rattle.image_commands.specs.declared.refusal.CommandRefusal.TheVariants.{Query as OfQuery}

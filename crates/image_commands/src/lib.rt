@@ -23,5 +23,5 @@ mod verify;
 mod wanted_stops;
 mod windows;
 
-pub use asked::{ImageRequest, answer};
+pub use asked::answer;
 pub use opening::open_image;

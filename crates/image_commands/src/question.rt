@@ -6,8 +6,8 @@ ghost use Rattle.timetable.specs.Queries.{IsAskable};
 ghost use Rattle.journeys.specs.Questions.{Asks, IsRefused};
 ghost use Rattle.command_requests.specs.declared.statuses.TheConstants.{INPUT_OUTPUT, OUT_OF_MEMORY, REFUSED};
 ghost use Rattle.image_commands.specs.Asking.{window_of};
-ghost use Rattle.command_endings.specs.Ending.{EndsUndone, IsBegun};
-ghost use Rattle.image_files.specs.Watching.{HasFault};
+ghost use Rattle.command_endings.specs.Ending.{EndsUndone};
+ghost use Rattle.image_files.specs.Watching.{HasFault, IsBegun};
 ghost use Rattle.image_commands.specs.Refusing.{refusal_line};
 ghost use Rattle.image_commands.specs.declared.refusal.CommandRefusal.TheVariants.{Query as OfQuery};
 

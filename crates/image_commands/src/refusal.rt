@@ -6,8 +6,8 @@ ghost use Rattle.command_requests.specs.declared.statuses.TheConstants.{INPUT_OU
 ghost use Rattle.journeys.specs.Numbers.{text_number};
 ghost use Rattle.journeys.specs.Texts.{number_text};
 ghost use Rattle.journeys.specs.declared.text_fault.TextFault.TheVariants.{BadText as OfText};
-ghost use Rattle.command_endings.specs.Ending.{EndsUndone, IsBegun};
-ghost use Rattle.image_files.specs.Watching.{HasFault};
+ghost use Rattle.command_endings.specs.Ending.{EndsUndone};
+ghost use Rattle.image_files.specs.Watching.{HasFault, IsBegun};
 ghost use Rattle.image_commands.specs.Refusing.{image_positions, journey_positions, numbered_refusal};
 ghost use Rattle.image_commands.specs.Refusing.{refusal_line, refusal_positions};
 

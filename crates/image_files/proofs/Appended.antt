@@ -4,6 +4,7 @@ use Rattle.std.proofs.Common.{ap, append-nil, append_assoc, arith, drop, length,
 use Rattle.std.proofs.Math.Seq.{take-append-add}
 use Rattle.std.proofs.lemmas.List.{length-drop, length-take-le, take-append-drop, take_all}
 use Rattle.std.specs.Io.KnownBytes.{Appends, Keeps}
+use Rattle.image_files.specs.Watching.{IsBegun}
 
 pub nothing_appended : (known : Option (List ℕ)) → Appends known known []
 nothing_appended None = tt
@@ -39,3 +40,20 @@ appended_further u v w xs done n least x y =
     subst (Appends u w) (take_further done n xs least)
     (appended_in_turns u v w (take done xs) (take n (drop done xs)) x
     (subst (λ (left : List ℕ). Appends v w (take n left)) rest y))
+
+-- a first part of a text: nothing, all of it, or a part after another text
+pub begun_by_nothing : (u : Option (List ℕ)) (text : List ℕ) → IsBegun u u text
+begun_by_nothing u text = record { count = 0; added = nothing_appended u }
+
+pub begun_by_all : (u v : Option (List ℕ)) (text : List ℕ) → Appends u v text → IsBegun u v text
+begun_by_all u v text is = record {
+  count = length text;
+  added = subst (Appends u v) (sym (take_all (length text) text (omega arith))) is;
+}
+
+pub begun_after : (u v w : Option (List ℕ)) (front text : List ℕ) → Appends u v front → IsBegun v w text → IsBegun u w (front ++ text)
+begun_after u v w front text first is = record {
+  count = length front + is.count;
+  added = subst (Appends u w) (sym (take-append-add front text is.count))
+      (appended_in_turns u v w front (take is.count text) first is.added);
+}

@@ -5,6 +5,8 @@ use Rattle.std.specs.Prelude.{ℕ, List, Option}
 pub record OutFiles : Type 1 where
   -- at this path may be something that isn't a plain file
   pub special : List ℕ → Type 0
+  -- at this path may be a plain file, or nothing
+  pub plain : List ℕ → Type 0
   -- a file that was made or opened at this path may have these contents then
   pub may_begin : List ℕ → Option (List ℕ) → Type 0
   -- a file that was made or opened at the first path, and is at the second, may have these contents there
@@ -20,6 +22,7 @@ pub record OutFiles : Type 1 where
 abbrev pub any_files : OutFiles
 any_files = record {
   special = λ path. Unit {0};
+  plain = λ path. Unit {0};
   may_begin = λ path contents. Unit {0};
   may_stand = λ write_path path contents. Unit {0};
   may_not_make = λ path. Unit {0};

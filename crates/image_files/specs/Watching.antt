@@ -1,5 +1,6 @@
--- Why a writer couldn't be written.
-use Rattle.std.specs.Prelude.{ℕ, zero, suc, List, [], ◌∷◌, Option, Some, None, Result, Ok, Err}
+-- Why a writer couldn't be written, and what was written before that.
+use Rattle.std.specs.Prelude.{ℕ, zero, suc, List, [], ◌∷◌, Option, Some, None, Result, Ok, Err, take}
+use Rattle.std.specs.Io.KnownBytes.{Appends}
 use Rattle.std.specs.IoError.{error_kind}
 use Rattle.std.specs.declared.io.Error.{Error}
 use Rattle.std.specs.declared.io.ErrorKind.{ErrorKind}
@@ -27,3 +28,8 @@ flush_fault None (Err error) = Some (error_kind error)
 abbrev pub HasFault : Option ErrorKind → Type 0
 HasFault None = ⊥
 HasFault (Some kind) = Unit {0}
+
+-- a first part of the text, possibly empty or all of it, was added to what was written before, and nothing else
+pub record IsBegun (before after : Option (List ℕ)) (text : List ℕ) : Type 0 where
+  pub count : ℕ
+  pub added : Appends before after (take count text)

@@ -30,14 +30,15 @@ path_beside path (Some beside) = string_bytes beside
 abbrev pub write_path_of : {F : Type 0} → NewFile F → List ℕ
 write_path_of file = path_beside file.path.now file.beside
 
--- a file that is to be at the path is made beside it, or at the path is something else than a plain file, which is opened
+-- a file that is to be at the path is made beside it, if at the path is a plain file or nothing; what else is there is opened
 abbrev pub IsWritePath : OutFiles → List ℕ → List ℕ → Type 0
-IsWritePath disk path write_path = (write_path ≡ part_of path) ⊎ ((write_path ≡ path) × disk.special path)
+IsWritePath disk path write_path = ((write_path ≡ part_of path) × disk.plain path) ⊎ ((write_path ≡ path) × disk.special path)
 
--- a file that is to be at the path may not be made or written beside it, or not be moved there; or at the path is something else than a plain file, which may
--- not be opened or written
+-- a file that is to be at the path may not be made or written beside it, if at the path is a plain file or nothing; what else is there may not be opened or
+-- written; or a file may not be moved to the path
 abbrev pub IsUnwritable : OutFiles → List ℕ → Type 0
-IsUnwritable disk path = disk.may_not_make (part_of path) ⊎ disk.may_not_move path ⊎ (disk.special path × disk.may_not_open path)
+IsUnwritable disk path =
+    (disk.plain path × disk.may_not_make (part_of path)) ⊎ disk.may_not_move path ⊎ (disk.special path × disk.may_not_open path)
 
 -- what is at the path may not be opened or written
 abbrev pub IsUnwritableInto : OutFiles → List ℕ → Type 0

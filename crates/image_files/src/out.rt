@@ -1,6 +1,6 @@
 //! Makes files, and brings them to their places.
 
-ghost use Rattle.std.specs.Prelude.{◌≡◌, IfErr, IfOk, OnErr, OnOk, true};
+ghost use Rattle.std.specs.Prelude.{◌≡◌, IfErr, IfOk, OnErr, OnOk, false, true};
 ghost use Rattle.image_files.specs.Out.{OutFiles, any_files};
 ghost use Rattle.image_files.specs.Watching.{HasFault};
 ghost use Rattle.image_files.specs.declared.watching.WatchedWriter.{WatchedWriter as OutFile};
@@ -18,7 +18,8 @@ pub trait OutDisk: Files {
 
     /// Whether there is something at a path that isn't a plain file: a device, a pipe, a link.
     fn is_special(&self, path: &str) -> bool
-        ensures { result ≡ true → (files self.now).special path.now };
+        ensures special { result ≡ true → (files self.now).special path.now }
+        ensures plain { result ≡ false → (files self.now).plain path.now };
 
     /// Makes a file at a path where there is nothing.
     fn new_file(&self, path: &str) -> io::Result<WatchedWriter<Self::File>>

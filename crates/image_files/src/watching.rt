@@ -1,14 +1,13 @@
 //! Readers and writers of which contracts know whether a call failed.
 
 ghost use Rattle.std.specs.Prelude.{◌≡◌, ◌↔◌, ℕ, List, None, Option, Result, IfErr, IfOk, OnErr, OnOk, false, true};
-ghost use Rattle.std.specs.Prelude.{take};
 ghost use Rattle.std.specs.Io.{ReadsAtMost, WritesAtMost};
 ghost use Rattle.std.specs.Io.KnownBytes.{Appends, Keeps, ReadConsumes, WriteAppends};
 ghost use Rattle.std.specs.IoError.{error_kind};
 ghost use Rattle.std.specs.declared.io.Error.{Error as IoError};
 ghost use Rattle.std.specs.declared.io.ErrorKind.{ErrorKind as Kind};
 ghost use Rattle.std.specs.declared.io.ErrorKind.TheVariants.{Interrupted};
-ghost use Rattle.image_files.specs.Watching.{HasFault, first_fault, flush_fault, write_fault};
+ghost use Rattle.image_files.specs.Watching.{HasFault, IsBegun, first_fault, flush_fault, write_fault};
 
 use std::io;
 use std::io::{ErrorKind, Read, Write};
@@ -201,8 +200,7 @@ fn fault_of(bytes: &[u8], outcome: &io::Result<usize>) -> Option<ErrorKind>
 pub fn write_all<W: Watched>(writer: &mut W, bytes: &[u8]) -> io::Result<()>
     ensures written { OnOk result (Appends (W.contents writer.old) (W.contents writer.new) bytes.now) }
     ensures clean { OnOk result (W.noted writer.new ≡ W.noted writer.old) }
-    ensures begun { OnErr result ((count : ℕ)
-        × Appends (W.contents writer.old) (W.contents writer.new) (take count bytes.now)) }
+    ensures begun { OnErr result (IsBegun (W.contents writer.old) (W.contents writer.new) bytes.now) }
     ensures failed { OnErr result (HasFault (W.noted writer.new)) }
 {
     let mut done = 0;

@@ -1,6 +1,6 @@
 -- What the points along a list cover, by the words of its first entry.
-use Rattle.std.proofs.Common.{◌≡◌, ◌⊎◌, ℕ, zero, suc, ◌+◌, ◌<◌, ◌≤◌, List, [], ◌∷◌, length, Contains, slice_get, slice_index}
-use Rattle.std.proofs.Common.{Option, Some, None, true, nat_lt, nat_le, inl, inr, refl, sym, ap, ◌∙◌, subst, arith}
+use Rattle.std.proofs.Common.{◌≡◌, ℕ, zero, suc, ◌<◌, ◌≤◌, List, length, Contains, slice_get}
+use Rattle.std.proofs.Common.{Option, true, nat_lt, nat_le, inl, inr, refl, sym, ◌∙◌, subst, arith}
 use Rattle.std.proofs.lemmas.Bool.{cases_lt, and_from, lt-ltb, le-leb}
 use Rattle.reasoning.proofs.ListLemmas.{at_below}
 use Rattle.criteria.specs.Laws.{Admits, time_limit}
@@ -8,8 +8,8 @@ use Rattle.criteria.specs.declared.arrival_trips.TimeTrips.{TimeTrips}
 use Rattle.bags.specs.Dominance.{IsCovered}
 use Rattle.bags.specs.declared.point.Point.{Point}
 use Rattle.fronts.specs.declared.labels.Label.{Label}
-use Rattle.lanes.specs.Lanes.{never, trip_rules, AreLanes, lane_labels}
-use Rattle.lanes.specs.LaneLists.{word_tag, words_in, tags_in, departure_of, next_of, word_of, tag_of, labels_of, point_of, points_from, AreLists, CoversAll}
+use Rattle.lanes.specs.Lanes.{never, trip_rules, AreLanes}
+use Rattle.lanes.specs.LaneLists.{word_tag, words_in, tags_in, departure_of, next_of, word_of, labels_of, point_of, points_from, AreLists, CoversAll}
 use Rattle.lanes.specs.declared.lane_lists.LaneEntry.{LaneEntry}
 use Rattle.lanes.proofs.LaneLemmas.{Stands, stands, is_label, label_below, no_worse_parts, no_worse_from}
 use Rattle.lanes.proofs.EntryLemmas.{IsOwn, own_is, of_own, of_next, own_or_next, rises, under, same, next_within, next_less}

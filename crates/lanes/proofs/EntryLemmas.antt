@@ -1,16 +1,16 @@
 -- Entries, the points along their lists, and paths.
-use Rattle.std.proofs.Common.{◌≡◌, ◌⊎◌, ℕ, zero, suc, ◌+◌, ◌<◌, ◌≤◌, nat_lt, List, [], ◌∷◌, ◌++◌, filter, map, length, Contains, slice_get, slice_index}
-use Rattle.std.proofs.Common.{Option, Some, None, get_or, inl, inr, refl, sym, ap, ◌∙◌, subst, arith}
-use Rattle.std.proofs.lemmas.Bool.{cases_lt, ltb-true, lt-ltb}
+use Rattle.std.proofs.Common.{◌≡◌, ◌⊎◌, ℕ, zero, suc, ◌<◌, ◌≤◌, nat_lt, List, [], ◌∷◌, ◌++◌, filter, map, length, Contains, slice_get, slice_index}
+use Rattle.std.proofs.Common.{Option, Some, get_or, inl, inr, refl, sym, ap, ◌∙◌, subst, arith}
+use Rattle.std.proofs.lemmas.Bool.{ltb-true, lt-ltb}
 use Rattle.std.proofs.lemmas.List.Elements.{Contains-append_left, Contains-append_right, Contains-append_cases, Contains-push_cases}
-use Rattle.std.proofs.lemmas.Option.{slice_get-get_or, slice_get_within}
-use Rattle.reasoning.proofs.ListLemmas.{not_in_nil, contains_cases, contains_first, contains_rest, from_filter, into_filter, same_at, at_below}
+use Rattle.std.proofs.lemmas.Option.{slice_get-get_or}
+use Rattle.reasoning.proofs.ListLemmas.{not_in_nil, contains_cases, contains_first, contains_rest, from_filter, into_filter, at_below}
 use Rattle.criteria.specs.declared.arrival_trips.TimeTrips.{TimeTrips}
 use Rattle.bags.specs.declared.point.Point.{Point}
 use Rattle.fronts.specs.declared.labels.Label.{Label}
-use Rattle.lanes.specs.Lanes.{never, lane_labels}
+use Rattle.lanes.specs.Lanes.{never}
 use Rattle.lanes.specs.LaneLists.{word_tag, departure_in, next_in, words_in, tags_in, departure_of, next_of, word_of, tag_of, labels_of, point_of}
-use Rattle.lanes.specs.LaneLists.{own_points, points_to, points_from, IsLinked, AreLists, IsPath, DepartBefore}
+use Rattle.lanes.specs.LaneLists.{own_points, points_to, points_from, AreLists, IsPath, DepartBefore}
 use Rattle.lanes.specs.declared.lane_lists.LaneEntry.{LaneEntry}
 
 -- what an index gives is there

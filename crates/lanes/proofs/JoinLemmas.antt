@@ -1,6 +1,6 @@
 -- The entries of a list that depart before a time, put before another list one by one.
-use Rattle.std.proofs.Common.{◌≡◌, ◌⊎◌, ℕ, ◌+◌, ◌<◌, ◌≤◌, List, [], ◌∷◌, ◌++◌, length, Contains, slice_get, slice_index}
-use Rattle.std.proofs.Common.{inl, inr, refl, sym, ap, ◌∙◌, subst, arith}
+use Rattle.std.proofs.Common.{◌≡◌, ◌⊎◌, ℕ, ◌<◌, ◌≤◌, List, [], ◌∷◌, ◌++◌, length, Contains, slice_get, slice_index}
+use Rattle.std.proofs.Common.{inl, inr, sym, ap, ◌∙◌, subst, arith}
 use Rattle.std.proofs.lemmas.List.Elements.{Contains-append_left, Contains-push}
 use Rattle.reasoning.specs.Lists.{Extends}
 use Rattle.reasoning.proofs.ListLemmas.{extends_none, extends_on}
@@ -9,7 +9,7 @@ use Rattle.bags.specs.Dominance.{IsCovered}
 use Rattle.bags.specs.declared.point.Point.{Point}
 use Rattle.lanes.specs.Lanes.{trip_rules}
 use Rattle.lanes.specs.LaneLists.{departure_in, next_in, words_in, departure_of, next_of, word_of, points_from}
-use Rattle.lanes.specs.LaneLists.{AreLists, IsPath, DepartBefore, CoversAll, AreMore, IsUnder, MayJoin, AreJoined, IsOneJoined, MayJoinAll, ArePassed}
+use Rattle.lanes.specs.LaneLists.{AreLists, IsPath, DepartBefore, CoversAll, IsUnder, MayJoin, AreJoined, IsOneJoined, MayJoinAll, ArePassed}
 use Rattle.lanes.specs.declared.lane_lists.LaneEntry.{LaneEntry}
 use Rattle.lanes.proofs.EntryLemmas.{rises, of_next, path_pop, path_one}
 use Rattle.lanes.proofs.PushLemmas.{same_entry, same_points, longer}

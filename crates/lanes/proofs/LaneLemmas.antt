@@ -1,7 +1,7 @@
 -- Which labels lanes stand for, and which values these beat.
 use Rattle.std.proofs.Common.{◌≡◌, ◌⊎◌, ℕ, zero, suc, ◌+◌, ◌<◌, ◌≤◌, Bool, true, false, cond, nat_le, nat_lt, List, [], ◌∷◌, length, slice_index}
-use Rattle.std.proofs.Common.{Contains, replicate, inl, inr, refl, sym, ap, ◌∙◌, subst, arith}
-use Rattle.std.proofs.lemmas.Bool.{cases_lt, ltb-true, ltb-false, lt-ltb, le-ltb, le-leb, leb-true, and_parts, and_from, cond-true, cond-false}
+use Rattle.std.proofs.Common.{Contains, inl, inr, refl, sym, ap, ◌∙◌, subst, arith}
+use Rattle.std.proofs.lemmas.Bool.{cases_lt, ltb-true, ltb-false, lt-ltb, le-leb, leb-true, and_parts, and_from}
 use Rattle.reasoning.proofs.ListLemmas.{not_in_nil, contains_first, contains_rest, contains_cases}
 use Rattle.criteria.specs.Laws.{NoWorse}
 use Rattle.criteria.specs.declared.arrival_trips.TimeTrips.{TimeTrips}

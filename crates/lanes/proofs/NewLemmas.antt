@@ -1,13 +1,12 @@
 -- No words, no labels, and the entry that ends each list.
-use Rattle.std.proofs.Common.{◌≡◌, ◌⊎◌, ℕ, zero, suc, ◌+◌, ◌<◌, ◌≤◌, nat_lt, cond, List, [], ◌∷◌, length, Contains, slice_get, slice_index}
+use Rattle.std.proofs.Common.{◌≡◌, ℕ, zero, suc, ◌<◌, ◌≤◌, nat_lt, List, [], ◌∷◌, length, Contains, slice_get, slice_index}
 use Rattle.std.proofs.Common.{Option, Some, refl, sym, ap, ◌∙◌, subst, arith, inl, inr}
 use Rattle.std.proofs.lemmas.Bool.{cases_lt, le-ltb, cond-false}
 use Rattle.reasoning.proofs.ListLemmas.{not_in_nil, same_at}
 use Rattle.criteria.specs.declared.arrival_trips.TimeTrips.{TimeTrips}
 use Rattle.fronts.specs.declared.labels.Label.{Label}
-use Rattle.bags.specs.declared.point.Point.{Point}
 use Rattle.lanes.specs.Lanes.{never, AreLanes, labels_from, lane_labels}
-use Rattle.lanes.specs.LaneLists.{departure_in, next_in, words_in, tags_in, word_tag, points_to, points_from, IsLinked, AreLists}
+use Rattle.lanes.specs.LaneLists.{departure_in, words_in, tags_in, word_tag, points_to, points_from, IsLinked, AreLists}
 use Rattle.lanes.specs.declared.lane_lists.LaneEntry.{LaneEntry}
 use Rattle.lanes.proofs.LaneLemmas.{label_below}
 

@@ -1,16 +1,14 @@
 -- An entry is added, and what was there stays.
-use Rattle.std.proofs.Common.{◌≡◌, ◌⊎◌, ℕ, zero, suc, ◌+◌, ◌<◌, ◌≤◌, nat_lt, List, [], ◌∷◌, ◌++◌, filter, map, length, slice_get, slice_index}
+use Rattle.std.proofs.Common.{◌≡◌, ℕ, zero, suc, ◌<◌, ◌≤◌, nat_lt, List, [], ◌∷◌, ◌++◌, filter, map, length, slice_get, slice_index}
 use Rattle.std.proofs.Common.{Option, Some, None, inl, inr, refl, sym, ap, ◌∙◌, subst, arith, length-append}
-use Rattle.std.proofs.lemmas.Bool.{cases_lt, cases_order}
+use Rattle.std.proofs.lemmas.Bool.{cases_lt}
 use Rattle.std.proofs.lemmas.Option.{slice_get_within}
 use Rattle.reasoning.specs.Lists.{Extends}
-use Rattle.reasoning.proofs.ListLemmas.{slice_get-front, slice_get-last, same_at, at_below}
+use Rattle.reasoning.proofs.ListLemmas.{slice_get-front, slice_get-last, same_at}
 use Rattle.criteria.specs.declared.arrival_trips.TimeTrips.{TimeTrips}
 use Rattle.bags.specs.declared.point.Point.{Point}
-use Rattle.fronts.specs.declared.labels.Label.{Label}
-use Rattle.lanes.specs.Lanes.{never, AreLanes}
-use Rattle.lanes.specs.LaneLists.{word_tag, departure_in, next_in, words_in, tags_in, departure_of, next_of, word_of, tag_of, labels_of, point_of}
-use Rattle.lanes.specs.LaneLists.{own_points, points_to, points_from, IsLinked, AreLists, HasList, IsPath, DepartBefore, AreMore}
+use Rattle.lanes.specs.LaneLists.{word_tag, departure_in, next_in, words_in, tags_in, next_of, labels_of, point_of}
+use Rattle.lanes.specs.LaneLists.{own_points, points_to, points_from, IsLinked, AreLists, IsPath, AreMore}
 use Rattle.lanes.specs.declared.lane_lists.LaneEntry.{LaneEntry}
 use Rattle.lanes.proofs.EntryLemmas.{next_within}
 

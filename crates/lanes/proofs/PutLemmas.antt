@@ -1,22 +1,21 @@
 -- An entry is put before a list: for boarding with lanes, or for an entry that was there.
 use Rattle.std.proofs.Common.{◌≡◌, ◌⊎◌, ℕ, zero, suc, ◌+◌, ◌<◌, ◌≤◌, min, List, [], ◌∷◌, ◌++◌, length, Contains, slice_get, slice_index}
-use Rattle.std.proofs.Common.{Option, Some, None, inl, inr, refl, sym, ap, ◌∙◌, subst, arith}
-use Rattle.std.proofs.lemmas.Bool.{cases_lt}
+use Rattle.std.proofs.Common.{Option, Some, inl, inr, refl, sym, ap, ◌∙◌, subst, arith}
 use Rattle.reasoning.proofs.ListLemmas.{extends_none}
 use Rattle.criteria.specs.TimeTripsLaws.{same_parts}
 use Rattle.criteria.specs.declared.arrival_trips.TimeTrips.{TimeTrips}
 use Rattle.bags.specs.Dominance.{IsCovered}
 use Rattle.bags.specs.declared.point.Point.{Point}
 use Rattle.fronts.specs.declared.labels.Label.{Label}
-use Rattle.lanes.specs.Lanes.{never, trip_rules, AreLanes, lane_labels}
+use Rattle.lanes.specs.Lanes.{never, trip_rules}
 use Rattle.lanes.specs.LanesWithTags.{AreTagged, labels_in}
-use Rattle.lanes.specs.LaneLists.{word_tag, departure_in, next_in, words_in, tags_in, departure_of, next_of, word_of, tag_of, labels_of, point_of, points_from}
-use Rattle.lanes.specs.LaneLists.{IsLinked, CoversAll, AreMore, IsUnder, IsRidden, MayPut, IsOnePut, MayJoin, AreJoined, IsOneJoined}
+use Rattle.lanes.specs.LaneLists.{word_tag, departure_in, next_in, words_in, tags_in, departure_of, next_of, word_of, labels_of, point_of, points_from}
+use Rattle.lanes.specs.LaneLists.{IsLinked, CoversAll, AreMore, IsRidden, MayPut, IsOnePut, MayJoin, IsOneJoined}
 use Rattle.lanes.specs.declared.lane_lists.LaneEntry.{LaneEntry}
 use Rattle.lanes.specs.declared.trip_lanes.Lanes.{Lanes}
 use Rattle.lanes.proofs.LaneLemmas.{Stands, stands, is_label, no_worse_from}
-use Rattle.lanes.proofs.EntryLemmas.{IsOwn, own_is, of_own, of_next, own_or_next}
-use Rattle.lanes.proofs.PushLemmas.{pushed_at, pushed_has, pushed_more, same_entry, same_points}
+use Rattle.lanes.proofs.EntryLemmas.{own_is, of_own, of_next, own_or_next}
+use Rattle.lanes.proofs.PushLemmas.{pushed_at, pushed_has, same_entry, same_points}
 use Rattle.lanes.proofs.CoverLemmas.{covers_each, covers_inside, nine, label_stands, covers_at}
 
 -- the new entry stands at the end, linked to a list that was there; all that is said of it, given what its front is

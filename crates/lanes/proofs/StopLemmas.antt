@@ -1,9 +1,8 @@
 -- What a boarding makes of the points of a stop.
-use Rattle.std.proofs.Common.{◌≡◌, ◌≢◌, ◌⊎◌, ℕ, suc, ◌+◌, ◌<◌, ◌≤◌, min, set, List, [], ◌∷◌, length, Contains, slice_get, slice_index, Some}
-use Rattle.std.proofs.Common.{get_or-set_same, get_or-set_other, length-set, inl, inr, refl, sym, ap, ◌∙◌, subst, arith}
+use Rattle.std.proofs.Common.{◌≡◌, ◌⊎◌, ℕ, ◌+◌, ◌<◌, ◌≤◌, min, set, List, [], ◌∷◌, length, Contains, slice_get, slice_index, Some}
+use Rattle.std.proofs.Common.{get_or-set_same, get_or-set_other, length-set, inl, inr, sym, ap, ◌∙◌, subst, arith}
 use Rattle.std.proofs.lemmas.Bool.{cases_eq, cases_lt}
 use Rattle.std.proofs.lemmas.List.{get_or_past}
-use Rattle.reasoning.specs.Lists.{Extends}
 use Rattle.criteria.specs.declared.arrival_trips.TimeTrips.{TimeTrips}
 use Rattle.bags.specs.Dominance.{IsCovered}
 use Rattle.bags.specs.declared.point.Point.{Point}
@@ -11,10 +10,10 @@ use Rattle.fronts.specs.declared.entry.Boarding.{Boarding}
 use Rattle.fronts.specs.declared.entry.Step.{Step}
 use Rattle.fronts.specs.declared.labels.Label.{Label}
 use Rattle.reasoning.proofs.ListLemmas.{contains_cases, not_in_nil}
-use Rattle.lanes.specs.Lanes.{never, trip_rules, AreLanes, lane_labels, IsOutdone}
+use Rattle.lanes.specs.Lanes.{never, trip_rules, AreLanes, lane_labels}
 use Rattle.lanes.specs.LanesWithTags.{AreTagged, labels_in}
-use Rattle.lanes.specs.LaneLists.{departure_in, words_in, tags_in, departure_of, next_of, word_of, points_from, AreLists, HasList, CoversAll, AreMore, IsUnder}
-use Rattle.lanes.specs.LaneLists.{IsRidden, MayPut, IsOnePut, IsLate, MayJoinAll, AreJoined, IsPath, DepartBefore}
+use Rattle.lanes.specs.LaneLists.{departure_in, words_in, tags_in, next_of, word_of, points_from, HasList, CoversAll}
+use Rattle.lanes.specs.LaneLists.{IsRidden, MayPut, IsOnePut, IsLate, MayJoinAll, AreJoined, IsPath}
 use Rattle.lanes.specs.StopLanes.{points_at, stops_of, steps_of, AreStopLanes, IsBoarding, IsBoardedAt, IsListBoarded, TakesBoardings, HasSteps}
 use Rattle.lanes.specs.declared.lane_lists.LaneEntry.{LaneEntry}
 use Rattle.lanes.specs.declared.stop_lanes.StopLanes.{StopLanes}

@@ -1,6 +1,6 @@
 -- Lanes of one time, lanes with a value more, and lanes read one after the other.
-use Rattle.std.proofs.Common.{◌≡◌, ◌⊎◌, ℕ, zero, suc, ◌+◌, ◌<◌, ◌≤◌, nat_lt, min, cond, List, [], ◌∷◌, ◌++◌, drop, replicate, length, slice_get, slice_index}
-use Rattle.std.proofs.Common.{get_or, Contains, inl, inr, refl, sym, ap, ◌∙◌, subst, arith, append_assoc, drop-cons}
+use Rattle.std.proofs.Common.{◌≡◌, ◌⊎◌, ℕ, zero, suc, ◌+◌, ◌<◌, ◌≤◌, nat_lt, min, List, [], ◌∷◌, drop, replicate, length, slice_get, slice_index}
+use Rattle.std.proofs.Common.{get_or, Contains, inl, inr, refl, sym, ap, ◌∙◌, subst, arith, drop-cons}
 use Rattle.std.proofs.lemmas.Bool.{cases_lt, lt-ltb, le-ltb, cond-true, cond-false}
 use Rattle.std.proofs.lemmas.List.{length-replicate}
 use Rattle.criteria.specs.Laws.{time_limit}

@@ -10,7 +10,7 @@ use crate::lane_lists::{LaneEntry, join, late, put};
 use crate::trip_lanes::{Lanes, TripLanes};
 use crate::words::{NEVER, Words, are_boarding};
 use criteria::TimeTrips;
-use fronts::{Boarding, Step, copies};
+use fronts::{Boarding, Step, append, copies};
 use std::alloc::{AllocError, Global};
 
 /// How one goes on from an entry: the connection that is boarded and the footpath to it, as in `Step`, and for each
@@ -257,10 +257,13 @@ fn push_step(
         × HasSteps boarding labels (steps_in steps.old.items) first (steps_in steps.new.items)) }
 {
     let first = next_step(steps)?;
-    steps.push(LaneStep {
-        first: boarding.first,
-        walk: boarding.walk,
-        labels,
-    })?;
+    append(
+        steps,
+        LaneStep {
+            first: boarding.first,
+            walk: boarding.walk,
+            labels,
+        },
+    )?;
     Ok(first)
 }

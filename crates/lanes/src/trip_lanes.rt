@@ -117,7 +117,9 @@ impl TripLanes {
         Ok(())
     }
 
-    /// A journey ends at a time. Offers its label to a trip, which is never `Full` of it.
+    /// A journey ends at a time. Offers its label to a trip, which is never `Full` of it. It is rare, so it is a call
+    /// and never inlined.
+    #[inline(never)]
     pub fn end(&mut self, trip: u32, time: u32, tag: u32) -> Taken
         requires trip { trip < trips_of self.old }
         requires time { IsTime time }
@@ -129,6 +131,7 @@ impl TripLanes {
 
     /// A passenger changes. Offers all that a front stands for to the labels of a trip, unless the bound outdoes it.
     /// The label of lane k gets the tag `first + k`.
+    #[inline(always)]
     pub fn change(&mut self, trip: u32, front: &Words, bound: &Words, first: u32) -> Taken
         requires trip { trip < trips_of self.old }
         requires tags { first + 7 ≤ 4294967295 }

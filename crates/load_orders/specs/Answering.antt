@@ -1,6 +1,6 @@
 -- What the loader sends of the orders that it took.
 use Rattle.std.specs.Prelude.{◌≡◌, ◌⊎◌, ◌∷◌, Bool, List, [], length, Option, Some, None}
-use Rattle.load_orders.specs.Keeping.{QueueId}
+use Rattle.load_orders.specs.Keeping.{OrderQueueId}
 use Rattle.load_orders.specs.AnswerChannels.{AnswerChannelId, AnswerEndValue}
 use Rattle.load_orders.specs.declared.queue.Order.{Order}
 use Rattle.load_orders.specs.declared.answer_channels.LoadAnswer.{LoadAnswer}
@@ -12,7 +12,7 @@ pub record AnsweredValue (N : Type 0) : Type 0 where
 
 -- the loader's end of a queue
 pub record LoaderOrdersValue (N : Type 0) : Type 0 where
-  pub queue : QueueId N
+  pub queue : OrderQueueId N
   pub taken : List (Order N)  -- in order
   pub answered : List (AnsweredValue N)  -- in order
   pub over : Bool  -- it asked for another one, and none came
@@ -22,11 +22,11 @@ pub record LoaderOrdersValue (N : Type 0) : Type 0 where
 abbrev pub AllAnswered : {N : Type 0} → LoaderOrdersValue N → Type 0
 AllAnswered end = length end.answered ≡ length end.taken
 
--- the answer is sent at this answer channel, once; or no worker waits there any more, and nothing is sent
+-- the answer is sent at this answer channel, once, or nothing is
 abbrev pub IsSentAt : {N : Type 0} → AnswerChannelId → LoadAnswer N → AnswerEndValue N → Type 0
 IsSentAt channel answer sent = (sent ≡ record { channel = channel; answers = answer ∷ [] }) ⊎ (sent ≡ record { channel = channel; answers = [] })
 
--- the worker that waits is sent this answer by the order's own answer channel
+-- where a worker waits, this answer is sent by the order's own answer channel, once, or nothing is
 abbrev pub IsSentBack : {N : Type 0} → Option AnswerChannelId → LoadAnswer N → Option (AnswerEndValue N) → Type 0
 IsSentBack (Some channel) answer (Some sent) = IsSentAt channel answer sent
 IsSentBack None answer sent = sent ≡ None

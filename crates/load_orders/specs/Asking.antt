@@ -8,7 +8,7 @@ use Rattle.handoff.specs.Ends.{IsPutAt, once_tried}
 use Rattle.handoff.specs.Queue.{Held}
 use Rattle.handoff.specs.declared.queue.Message.{Message}
 use Rattle.handoff.specs.declared.queue.EndView.{EndView}
-use Rattle.load_orders.specs.Keeping.{EndValue, QueueId}
+use Rattle.load_orders.specs.Keeping.{EndValue, OrderQueueId}
 use Rattle.load_orders.specs.AnswerChannels.{AnswerChannelId, AnswerEndValue, received_at}
 use Rattle.load_orders.specs.declared.queue.Order.{Order}
 use Rattle.load_orders.specs.declared.answer_channels.LoadAnswer.{LoadAnswer}
@@ -22,7 +22,7 @@ pub record WorkerOrdersValue (N : Type 0) : Type 0 where
 -- what a worker's orders go by: the names of the feeds, by index, and the queue
 pub record OrderRoute (N : Type 0) : Type 0 where
   pub names : List (List ℕ)
-  pub queue : QueueId N
+  pub queue : OrderQueueId N
 
 abbrev pub route_of : {N : Type 0} → WorkerOrdersValue N → OrderRoute N
 route_of orders = record { names = orders.names; queue = orders.end.queue }
@@ -59,7 +59,7 @@ fault_of_answer (Some LoadAnswer.Unnoticed) = Some OrderFault.OutOfMemory
 fault_of_answer (Some (LoadAnswer.Refused refusal)) = Some (OrderFault.LoadRefused refusal)
 fault_of_answer None = Some OrderFault.LoaderGone
 
--- an order that nobody waits for, and one that carries an answer channel
+-- an order for whose outcome no client waits, and one that carries an answer channel
 abbrev pub order_of : {N : Type 0} → ℕ → Order N
 order_of index = record { feed = index; answer_channel = None }
 
@@ -138,6 +138,7 @@ module _ {N : Type 0} (holds : List (Message (Order N)) → List (EndView (Order
         × Does order.feed order.outcome (dealings_of before) (dealings_of between)
         × IsNoted order before between × AreAsked orders between after
 
-    -- each order that was asked for here did this, from the first on: so all that was put at the queue and received of it comes from these orders
+    -- each order that was asked for here did this, from the first on: so all that was put at the queue and received of it comes from these orders.
+    -- How often the end had tried before is nothing that an order shows
     abbrev pub HasAsked : WorkerOrdersValue N → Type 0
     HasAsked orders = (tries : ℕ) × AreAsked orders.asked (nothing_asked (route_of orders) tries) orders

@@ -1,11 +1,11 @@
 -- What the end that keeps the queue of orders shows.
 use Rattle.std.specs.Prelude.{◌≡◌, ◌+◌, ◌-◌, ◌++◌, ℕ, List, []}
-use Rattle.handoff.specs.Ends.{KeeperValue as QueueKeeperValue, PutterValue, QueueId as QueueIdOf}
+use Rattle.handoff.specs.Ends.{KeeperValue as QueueKeeperValue, PutterValue, QueueId}
 use Rattle.load_orders.specs.declared.queue.Order.{Order}
 
 -- which queue of orders, of all that there are
-abbrev pub QueueId : Type 0 → Type 0
-QueueId N = QueueIdOf (Order N)
+abbrev pub OrderQueueId : Type 0 → Type 0
+OrderQueueId N = QueueId (Order N)
 
 -- an end of a queue, at which orders are put
 abbrev pub EndValue : Type 0 → Type 0
@@ -13,7 +13,7 @@ EndValue N = PutterValue (Order N)
 
 -- the end that keeps a queue, while the loader is out
 pub record KeeperValue (N : Type 0) : Type 0 where
-  pub queue : QueueId N
+  pub queue : OrderQueueId N
   pub put : List (Order N)  -- at the ends that came back
   pub out : ℕ  -- how many ends are out, at which orders are put
   pub closings : ℕ  -- how often the queue was closed

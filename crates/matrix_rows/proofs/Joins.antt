@@ -1,14 +1,14 @@
 -- Texts that several threads made, put together.
-use Rattle.std.proofs.Common.{◌≡◌, ℕ, List, [], ◌++◌, Option}
+use Rattle.std.proofs.Common.{◌≡◌, ℕ, List, ◌++◌, Option}
 use Rattle.std.proofs.Common.{Result, Ok, Err, Contains, OnErr, OnOk}
-use Rattle.std.proofs.Common.{take, drop, refl, sym, ◌∙◌, ap, subst, append_assoc, append-nil}
+use Rattle.std.proofs.Common.{sym, ◌∙◌, ap, subst, append_assoc}
 use Rattle.std.specs.Global.{Vec}
 use Rattle.std.specs.Io.KnownBytes.{Appends}
 use Rattle.std.proofs.lemmas.List.Elements.{Contains-append_left, Contains-append_right}
-use Rattle.std.proofs.lemmas.List.{take-append-drop}
-use Rattle.image_files.proofs.Appended.{appended_in_turns, nothing_appended}
+use Rattle.image_files.proofs.Appended.{begun_after}
+use Rattle.image_files.specs.Watching.{IsBegun}
 use Rattle.csv.specs.Writing.{default_writer, row_text}
-use Rattle.matrix_rows.specs.Tables.{AreRowsOf, IsBegun, IsRunBegun, IsTableBegun, names_of}
+use Rattle.matrix_rows.specs.Tables.{AreRowsOf, IsRunBegun, IsTableBegun, names_of}
 use Rattle.matrix_rows.specs.declared.table.TravelTable.{TravelTable}
 use Rattle.matrix_rows.proofs.Targets.{targets_joined}
 
@@ -30,25 +30,6 @@ on_failed (Err e) each p = each p
 pub at_error : {T E P : Type 0} (r : Result T E) → P → OnErr r P
 at_error (Ok t) p = tt
 at_error (Err e) p = p
-
--- a first part of a text: nothing, all of it, a part after others, or one of a longer text
-pub begun_by_nothing : (u : Option (List ℕ)) (text : List ℕ) → IsBegun u u text
-begun_by_nothing u text = record { written = []; left = text; whole = refl; added = nothing_appended u }
-
-pub begun_by_all : (u v : Option (List ℕ)) (text : List ℕ) → Appends u v text → IsBegun u v text
-begun_by_all u v text is = record { written = text; left = []; whole = append-nil text; added = is }
-
-pub begun_after : (u v w : Option (List ℕ)) (front text : List ℕ) → Appends u v front → IsBegun v w text → IsBegun u w (front ++ text)
-begun_after u v w front text first is = record {
-  written = front ++ is.written;
-  left = is.left;
-  whole = append_assoc front is.written is.left ∙ ap (λ (t : List ℕ). front ++ t) is.whole;
-  added = appended_in_turns u v w front is.written first is.added;
-}
-
--- a text that is written piece by piece: so many bytes are
-pub begun_at : (u v : Option (List ℕ)) (text : List ℕ) (done : ℕ) → Appends u v (take done text) → IsBegun u v text
-begun_at u v text done is = record { written = take done text; left = drop done text; whole = take-append-drop done text; added = is }
 
 -- the rows of a run were begun after those of other targets
 pub run_begun : (table : TravelTable) (done run rest : List (Vec ℕ)) (rows : List ℕ) (u v w : Option (List ℕ)) → done ++ (run ++ rest) ≡ table.targets.now

@@ -8,10 +8,11 @@ use Rattle.std.proofs.lemmas.List.{append-nil, take_more, take-append-drop}
 use Rattle.std.proofs.lemmas.List.Elements.{Contains-get_or, Contains-push_cases}
 use Rattle.std.proofs.lemmas.Option.{get_or_from_slice_get, same_Some, slice_get_read, slice_get_within}
 use Rattle.matrix_rows.specs.Runs.{AreMade, AreRowsIn, HasText}
-use Rattle.matrix_rows.specs.Tables.{AreRowsBy, AreRowsOf, IsBegun, IsRunBegun, IsTargetBegun}
+use Rattle.matrix_rows.specs.Tables.{AreRowsBy, AreRowsOf, IsRunBegun, IsTargetBegun}
 use Rattle.matrix_rows.specs.declared.table.TravelTable.{TravelTable}
 use Rattle.matrix_rows.specs.declared.turns.TargetRows.{TargetRows}
-use Rattle.matrix_rows.proofs.Joins.{begun_after, begun_by_all}
+use Rattle.image_files.proofs.Appended.{begun_after, begun_by_all}
+use Rattle.image_files.specs.Watching.{IsBegun}
 use Rattle.matrix_rows.proofs.Targets.{target_added}
 
 -- each thread made its part

@@ -11,6 +11,7 @@ use Rattle.timetable.specs.TimetableValue.{TimetableValue}
 use Rattle.timetable.specs.declared.limits.TheConstants.{TIME_END}
 use Rattle.timetable.specs.declared.network.Footpath.{Footpath}
 use Rattle.timetable.specs.NamesValue.{NamesValue}
+use Rattle.image_files.specs.Watching.{IsBegun}
 use Rattle.image_layout.specs.Image.{ImageValue}
 use Rattle.image_facts.specs.Naming.{stop_bytes}
 use Rattle.answer_replies.specs.Valuing.{arrival_figures, by_arrival, by_trips, by_walking, trips_figures, walking_figures}
@@ -150,14 +151,7 @@ pub record IsTable (table : TravelTable) (text : List ℕ) : Type 0 where
   pub are : AreRowsOf table table.targets.now rows
   pub text_is : text ≡ row_text default_writer (names_of table.each) ++ rows
 
--- a first part of a text, possibly nothing or all of it, was added to what was written before, and nothing else
-pub record IsBegun (before after : Option (List ℕ)) (text : List ℕ) : Type 0 where
-  pub written : List ℕ
-  pub left : List ℕ
-  pub whole : written ++ left ≡ text
-  pub added : Appends before after written
-
--- the same of the rows of a set of targets, or nothing was added
+-- a first part of the rows of a set of targets was added, or nothing
 abbrev pub IsTargetBegun : TravelTable → List ℕ → Option (List ℕ) → Option (List ℕ) → Type 0
 IsTargetBegun table targets before after =
     (after ≡ before) ⊎ ((text : List ℕ) × AreRowsBy table.criterion table targets text × IsBegun before after text)

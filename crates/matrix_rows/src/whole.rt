@@ -11,7 +11,7 @@ ghost use Rattle.image_files.specs.Watching.{HasFault};
 ghost use Rattle.csv.specs.Writing.{default_writer, row_text};
 ghost use Rattle.travel_times.specs.Rows.{Adds, AreWhole};
 ghost use Rattle.matrix_rows.specs.Runs.{AreMade};
-ghost use Rattle.matrix_rows.specs.Tables.{AreRowsBy, AreRowsOf, CanBeMade, IsBegun, IsRunBegun, IsTable};
+ghost use Rattle.matrix_rows.specs.Tables.{AreRowsBy, AreRowsOf, CanBeMade, IsRunBegun, IsTable};
 ghost use Rattle.matrix_rows.specs.Tables.{IsTableBegun, IsTargetBegun, names_of};
 
 use crate::named_table::NamedTable;
@@ -76,7 +76,7 @@ fn write_named<R: Threads + Sync + AllocGlobal, W: Watched, P: TableReports>(
     ensures failed { IfErr result (λ error. error_kind error ≢ OutOfMemory → HasFault (W.noted out.new)) }
 {
     let names = first_row(rt.alloc(), table.plain.each)?;
-    write_bytes(out, &names)?;
+    write_all(out, &names)?;
     let mut run = &table.plain.targets[..0];
     let mut made = Vec::new(rt.alloc());
     let sources = table.plain.sources.len();
@@ -188,7 +188,7 @@ fn write_target<W: Watched>(
     ensures failed { IfErr result (λ error. error_kind error ≢ OutOfMemory → HasFault (W.noted out.new)) }
 {
     match made {
-        Some(rows) => write_bytes(out, rows),
+        Some(rows) => write_all(out, rows),
         None => write_anew(alloc, table, targets, out),
     }
 }
@@ -208,16 +208,7 @@ fn write_anew<W: Watched>(
     ensures failed { IfErr result (λ error. error_kind error ≢ OutOfMemory → HasFault (W.noted out.new)) }
 {
     let rows = rows_to(alloc, table, targets)?;
-    write_bytes(out, &rows)
-}
-
-// Writes the bytes. If it fails, a first part of them was written, possibly nothing or all of it.
-fn write_bytes<W: Watched>(out: &mut W, bytes: &[u8]) -> io::Result<()>
-    ensures written { OnOk result (Appends (W.contents out.old) (W.contents out.new) bytes.now) }
-    ensures begun { OnErr result (IsBegun (W.contents out.old) (W.contents out.new) bytes.now) }
-    ensures failed { OnErr result (HasFault (W.noted out.new)) }
-{
-    write_all(out, bytes)
+    write_all(out, &rows)
 }
 
 fn first_row(alloc: Global, each: bool) -> Result<Vec<u8>, AllocError>

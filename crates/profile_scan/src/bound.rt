@@ -116,8 +116,8 @@ pub fn any_no_worse<C: Criterion>(criterion: &C, values: &[C::V], value: &C::V) 
     if !criterion.is_total() {
         return some_no_worse(criterion, values, value);
     }
-    // Under a total criterion the first value is the only one: of two values one is no worse than the other, and only
-    // that one is kept.
+    // Under a total criterion a bound has one value: of two values one is no worse than the other, and only that one is
+    // kept. But any list may be passed in, so the others, of which a bound has none, are searched too.
     let Some((first, others)) = values.split_first() else {
         return false;
     };

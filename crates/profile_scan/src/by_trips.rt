@@ -105,30 +105,31 @@ impl ByTrips {
         if changed {
             return Ok(());
         }
-        self.change_with_eight(asked, hop)
+        self.change_with_eight(asked, *hop)
     }
 
-    // The same where a point of eight trips has no lane. It is rare, so it is a call and never inlined.
+    // The same where a point of eight trips has no lane. It is rare, so it is a call and never inlined. It takes the
+    // hop itself: one that is lent to a call is written to memory at each connection.
     #[inline(never)]
     fn change_with_eight(
         &mut self,
         asked: &ScanQuery<ArrivalTrips>,
-        hop: &Hop<TimeTrips>,
+        hop: Hop<TimeTrips>,
     ) -> Result<(), AllocError>
-        requires { CanLeaveByTrips (question asked.now.query) hop.now self.old }
-        ensures { OnOk result (takes_changes hop.now (points_at self.old.lanes.stops hop.now.connection.to)
+        requires { CanLeaveByTrips (question asked.now.query) hop self.old }
+        ensures { OnOk result (takes_changes hop.entry (points_at self.old.lanes.stops hop.entry.connection.to)
             self.old self.new) }
     {
         let entry = self
             .lanes
             .stops
             .front_from(hop.connection.to, hop.connection.arr);
-        self.lanes.change_but_eight(asked, hop, entry)?;
+        self.lanes.change_but_eight(asked, &hop, entry)?;
         let Some(value) = self.lanes.stops.front(entry).of_eight() else {
             return Ok(());
         };
         let step = self.lanes.stops.tags(entry)[7];
-        self.offer_label(asked, hop, value, step)
+        self.offer_label(asked, &hop, value, step)
     }
 
     // Offers to the labels of the hop's trip that are beyond lanes a change to a point with this value and step, unless
@@ -180,7 +181,7 @@ impl ByTrips {
         if !has_any(&self.beyond.points, hop.connection.to) {
             return Ok(());
         }
-        self.change_each(asked, hop)
+        self.change_each(asked, *hop)
     }
 
     // The same if there is a bag for the stop. It is rare, so it is a call and never inlined.
@@ -188,17 +189,17 @@ impl ByTrips {
     fn change_each(
         &mut self,
         asked: &ScanQuery<ArrivalTrips>,
-        hop: &Hop<TimeTrips>,
+        hop: Hop<TimeTrips>,
     ) -> Result<(), AllocError>
-        requires can { CanLeaveByTrips (question asked.now.query) hop.now self.old }
-        requires stop { hop.now.connection.to < length self.old.beyond.points.items }
-        ensures { OnOk result (takes_changes hop.now (points_beyond self.old.beyond.points.items hop.now.connection.to)
-            self.old self.new) }
+        requires can { CanLeaveByTrips (question asked.now.query) hop self.old }
+        requires stop { hop.connection.to < length self.old.beyond.points.items }
+        ensures { OnOk result (takes_changes hop.entry
+            (points_beyond self.old.beyond.points.items hop.entry.connection.to) self.old self.new) }
     {
         let stop = hop.connection.to as usize;
         for k in 0..self.beyond.points[stop].len() {
             let point = self.beyond.points[stop].point(k);
-            self.change_by(asked, hop, &point)?;
+            self.change_by(asked, &hop, &point)?;
         }
         Ok(())
     }
@@ -246,7 +247,7 @@ impl ByTrips {
         if !has_any(&self.beyond.labels, hop.connection.trip) {
             return Ok(());
         }
-        self.board_beyond(asked, source, hop)
+        self.board_beyond(asked, source, *hop)
     }
 
     // Boards the hop's connection, if passengers may get on there, with the labels of its trip that are beyond lanes.
@@ -256,18 +257,18 @@ impl ByTrips {
         &mut self,
         asked: &ScanQuery<ArrivalTrips>,
         source: &S,
-        hop: &Hop<TimeTrips>,
+        hop: Hop<TimeTrips>,
     ) -> Result<(), AllocError>
-        requires can { CanBoardByTrips (S.timetable source.now) (question asked.now.query) asked.now.starts hop.now
+        requires can { CanBoardByTrips (S.timetable source.now) (question asked.now.query) asked.now.starts hop
             self.old }
-        requires has { HasBags (S.timetable source.now).stops (S.timetable source.now).trips hop.now self.old }
-        ensures { OnOk result (boards_beyond (S.timetable source.now) hop.now self.old self.new) }
+        requires has { HasBags (S.timetable source.now).stops (S.timetable source.now).trips hop self.old }
+        ensures { OnOk result (boards_beyond (S.timetable source.now) hop.entry self.old self.new) }
     {
         if !hop.connection.board {
             return Ok(());
         }
         let (begin, end) = source.walks_into(hop.connection.from as usize);
-        self.board_walks(asked, source, hop, begin..end)
+        self.board_walks(asked, source, &hop, begin..end)
     }
 
     // Goes over the footpaths at the indices `walks`, which lead to the stop where the hop's connection begins, and

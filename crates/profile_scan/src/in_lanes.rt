@@ -43,6 +43,7 @@ impl InLanes {
 
     /// Offers to the labels of the hop's trip a label for a journey that ends here, if a passenger who gets off reaches
     /// a target by `query.by`.
+    #[inline(always)]
     pub fn end(
         &mut self,
         asked: &ScanQuery<ArrivalTrips>,
@@ -73,6 +74,7 @@ impl InLanes {
 
     /// Offers to the labels of the hop's trip the points of the stop where it ends that depart at the arrival or later,
     /// unless the bound excludes them. Returns false if there is no lane for one of them; then all stays as it was.
+    #[inline(always)]
     pub fn change(
         &mut self,
         asked: &ScanQuery<ArrivalTrips>,

@@ -23,7 +23,8 @@ pub trait Keeping<C: Criterion>: Drop {
     // what is kept
     ghost value: { Self → KeptValue C.V };
 
-    // it is under a criterion, for so many stops and trips, and excludes nothing that these values don't
+    // it is under a criterion, for so many stops and trips, and what it has made of the bound excludes nothing that the
+    // listed values of the bound don't
     ghost IsUnder: { C → ℕ → ℕ → List C.V → Self → Type 0 };
 
     /// Nothing kept yet, for `stops` stops and `trips` trips, with room for what `expected` connections mostly add.

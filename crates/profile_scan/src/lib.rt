@@ -8,17 +8,18 @@
 //! `from` or later and before `by`. (`until` limits where a journey begins, not where the window ends: later legs may
 //! depart after it.) The loop is `scan::scan_window`. It reads each index of the window once, in falling order, as its
 //! clause `log` says, and calls `Scan::step`. A step returns at once if it sees that the connection can add nothing;
-//! else it renews the bound for the connection's departure, makes a `Hop` and calls `Keeping::take`:
+//! else it renews the bound for the connection's departure, makes a `Hop` and calls `Keeping::take`, as follows. A
+//! *label* of a trip is a way for its passengers to go on: how they leave the trip, and the value of what follows.
 //!
 //! 1. Leave the trip, if passengers may get off. The journey may end there, or one footpath on (`hop.final_walk`):
-//!    `Trips::end` offers that to the labels of the connection's trip, with the value of that arrival. Or
-//!    the passenger may change: `Trips::change` offers the stop's points that depart at the arrival or later; it reads
-//!    the stops as they were before this connection, and `hop.bound`. Both change only those labels, by
-//!    `fronts::offer_label`, and append to `exits`. Staying on needs no code: the labels of the trip remain. A stop's
-//!    point departs when the walk to the next connection begins. That walk is one footpath; to board at the same stop
-//!    it is the stop's loop, whose seconds are the change time. So 1 adds no change time: 3 subtracts it from the
-//!    departure. `Leads` (timetable's specs/Journeys.antt) defines when one may change; `journeys::check` tests one
-//!    journey for it.
+//!    `Trips::end` offers the connection's trip a label that leaves it so, with the value of that arrival. Or the
+//!    passenger may change: `Trips::change` offers a label for each of the stop's points that depart at the arrival or
+//!    later; it reads the stops as they were before this connection, and `hop.bound`. Both change only the labels of
+//!    that trip, by `fronts::offer_label`, and append to `exits`. Staying on needs no code: the labels of the trip
+//!    remain. A stop's point departs when the walk to the next connection begins. That walk is one footpath; to board
+//!    at the same stop it is the stop's loop, whose seconds are the change time. So 1 adds no change time: 3 subtracts
+//!    it from the departure. `Leads` (timetable's specs/Journeys.antt) defines when one may change; `journeys::check`
+//!    tests one journey for it.
 //! 2. Set out: `AtSource::set_out` changes only the points found and appends to `set_outs`; it reads the labels that 1
 //!    left, and not the bound. If passengers may get on, it sets out without a footpath if the connection begins at a
 //!    source, and after each footpath, loops excepted, from a source to there; `Starts` only marks the sources and the
@@ -33,9 +34,11 @@
 //!
 //! What a scan keeps of trips and stops has the trait `Keeping`, so that a criterion can have a form of its own, which
 //! it names by `Scanned`. `InLists`, whose functions 1 and 3 name, serves any criterion. `ByTrips` is the form of
-//! arrival and trips. It takes the same steps with all values of a front at once: `InLanes::change` compares a trip's
-//! lanes with those of the stop's front, and lowers them; `InLanes::board` does so with a stop's front. What has more
-//! trips than there are lanes is kept beside them, in bags (`Beyond`), and offered to these one by one.
+//! arrival and trips. There the *front* of a stop at a time, the points from then on that no other betters, is nine
+//! *lanes*: lane k has the earliest arrival with at most k trips. A trip has eight. So all values are compared at once:
+//! `InLanes::change` lowers a trip's lanes to those of the stop's front, and `InLanes::board` those of a stop's front
+//! to the trip's, with one trip more. What has more trips than there are lanes is kept beside them, in bags (`Beyond`),
+//! and offered to these one by one.
 //!
 //! What a scan keeps where journeys set out has the trait `AtSource`. `profile_between` answers one question, and keeps
 //! an `Origin`: one list of the points found, from all sources together. `profiles_to_any`, which answers from every
@@ -53,13 +56,13 @@
 //! every stop, every trip and the source. Soundness: each point's tag spells a way to go on that has the point's
 //! departure and value. Completeness: each way to go on over the connections from i on is covered, so some point
 //! departs no earlier and is no worse. At stops and in trips a way may be left uncovered if its value (in a trip, with
-//! the ride in it) is outdone (`IsOutdone`): riding never improves a value, and some point found is no worse than it
-//! and departs no earlier than any connection still to be read (of an index below i). The loop of `scan_window` carries
-//! the invariant (`matched` in proofs/scan/scan_window/Invariants.antt): the law `nothing_follows` begins it,
-//! `one_index_down` keeps it at each step, and `match_is_the_answer` ends it. `specs/` (Points, Continuations,
-//! Matching, Steps, then Parts) says what a step is; the functions of `laws` prove that it suffices. If the scan
-//! stopped at index i, the points found would be right for all journeys whose first connection is i or later; only
-//! `match_is_the_answer` needs the window's start.
+//! the ride in it) is outdone (`IsOutdone`): the criterion says that riding never improves a value, and some point
+//! found is no worse than it and departs no earlier than any connection still to be read (of an index below i). The
+//! loop of `scan_window` carries the invariant (`matched` in proofs/scan/scan_window/Invariants.antt): the law
+//! `nothing_follows` begins it, `one_index_down` keeps it at each step, and `match_is_the_answer` ends it. `specs/`
+//! (Points, Continuations, Matching, Steps, then Parts) says what a step is; the functions of `laws` prove that it
+//! suffices. If the scan stopped at index i, the points found would be right for all journeys whose first connection is
+//! i or later; only `match_is_the_answer` needs the window's start.
 //!
 //! A tag is an index: of a label, into `Trips::exits`; of a stop's point, into the steps of `Stops::lists`; of a point
 //! found, into `Origin::set_outs`, and once it is in `Found`, into its nodes. An offer's tag is the vector's length

@@ -1,4 +1,4 @@
-//! What a scan keeps for the source: the points found, and how one sets out for each.
+//! What a scan keeps for its sources together: the points found, and how one sets out for each.
 
 ghost use Rattle.std.specs.Prelude.{◌≡◌, ◌-◌, IfSome, MatchBool, MatchOption};
 ghost use Rattle.criteria.specs.Laws.{Admits, IsSecs};

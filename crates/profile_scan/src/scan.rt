@@ -70,8 +70,8 @@ ghost use Rattle.profile_scan.specs.Window.{falling};
 ghost use Rattle.profile_scan.specs.Parts.{HasScanned};
 
 /// Scans the connections of a window, the last first. For each question, the points found match every journey whose
-/// first connection is in the window or later. Each form of it is a function by itself, so that the loop has the
-/// processor's registers to itself.
+/// first connection is the window's first or a later one; those that begin after the window arrive too late. Each form
+/// of it is a function by itself, so that the loop has the processor's registers to itself.
 #[inline(never)]
 pub fn scan_window<S: ConnSource, C: Criterion, K: Keeping<C>, O: AtSource<C>>(
     alloc: Global,

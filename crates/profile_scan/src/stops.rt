@@ -38,8 +38,8 @@ impl<C: Criterion> Stops<C> {
         self.heads[stop as usize]
     }
 
-    // Whether the last offer to a stop shows that its list has a point no worse than `value` that departs at `time` or
-    // later. If not, the list may have one nonetheless.
+    // Whether a stop's `LastOffer`, the last that `board_walk_one` made to it, shows that its list has a point no worse
+    // than `value` that departs at `time` or later. If not, the list may have one nonetheless.
     #[inline(always)]
     fn was_offered(&self, criterion: &C, stop: u32, time: u32, value: &C::V) -> bool
         requires has { HasStop C.rules criterion.now stop self.now }
@@ -106,8 +106,8 @@ impl<C: Criterion> Stops<C> {
         Ok(())
     }
 
-    // Like `board_walk` for a single ridden value, unless the last offer to the stop shows that its list covers the
-    // point.
+    // Like `board_walk` for a single ridden value, unless the stop's `LastOffer` shows that its list covers the point.
+    // Only here is that record written.
     #[inline(always)]
     fn board_walk_one(
         &mut self,
@@ -218,30 +218,31 @@ impl<C: Criterion> Stops<C> {
         if labels.len() == 1 {
             return self.board_only_label(asked, source, hop, &labels[0]);
         }
-        self.board_labels(asked, source, hop, labels)
+        self.board_labels(asked, source, *hop, labels)
     }
 
     // Does what `board` does for a connection where passengers may get on, whatever the number of labels. It goes over
-    // all of them and is large, so it is a call and never inlined.
+    // all of them and is large, so it is a call and never inlined. It takes the hop itself: one that is lent to a call
+    // is written to memory at each connection.
     #[inline(never)]
     fn board_labels<S: ConnSource>(
         &mut self,
         asked: &ScanQuery<C>,
         source: &S,
-        hop: &Hop<C::V>,
+        hop: Hop<C::V>,
         labels: &[Label<C::V>],
     ) -> Result<(), AllocError>
-        requires can { CanBoard C.rules (S.timetable source.now) asked.now hop.now labels.now self.old }
-        requires boards { hop.now.connection.board ≡ true }
+        requires can { CanBoard C.rules (S.timetable source.now) asked.now hop labels.now self.old }
+        requires boards { hop.connection.board ≡ true }
         ensures { OnOk result
-            (Boards C.rules asked.now.criterion (S.timetable source.now) hop.now labels.now self.old self.new) }
+            (Boards C.rules asked.now.criterion (S.timetable source.now) hop.entry labels.now self.old self.new) }
     {
         ride_labels(&asked.criterion, hop.bound, labels, &mut self.ridden)?;
         if self.ridden.len() == 0 {
             return Ok(());
         }
         let (begin, end) = source.walks_into(hop.connection.from as usize);
-        self.board_walks(asked, source, hop, begin..end)?;
+        self.board_walks(asked, source, &hop, begin..end)?;
         Ok(())
     }
 }

@@ -62,6 +62,7 @@ impl<C: Criterion> Trips<C> {
 
     /// Offers a label to the connection's trip for a journey that ends here, if a passenger who gets off reaches a
     /// target by `query.by`, at once or by footpath.
+    #[inline(always)]
     pub fn end(&mut self, asked: &ScanQuery<C>, hop: &Hop<C::V>) -> Result<(), AllocError>
         requires { CanLeave (C.rules asked.now.criterion) (question asked.now.query) hop.now self.old }
         ensures { OnOk result (TripTakes (C.rules asked.now.criterion) hop.now.connection.trip
@@ -78,9 +79,26 @@ impl<C: Criterion> Trips<C> {
                     last: hop.place,
                     walk: end.walk,
                 };
-                self.offer(&asked.criterion, hop.connection.trip, value, exit)
+                self.offer_end(&asked.criterion, hop.connection.trip, value, exit)
             },
         }
+    }
+
+    // Does what `offer` does. Few journeys end, so it is a call and never inlined.
+    #[inline(never)]
+    fn offer_end(
+        &mut self,
+        criterion: &C,
+        trip: u32,
+        value: C::V,
+        exit: Exit,
+    ) -> Result<(), AllocError>
+        requires trip { HasTrip (C.rules criterion.now) self.old.labels trip }
+        requires admitted { Admits (C.rules criterion.now) value }
+        ensures { OnOk result
+            (TripTakes (C.rules criterion.now) trip (λ tags. one_way 0 value (IsExit tags exit)) self.old self.new) }
+    {
+        self.offer(criterion, trip, value, exit)
     }
 
     // Offers to the labels of the connection's trip one point of its arrival stop, unless a value of `hop.bound` is no

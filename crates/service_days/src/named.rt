@@ -5,6 +5,8 @@ ghost use Rattle.gtfs_rows.specs.Ids.{StandsAt, seen_also};
 ghost use Rattle.gtfs_rows.specs.declared.rows.CalendarDateRow.{CalendarDateRow};
 ghost use Rattle.gtfs_rows.specs.declared.rows.CalendarRow.{CalendarRow};
 ghost use Rattle.gtfs_rows.specs.declared.values.Day.{Day as CalendarDay};
+ghost use Rattle.indexmap.specs.IndexMap.{hasher_of as hash_of_services};
+ghost use Rattle.indexmap.specs.IndexSet.{hasher_of};
 ghost use Rattle.service_days.specs.Named.{names_of};
 ghost use Rattle.service_days.specs.Services.{HoldsServices, is_active, service_runs};
 ghost use Rattle.std.specs.String.{string_bytes};
@@ -21,9 +23,10 @@ pub struct NamedServices {
 }
 
 impl NamedServices {
-    /// Returns an empty list.
+    /// Returns an empty list, whose services are looked up by the hash of all services.
     pub fn new(alloc: Global, services: &Services) -> NamedServices
-        ensures { names_of result ≡ [] }
+        ensures empty { names_of result ≡ [] }
+        ensures hash { hasher_of result.ids ≡ hash_of_services services.now.weeks }
     {
         NamedServices {
             ids: IndexSet::with_hasher(alloc, services.hash()),
@@ -34,6 +37,7 @@ impl NamedServices {
     pub fn index_of(&mut self, service: &String) -> Result<usize, AllocError>
         ensures names { OnOk result (names_of self.new ≡ seen_also (names_of self.old) (string_bytes service.now)) }
         ensures index { IfOk result (λ index. StandsAt (names_of self.new) index (string_bytes service.now)) }
+        ensures hash { OnOk result (hasher_of self.new.ids ≡ hasher_of self.old.ids) }
     {
         if let Some((index, _)) = self.ids.get_full(service.as_str()) {
             return Ok(index);

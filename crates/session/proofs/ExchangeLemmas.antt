@@ -1,7 +1,7 @@
 -- Exchanges: one line, and lines one after the other.
 use Rattle.std.proofs.Common.{◌≡◌, ◌⊎◌, ◌≤◌, ℕ, Bool, true, false, List, [], ◌∷◌, ◌++◌, length, refl, sym, ap, ◌∙◌, subst, append_assoc, append-nil, inl, inr}
 use Rattle.serde_json.specs.Data.{Data}
-use Rattle.epochs.specs.Seats.{SeatValue}
+use Rattle.shelves.specs.Seats.{SeatValue}
 use Rattle.lines.specs.Showing.{ShowsLine}
 use Rattle.lines.specs.declared.text.Line.{Line}
 use Rattle.lines.specs.declared.text.Line.TheVariants.{Whole, TooLong}

@@ -5,12 +5,12 @@ use Rattle.std.proofs.lemmas.List.{append_cancel_left}
 use Rattle.std.proofs.lemmas.List.Elements.{All-cons, All-head, All-nil, All-tail}
 use Rattle.image_layout.specs.Image.{ImageValue}
 use Rattle.shelf_steps.specs.declared.views.KnownHistory.{KnownHistory}
-use Rattle.epochs.specs.declared.seats.SeatAnswer.{SeatAnswer}
-use Rattle.epochs.specs.declared.faults.PinFault.{PinFault}
-use Rattle.epochs.specs.SeatHistory.{Grows, HoldsAsKnown, IsPublished, LearnsBy}
-use Rattle.epochs.specs.Seats.{SeatValue, PinStep, ReleaseStep, JoinStep}
-use Rattle.epochs.specs.Words.{SeatWords}
-use Rattle.epochs.proofs.GrowthLemmas.{grows_same, learns_both, learns_nothing, learns_one, published_stay}
+use Rattle.shelves.specs.declared.answers.SeatAnswer.{SeatAnswer}
+use Rattle.shelves.specs.declared.faults.PinFault.{PinFault}
+use Rattle.shelves.specs.SeatHistory.{Grows, HoldsAsKnown, IsPublished, LearnsBy}
+use Rattle.shelves.specs.Seats.{SeatValue, ShowsPin, ShowsRelease, ShowsJoin}
+use Rattle.shelves.specs.Words.{SeatWords}
+use Rattle.shelves.proofs.GrowthLemmas.{grows_same, learns_both, learns_nothing, learns_one, published_stay}
 use Rattle.session_texts.specs.Requests.{AskValue}
 use Rattle.session.specs.declared.reply_form.ReplyForm.{ReplyForm}
 use Rattle.session.specs.Lines.{LineMeaning}
@@ -18,13 +18,13 @@ use Rattle.session.specs.SeatSteps.{AnswerStep, Follows, SeatMove, answered, joi
 use Rattle.session.specs.Sessions.{AreExchanges, LastRelease, moves_of}
 use Rattle.session.specs.Exchanges.{Exchange, IsExchange, Meets, ProfileIsMet, SeatState, deed_of, seat_state}
 use Rattle.session.specs.Learning.{AreFromPublished, GoesOn, IsFromPublished, IsPublishedIfHeld, Learns, LearningTells, ReportsPublished}
-use Rattle.session.specs.Learning.{TellsPublished}
+use Rattle.session.specs.Learning.{PinIsPublished}
 use Rattle.session.proofs.SeatLemmas.{answers_grow, is_pinned, pin_refused, release_refused, steps}
 use Rattle.session.specs.Replies.{ReplyValue}
 use Rattle.session.proofs.ExchangeLemmas.{moves_follow}
 
 -- what was published stays so
-published_later : (k later : KnownHistory) (answer : SeatAnswer) → Grows k later → TellsPublished k answer → TellsPublished later answer
+published_later : (k later : KnownHistory) (answer : SeatAnswer) → Grows k later → PinIsPublished k answer → PinIsPublished later answer
 published_later k later (SeatAnswer.Pinned version image) grows is = published_stay k later version image.value grows is
 published_later k later answer grows is = tt
 
@@ -35,11 +35,11 @@ parts_of P (x ∷ xs) ys all =
     (All-cons P x xs (All-head P x (xs ++ ys) all) rest.0, rest.1)
 
 pub learns_same : (k : KnownHistory) (a : SeatValue) → Learns k a k a
-learns_same k a = learns_nothing TellsPublished k k a.answers (grows_same k)
+learns_same k a = learns_nothing PinIsPublished k k a.answers (grows_same k)
 
 pub learns_on : (k : KnownHistory) (a : SeatValue) (l : KnownHistory) (m : SeatValue) (n : KnownHistory) (b : SeatValue) → Learns k a l m → Learns l m n b
     → Learns k a n b
-learns_on k a l m n b p q = learns_both TellsPublished published_later k l n a.answers m.answers b.answers p q
+learns_on k a l m n b p q = learns_both PinIsPublished published_later k l n a.answers m.answers b.answers p q
 
 -- a seat at which nothing was done, and calls one behind the other
 pub goes_on_same : {T S N : Type 0} (words : SeatWords T S N) (shelves : T) (s : S) → words.fits shelves s → GoesOn words shelves s s
@@ -56,37 +56,37 @@ goes_on words shelves a m b p q =
 
 -- one answer
 learns_answer : (k l : KnownHistory) (number : ℕ) (a b : SeatValue) (answer : SeatAnswer) → AnswerStep number a answer b → Grows k l
-    → TellsPublished l answer → Learns k a l b
+    → PinIsPublished l answer → Learns k a l b
 learns_answer k l number a b answer step grows told =
-    learns_one TellsPublished k l a.answers b.answers answer grows (steps number a b answer step).answers told
+    learns_one PinIsPublished k l a.answers b.answers answer grows (steps number a b answer step).answers told
 
-pub learns_pinned : (k l : KnownHistory) (number : ℕ) (a b : SeatValue) → PinStep a (Ok tt) b → Grows k l → HoldsAsKnown l number b.held → Learns k a l b
+pub learns_pinned : (k l : KnownHistory) (number : ℕ) (a b : SeatValue) → ShowsPin a (Ok tt) b → Grows k l → HoldsAsKnown l number b.held → Learns k a l b
 learns_pinned k l number a b step grows known =
     let pinned = is_pinned l number number a b refl known step in
     let holds = subst (λ (h : Option (ℕ × ImageValue)). HoldsAsKnown l number h) pinned.held known in
     learns_answer k l number a b (SeatAnswer.Pinned pinned.version pinned.shown) pinned.step grows holds.published
 
-pub learns_unpinned : (k l : KnownHistory) (a b : SeatValue) (fault : PinFault) → PinStep a (Err fault) b → Grows k l → Learns k a l b
+pub learns_unpinned : (k l : KnownHistory) (a b : SeatValue) (fault : PinFault) → ShowsPin a (Err fault) b → Grows k l → Learns k a l b
 learns_unpinned k l a b fault step grows =
-    learns_one TellsPublished k l a.answers b.answers (SeatAnswer.PinRefused fault) grows (pin_refused a b fault step).answers tt
+    learns_one PinIsPublished k l a.answers b.answers (SeatAnswer.PinRefused fault) grows (pin_refused a b fault step).answers tt
 
-pub learns_by_release : (k l : KnownHistory) (a b : SeatValue) (r : Result (Unit {0}) PinFault) → ReleaseStep a r b → Grows k l → Learns k a l b
+pub learns_by_release : (k l : KnownHistory) (a b : SeatValue) (r : Result (Unit {0}) PinFault) → ShowsRelease a r b → Grows k l → Learns k a l b
 learns_by_release k l a b (Ok u) step grows = learns_answer k l 0 a b SeatAnswer.Released step grows tt
 learns_by_release k l a b (Err fault) step grows =
-    learns_one TellsPublished k l a.answers b.answers (SeatAnswer.ReleaseRefused fault) grows (release_refused a b fault step).answers tt
+    learns_one PinIsPublished k l a.answers b.answers (SeatAnswer.ReleaseRefused fault) grows (release_refused a b fault step).answers tt
 
-pub learns_by_notice : (k l : KnownHistory) (a b : SeatValue) (version : ℕ) → JoinStep a version b → l ≡ k → Learns k a l b
+pub learns_by_notice : (k l : KnownHistory) (a b : SeatValue) (version : ℕ) → ShowsJoin a version b → l ≡ k → Learns k a l b
 learns_by_notice k l a b version step same =
-    subst (λ (answers : List SeatAnswer). LearnsBy TellsPublished k a.answers l answers) (sym (ap (λ (s : SeatValue). s.answers) step))
-    (learns_nothing TellsPublished k l a.answers (subst (λ (x : KnownHistory). Grows k x) (sym same) (grows_same k)))
+    subst (λ (answers : List SeatAnswer). LearnsBy PinIsPublished k a.answers l answers) (sym (ap (λ (s : SeatValue). s.answers) step))
+    (learns_nothing PinIsPublished k l a.answers (subst (λ (x : KnownHistory). Grows k x) (sym same) (grows_same k)))
 
 pub ruleset pins = (learns_pinned, learns_unpinned)
 
 -- a pin and what gives it back
 pub goes_once : {T S N : Type 0} (words : SeatWords T S N) (shelves : T) (a m b : S) (back : Result (Unit {0}) PinFault)
     → words.number m ≡ words.number a → Grows (words.known a) (words.known m) → HoldsAsKnown (words.known m) (words.number m) (words.shown m).held
-    → PinStep (words.shown a) (Ok tt) (words.shown m) → words.fits shelves b → words.number b ≡ words.number m
-    → Grows (words.known m) (words.known b) → ReleaseStep (words.shown m) back (words.shown b) → GoesOn words shelves a b
+    → ShowsPin (words.shown a) (Ok tt) (words.shown m) → words.fits shelves b → words.number b ≡ words.number m
+    → Grows (words.known m) (words.known b) → ShowsRelease (words.shown m) back (words.shown b) → GoesOn words shelves a b
 goes_once words shelves a m b back number grows known pins fits number_then more releases = record {
   fits = fits;
   number = number_then ∙ number;
@@ -96,26 +96,26 @@ goes_once words shelves a m b back number grows known pins fits number_then more
 
 -- what is held after these moves was published, if what was held before was
 held_published : (number : ℕ) (k : KnownHistory) (a b : SeatValue) (moves : List SeatMove) → Follows number a moves b → IsPublishedIfHeld k a.held
-    → All (TellsPublished k) (answers_in moves) → IsPublishedIfHeld k b.held
+    → All (PinIsPublished k) (answers_in moves) → IsPublishedIfHeld k b.held
 held_published number k a b [] same held are = subst (λ (s : SeatValue). IsPublishedIfHeld k s.held) (sym same) held
 held_published number k a b (answered answer ∷ moves) (m, step, rest) held are =
-    held_published number k m b moves rest ((steps number a m answer step).held k held (All-head (TellsPublished k) answer (answers_in moves) are))
-    (All-tail (TellsPublished k) answer (answers_in moves) are)
+    held_published number k m b moves rest ((steps number a m answer step).held k held (All-head (PinIsPublished k) answer (answers_in moves) are))
+    (All-tail (PinIsPublished k) answer (answers_in moves) are)
 held_published number k a b (joined version ∷ moves) (m, step, rest) held are =
     held_published number k m b moves rest (subst (λ (s : SeatValue). IsPublishedIfHeld k s.held) (sym step) held) are
 
 -- a profile is answered from what was published
 profile_from : (k : KnownHistory) (form : ReplyForm) (held : Option (ℕ × ImageValue)) (ask : AskValue) (moves : List SeatMove) (reply : ReplyValue)
-    → ProfileIsMet form held ask moves reply → IsPublishedIfHeld k held → All (TellsPublished k) (answers_in moves) → IsFromPublished k form ask reply
+    → ProfileIsMet form held ask moves reply → IsPublishedIfHeld k held → All (PinIsPublished k) (answers_in moves) → IsFromPublished k form ask reply
 profile_from k form (Some h) ask moves reply met held are = inl (h.0, h.1, held, met.1)
 profile_from k form None ask moves reply (inl met) held are =
-    let once = subst (λ (xs : List SeatMove). All (TellsPublished k) (answers_in xs)) met.once.moves_are are in
-    let told = All-head (TellsPublished k) (SeatAnswer.Pinned met.version met.once.shown) (SeatAnswer.Released ∷ []) once in
+    let once = subst (λ (xs : List SeatMove). All (PinIsPublished k) (answers_in xs)) met.once.moves_are are in
+    let told = All-head (PinIsPublished k) (SeatAnswer.Pinned met.version met.once.shown) (SeatAnswer.Released ∷ []) once in
     inl (met.version, met.image, subst (λ (i : ImageValue). IsPublished k met.version i) met.once.image_is told, met.replied)
 profile_from k form None ask moves reply (inr refused) held are = inr (refused.fault, refused.reply_is)
 
 exchange_from : (k : KnownHistory) (form : ReplyForm) (held : Option (ℕ × ImageValue)) (t : Exchange) → IsExchange form held t → IsPublishedIfHeld k held
-    → All (TellsPublished k) (answers_in t.moves) → ReportsPublished k form t
+    → All (PinIsPublished k) (answers_in t.moves) → ReportsPublished k form t
 exchange_from k form held t (inl memory) published are = inl (ap (λ (r : ReplyValue). r.text) memory.0)
 exchange_from k form held t (inr (asked, is, inl memory)) published are = inl (ap (λ (r : ReplyValue). r.text) memory.0)
 exchange_from k form held t (inr (asked, is, inr met)) published are = inr (
@@ -132,12 +132,12 @@ answers_in-append (answered answer ∷ xs) ys = ap (λ (zs : List SeatAnswer). a
 answers_in-append (joined version ∷ xs) ys = answers_in-append xs ys
 
 exchanges_from : (k : KnownHistory) (form : ReplyForm) (number : ℕ) (a b : SeatState) (exchanges : List Exchange)
-    → AreExchanges form number a exchanges b → IsPublishedIfHeld k a.seat.held → All (TellsPublished k) (answers_in (moves_of exchanges))
+    → AreExchanges form number a exchanges b → IsPublishedIfHeld k a.seat.held → All (PinIsPublished k) (answers_in (moves_of exchanges))
     → AreFromPublished k form exchanges
 exchanges_from k form number a b [] same held are = tt
 exchanges_from k form number a b (t ∷ exchanges) (m, exchange, rest) held are =
-    let parts = parts_of (TellsPublished k) (answers_in t.moves) (answers_in (moves_of exchanges))
-    (subst (λ (xs : List SeatAnswer). All (TellsPublished k) xs) (answers_in-append t.moves (moves_of exchanges)) are) in (
+    let parts = parts_of (PinIsPublished k) (answers_in t.moves) (answers_in (moves_of exchanges))
+    (subst (λ (xs : List SeatAnswer). All (PinIsPublished k) xs) (answers_in-append t.moves (moves_of exchanges)) are) in (
       exchange_from k form a.seat.held t exchange.is held parts.0,
       exchanges_from k form number m b exchanges rest (held_published number k a.seat m.seat t.moves exchange.seat held parts.0) parts.1,
     )
@@ -157,5 +157,5 @@ learning_tells k l a b learns = λ held form number exchanges led.
     rest.1 ∙ ap (λ (xs : List SeatAnswer). xs ++ rest.0) grown ∙ append_assoc a.answers moves rest.0 in
     let same : learns.answers ≡ moves ++ rest.0 =
     append_cancel_left a.answers learns.answers (moves ++ rest.0) (sym learns.answers_are ∙ all) in
-    let parts = parts_of (TellsPublished l) moves rest.0 (subst (λ (xs : List SeatAnswer). All (TellsPublished l) xs) same learns.published) in
+    let parts = parts_of (PinIsPublished l) moves rest.0 (subst (λ (xs : List SeatAnswer). All (PinIsPublished l) xs) same learns.published) in
     exchanges_from l form number (seat_state a led.asked) led.last exchanges led.does held parts.0

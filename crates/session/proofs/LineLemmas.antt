@@ -17,7 +17,7 @@ use Rattle.lines.proofs.GivenLemmas.{all_gave}
 use Rattle.lines.proofs.StreamLemmas.{failed_consumes, fails_at_line, fails_behind, one_line_more, reads_consume, reads_then}
 use Rattle.session.specs.declared.fault.Ended.{Ended}
 use Rattle.session.specs.declared.fault.SessionFault.{SessionFault}
-use Rattle.epochs.specs.Seats.{SeatValue}
+use Rattle.shelves.specs.Seats.{SeatValue}
 use Rattle.session.specs.SeatSteps.{SeatReply, seat_reply}
 use Rattle.session.specs.Replies.{ReplyValue}
 use Rattle.session.specs.Sessions.{AnswerLines, AreReadFor, AreShort, AreExchanges, EndsSo, IsCutShort, ServeWords, Serves, SessionState}

@@ -1,9 +1,9 @@
 -- What a request asks of a seat is met.
 use Rattle.std.proofs.Common.{◌≡◌, ◌⊎◌, ℕ, List, [], ◌∷◌, ◌++◌, Option, Some, None, IfSome, Err, refl, sym, ◌∙◌, subst, inl, inr}
 use Rattle.image_layout.specs.Image.{ImageValue}
-use Rattle.epochs.specs.declared.seats.SeatAnswer.{SeatAnswer}
-use Rattle.epochs.specs.declared.faults.PinFault.{PinFault}
-use Rattle.epochs.specs.Seats.{SeatValue, KnowsItsSeats, PinStep}
+use Rattle.shelves.specs.declared.answers.SeatAnswer.{SeatAnswer}
+use Rattle.shelves.specs.declared.faults.PinFault.{PinFault}
+use Rattle.shelves.specs.Seats.{SeatValue, KnowsItsSeats, ShowsPin}
 use Rattle.session_texts.specs.Replies.{pin_text}
 use Rattle.session_texts.specs.Requests.{AskValue, pin, profile}
 use Rattle.session.specs.declared.reply_form.ReplyForm.{ReplyForm}
@@ -35,7 +35,7 @@ module _ {form : ReplyForm} {number : ℕ} {a b : SeatValue} {reply : ReplyValue
       record { moves = o.moves; meets = inl (fact, refl, inr (refl, (o.pin.version, o.pin.shown.value, o.once))); seat = o.seat }
 
   -- a profile for which no version can be pinned
-  pub profile_refused : (fault : PinFault) (ask : AskValue) → a.held ≡ None → KnowsItsSeats fault → PinStep a (Err fault) b
+  pub profile_refused : (fault : PinFault) (ask : AskValue) → a.held ≡ None → KnowsItsSeats fault → ShowsPin a (Err fault) b
       → reply ≡ plain (pin_fault_line fault) → IsMet form number a (replied_to (asks (profile ask)) reply) b
   profile_refused fault ask empty known step fact =
       let moves = answered (SeatAnswer.PinRefused fault) ∷ [] in

@@ -4,11 +4,11 @@ use Rattle.std.proofs.Common.{None, Result, Ok, Err, IfErr, refl, sym, ap, ◌�
 use Rattle.std.specs.declared.snapshot.Snapshot.{Snapshot}
 use Rattle.image_layout.specs.Image.{ImageValue}
 use Rattle.shelf_steps.specs.declared.views.KnownHistory.{KnownHistory}
-use Rattle.epochs.specs.declared.seats.SeatAnswer.{SeatAnswer}
-use Rattle.epochs.specs.declared.faults.PinFault.{PinFault}
-use Rattle.epochs.specs.SeatHistory.{HoldsAsKnown}
-use Rattle.epochs.specs.Seats.{SeatValue, KnowsItsSeats, PinStep, ReleaseStep}
-use Rattle.session.specs.Learning.{IsPublishedIfHeld, TellsPublished}
+use Rattle.shelves.specs.declared.answers.SeatAnswer.{SeatAnswer}
+use Rattle.shelves.specs.declared.faults.PinFault.{PinFault}
+use Rattle.shelves.specs.SeatHistory.{HoldsAsKnown}
+use Rattle.shelves.specs.Seats.{SeatValue, KnowsItsSeats, ShowsPin, ShowsRelease}
+use Rattle.session.specs.Learning.{IsPublishedIfHeld, PinIsPublished}
 use Rattle.session.specs.SeatSteps.{AnswerStep, Follows, NeverFalls, PinsOnce, SeatMove, answered, joined, answers_in}
 
 -- a pin that was Ok, as an answer
@@ -19,7 +19,7 @@ pub record IsPinned (number : ℕ) (a m : SeatValue) : Type 0 where
   pub empty : a.held ≡ None
   pub step : AnswerStep number a (SeatAnswer.Pinned version shown) m
 
-pub is_pinned : (known : KnownHistory) (number n : ℕ) (a m : SeatValue) → n ≡ number → HoldsAsKnown known n m.held → PinStep a (Ok tt) m → IsPinned number a m
+pub is_pinned : (known : KnownHistory) (number n : ℕ) (a m : SeatValue) → n ≡ number → HoldsAsKnown known n m.held → ShowsPin a (Ok tt) m → IsPinned number a m
 is_pinned known number n a m same holds pin =
     let held : m.held ≡ Some (pin.1.0, pin.1.1.value) = ap (λ (s : SeatValue). s.held) pin.1.3 in
     let there = subst (λ (h : Option (ℕ × ImageValue)). HoldsAsKnown known number h) held (subst (λ (k : ℕ). HoldsAsKnown known k m.held) same holds) in
@@ -29,7 +29,7 @@ some_is_held : (m : SeatValue) (h : ℕ × ImageValue) → m.held ≡ Some h →
 some_is_held m h some none = let no : None ≡ Some h = sym none ∙ some in absurd cc
 
 -- what is held is given back
-pub is_released : (m b : SeatValue) (r : Result (Unit {0}) PinFault) → m.held ≢ None → ReleaseStep m r b → IfErr r KnowsItsSeats → ReleaseStep m (Ok tt) b
+pub is_released : (m b : SeatValue) (r : Result (Unit {0}) PinFault) → m.held ≢ None → ShowsRelease m r b → IfErr r KnowsItsSeats → ShowsRelease m (Ok tt) b
 is_released m b (Ok u) some back known = back
 is_released m b (Err PinFault.SeatLost) some back known = absurd known
 is_released m b (Err PinFault.NotPinned) some back known = absurd (some back.0)
@@ -42,7 +42,7 @@ pub record IsOnce (number : ℕ) (a m b : SeatValue) : Type 0 where
   pub once : PinsOnce moves pin.version pin.shown.value
   pub seat : Follows number a moves b
 
-pub is_once : (number : ℕ) (a m b : SeatValue) (r : Result (Unit {0}) PinFault) → IsPinned number a m → ReleaseStep m r b → IfErr r KnowsItsSeats
+pub is_once : (number : ℕ) (a m b : SeatValue) (r : Result (Unit {0}) PinFault) → IsPinned number a m → ShowsRelease m r b → IfErr r KnowsItsSeats
     → IsOnce number a m b
 is_once number a m b r pin back known = record {
   pin = pin;
@@ -56,20 +56,20 @@ is_once number a m b r pin back known = record {
 pub record Steps (a : SeatValue) (answer : SeatAnswer) (b : SeatValue) : Type 0 where
   pub answers : b.answers ≡ a.answers ++ answer ∷ []
   pub rises : a.seen ≤ b.seen
-  pub held : (k : KnownHistory) → IsPublishedIfHeld k a.held → TellsPublished k answer → IsPublishedIfHeld k b.held
+  pub held : (k : KnownHistory) → IsPublishedIfHeld k a.held → PinIsPublished k answer → IsPublishedIfHeld k b.held
 
 steps_to : (a c b : SeatValue) (answer : SeatAnswer) → b ≡ c → c.answers ≡ a.answers ++ answer ∷ [] → a.seen ≤ c.seen
-    → ((k : KnownHistory) → IsPublishedIfHeld k a.held → TellsPublished k answer → IsPublishedIfHeld k c.held) → Steps a answer b
+    → ((k : KnownHistory) → IsPublishedIfHeld k a.held → PinIsPublished k answer → IsPublishedIfHeld k c.held) → Steps a answer b
 steps_to a c b answer is answers rises held =
     subst (λ (s : SeatValue). Steps a answer s) (sym is) (record { answers = answers; rises = rises; held = held })
 
-pub pin_refused : (a b : SeatValue) (fault : PinFault) → PinStep a (Err fault) b → Steps a (SeatAnswer.PinRefused fault) b
+pub pin_refused : (a b : SeatValue) (fault : PinFault) → ShowsPin a (Err fault) b → Steps a (SeatAnswer.PinRefused fault) b
 pin_refused a b (PinFault.Moved newest) step =
     steps_to a _ b (SeatAnswer.PinRefused (PinFault.Moved newest)) step.2 refl (omega (arith, step.1)) (λ k was told. was)
 pin_refused a b PinFault.NotPinned step = absurd step
 pin_refused a b fault step = steps_to a _ b _ step.1 refl (omega arith) (λ k was told. was)
 
-pub release_refused : (a b : SeatValue) (fault : PinFault) → ReleaseStep a (Err fault) b → Steps a (SeatAnswer.ReleaseRefused fault) b
+pub release_refused : (a b : SeatValue) (fault : PinFault) → ShowsRelease a (Err fault) b → Steps a (SeatAnswer.ReleaseRefused fault) b
 release_refused a b PinFault.NotPinned step = steps_to a _ b _ step.1 refl (omega arith) (λ k was told. was)
 release_refused a b PinFault.SeatLost step = steps_to a _ b _ step.1 refl (omega arith) (λ k was told. tt)
 release_refused a b fault step = absurd step

@@ -2,9 +2,9 @@
 use Rattle.std.specs.Prelude.{◌≡◌, ◌⊎◌, ◌++◌, ◌∷◌, ℕ, Bool, true, false, List, [], Option, Some, None, Ok, Err}
 use Rattle.std.specs.declared.snapshot.Snapshot.{Snapshot}
 use Rattle.image_layout.specs.Image.{ImageValue}
-use Rattle.epochs.specs.declared.seats.SeatAnswer.{SeatAnswer}
-use Rattle.epochs.specs.declared.faults.PinFault.{PinFault}
-use Rattle.epochs.specs.Seats.{SeatValue}
+use Rattle.shelves.specs.declared.answers.SeatAnswer.{SeatAnswer}
+use Rattle.shelves.specs.declared.faults.PinFault.{PinFault}
+use Rattle.shelves.specs.Seats.{SeatValue}
 use Rattle.orders.specs.declared.fault.OrderFault.{OrderFault}
 use Rattle.orders.specs.Ordering.{IsNotTaken, OrderValue, order_value, waited_value}
 use Rattle.session_texts.specs.Replies.{line_of, load_data, loaded_data, pin_text, release_text}

@@ -2,11 +2,11 @@
 use Rattle.std.specs.Prelude.{◌≡◌, ◌⊎◌, ℕ, List, [], ◌∷◌, Option, IfSome}
 use Rattle.image_layout.specs.Image.{ImageValue}
 use Rattle.shelf_steps.specs.declared.views.KnownHistory.{KnownHistory}
-use Rattle.epochs.specs.declared.faults.PinFault.{PinFault}
-use Rattle.epochs.specs.declared.seats.SeatAnswer.{SeatAnswer}
-use Rattle.epochs.specs.SeatHistory.{IsPublished, LearnsBy}
-use Rattle.epochs.specs.Seats.{SeatValue}
-use Rattle.epochs.specs.Words.{SeatWords}
+use Rattle.shelves.specs.declared.faults.PinFault.{PinFault}
+use Rattle.shelves.specs.declared.answers.SeatAnswer.{SeatAnswer}
+use Rattle.shelves.specs.SeatHistory.{IsPublished, LearnsBy}
+use Rattle.shelves.specs.Seats.{SeatValue}
+use Rattle.shelves.specs.Words.{SeatWords}
 use Rattle.orders.specs.Ordering.{OrderValue}
 use Rattle.session_texts.specs.Requests.{AskValue, profile}
 use Rattle.session.specs.declared.reply_form.ReplyForm.{ReplyForm}
@@ -17,9 +17,9 @@ use Rattle.session.specs.Sessions.{AreExchanges, LastRelease}
 use Rattle.session.specs.Exchanges.{SeatState, Exchange, seat_state}
 
 -- if a version was pinned by this answer, it was published with that image in this history
-abbrev pub TellsPublished : KnownHistory → SeatAnswer → Type 0
-TellsPublished known (SeatAnswer.Pinned version image) = IsPublished known version image.value
-TellsPublished known _ = Unit {0}
+abbrev pub PinIsPublished : KnownHistory → SeatAnswer → Type 0
+PinIsPublished known (SeatAnswer.Pinned version image) = IsPublished known version image.value
+PinIsPublished known _ = Unit {0}
 
 -- what is held, if anything, was published as that version with that image in this history
 abbrev pub IsPublishedIfHeld : KnownHistory → Option (ℕ × ImageValue) → Type 0
@@ -27,7 +27,7 @@ IsPublishedIfHeld known held = IfSome held (λ h. IsPublished known h.0 h.1)
 
 -- each version that the seat pinned meanwhile was published, with the image that it was pinned with, in the history that the seat knows then
 abbrev pub Learns : KnownHistory → SeatValue → KnownHistory → SeatValue → Type 0
-Learns known a known_then b = LearnsBy TellsPublished known a.answers known_then b.answers
+Learns known a known_then b = LearnsBy PinIsPublished known a.answers known_then b.answers
 
 -- what every call leaves of a worker's seat: it may still be used at these shelves, it has the same worker's number, and it learned so
 pub record GoesOn {T S N : Type 0} (words : SeatWords T S N) (shelves : T) (a b : S) : Type 0 where
@@ -59,11 +59,11 @@ pub record LeadSeat (form : ReplyForm) (number : ℕ) (a : SeatValue) (exchanges
 
 -- whichever exchanges led the seat from `a` to `b`: if what it held at `a` was published in this history, each profile in them is answered from what
 -- was published in it
-abbrev pub TellPublished : KnownHistory → SeatValue → SeatValue → Type 0
-TellPublished known a b =
+abbrev pub AnswerFromPublished : KnownHistory → SeatValue → SeatValue → Type 0
+AnswerFromPublished known a b =
     IsPublishedIfHeld known a.held → (form : ReplyForm) (number : ℕ) (exchanges : List Exchange) → LeadSeat form number a exchanges b
     → AreFromPublished known form exchanges
 
 -- a seat that learns from `a` to `b` what `Learns` says answers profiles from what was published in the history that it knows at `b`
 abbrev pub LearningTells : Type 0
-LearningTells = (known known_then : KnownHistory) (a b : SeatValue) → Learns known a known_then b → TellPublished known_then a b
+LearningTells = (known known_then : KnownHistory) (a b : SeatValue) → Learns known a known_then b → AnswerFromPublished known_then a b

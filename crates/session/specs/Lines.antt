@@ -3,8 +3,8 @@ use Rattle.std.specs.Prelude.{◌<◌, ◌≤◌, ℕ, Bool, List, length}
 use Rattle.serde_json.specs.Data.{Data}
 use Rattle.timetable.specs.declared.query.QueryFault.{QueryFault}
 use Rattle.timetable.specs.Queries.{numbered_fault}
-use Rattle.epochs.specs.declared.faults.PinFault.{PinFault}
-use Rattle.epochs.specs.FaultNumber.{pin_fault_name, pin_fault_number}
+use Rattle.shelves.specs.declared.faults.PinFault.{PinFault}
+use Rattle.shelves.specs.FaultNumber.{pin_fault_name, pin_fault_number}
 use Rattle.orders.specs.declared.fault.OrderFault.{OrderFault}
 use Rattle.orders.specs.Ordering.{order_fault_name, order_fault_number}
 use Rattle.station_answers.specs.declared.naming.NoQuestion.{NoQuestion}

@@ -3,10 +3,10 @@ use Rattle.std.specs.Prelude.{◌≡◌, ◌≤◌, ℕ, max, List, [], ◌∷�
 use Rattle.std.specs.declared.snapshot.Snapshot.{Snapshot}
 use Rattle.image_layout.specs.Image.{ImageValue}
 use Rattle.shelf_steps.specs.declared.views.KnownHistory.{KnownHistory}
-use Rattle.epochs.specs.declared.seats.SeatAnswer.{SeatAnswer}
-use Rattle.epochs.specs.SeatHistory.{HoldsAsKnown}
+use Rattle.shelves.specs.declared.answers.SeatAnswer.{SeatAnswer}
+use Rattle.shelves.specs.SeatHistory.{HoldsAsKnown}
 use Rattle.session.specs.Replies.{ReplyValue}
-use Rattle.epochs.specs.Seats.{SeatValue, KnowsItsSeats, PinStep, ReleaseStep, JoinStep, pinned}
+use Rattle.shelves.specs.Seats.{SeatValue, KnowsItsSeats, ShowsPin, ShowsRelease, ShowsJoin, pinned}
 
 -- a call is answered, or a notice of this version is joined
 pub data SeatMove : Type 0 where
@@ -22,14 +22,14 @@ HoldsInSomeHistory number held = (known : KnownHistory) × HoldsAsKnown known nu
 abbrev pub AnswerStep : ℕ → SeatValue → SeatAnswer → SeatValue → Type 0
 AnswerStep number a (SeatAnswer.Pinned version image) b =
     (a.held ≡ None) × (a.seen ≤ version) × (b ≡ pinned a version image) × HoldsInSomeHistory number (Some (version, image.value))
-AnswerStep number a (SeatAnswer.PinRefused fault) b = KnowsItsSeats fault × PinStep a (Err fault) b
-AnswerStep number a SeatAnswer.Released b = ReleaseStep a (Ok tt) b
-AnswerStep number a (SeatAnswer.ReleaseRefused fault) b = KnowsItsSeats fault × ReleaseStep a (Err fault) b
+AnswerStep number a (SeatAnswer.PinRefused fault) b = KnowsItsSeats fault × ShowsPin a (Err fault) b
+AnswerStep number a SeatAnswer.Released b = ShowsRelease a (Ok tt) b
+AnswerStep number a (SeatAnswer.ReleaseRefused fault) b = KnowsItsSeats fault × ShowsRelease a (Err fault) b
 
 -- from one value of a worker's seat to the next, by an answer, or by a notice, after which the seat has seen that version
 abbrev pub MoveStep : ℕ → SeatValue → SeatMove → SeatValue → Type 0
 MoveStep number a (answered answer) b = AnswerStep number a answer b
-MoveStep number a (joined version) b = JoinStep a version b
+MoveStep number a (joined version) b = ShowsJoin a version b
 
 -- from one value of a worker's seat to another, by these moves in order
 abbrev pub Follows : ℕ → SeatValue → List SeatMove → SeatValue → Type 0

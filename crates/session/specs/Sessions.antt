@@ -1,8 +1,8 @@
 -- A session: exchanges one after the other, one for each line that was read.
 use Rattle.std.specs.Prelude.{◌≡◌, ◌≢◌, ◌<◌, ◌≤◌, ◌⊎◌, ◌++◌, ◌-◌, ◌∷◌, ℕ, List, [], None, flat_map, length, map, take, Result, Ok, Err}
 use Rattle.std.specs.Io.KnownBytes.{Appends, Consumes, IsAtEnd}
-use Rattle.epochs.specs.declared.seats.SeatAnswer.{SeatAnswer}
-use Rattle.epochs.specs.Seats.{SeatValue}
+use Rattle.shelves.specs.declared.answers.SeatAnswer.{SeatAnswer}
+use Rattle.shelves.specs.Seats.{SeatValue}
 use Rattle.orders.specs.Ordering.{OrderValue}
 use Rattle.lines.specs.LineReads.{written_line}
 use Rattle.lines.specs.Streams.{AreReadWhile, HasFailedBehind, HasFailedToRead, HasRead, HasWritten, StreamWords, all_of, inner_of, notes_of}
@@ -99,8 +99,8 @@ abbrev pub answered_by : Result Ended SessionFault → List Exchange → ℕ
 answered_by (Err SessionFault.WriteFailed) exchanges = length exchanges - 1
 answered_by _ exchanges = length exchanges
 
--- reads were made only while no more than so many whole lines had come. Any write may fail, and a session that ends by that has one reply less: so code that is
--- right with every writer has answered each whole line before it reads on
+-- reads were made only while no more whole lines had come than are answered when the session ends. This binds each read, since any write may be the one that
+-- fails and ends the session: so code that is right with every writer has answered each whole line before it reads on
 abbrev pub AreReadFor : ℕ → List (List ℕ) → Type 0
 AreReadFor answered blocks = AreReadWhile (λ read. length (whole_lines read) ≤ answered) blocks
 

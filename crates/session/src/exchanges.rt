@@ -8,10 +8,10 @@ ghost use Rattle.session.specs.Exchanges.{AgreeOnNotices, Exchange, ExchangeLead
 
 use crate::reply::SessionReply;
 use crate::session_server::SessionServer;
-use epochs::Versions;
 use lines::Line;
 use orders::{Gate, Orders};
 use session_texts::{LineFault, Refusal, Request, RequestFault, read_line, request_of};
+use shelves::Versions;
 
 impl<'a, N: Drop, T: Versions<Notice = N>, G: Gate> SessionServer<'a, T, G> {
     /// Does what a line asks, and makes the reply.

@@ -1,7 +1,7 @@
 //! Laws of sessions. The functions do nothing: their contracts are the laws.
 
 ghost use Rattle.std.specs.Prelude.{◌≡◌, ◌++◌, ℕ, Bool, List};
-ghost use Rattle.epochs.specs.Seats.{SeatValue};
+ghost use Rattle.shelves.specs.Seats.{SeatValue};
 ghost use Rattle.session.specs.Learning.{LearningTells};
 ghost use Rattle.image_layout.specs.Image.{ImageValue};
 ghost use Rattle.session.specs.Lines.{LineMeaning, IsLineMeaning};

@@ -1,7 +1,7 @@
 //! Orders of feeds.
 
 ghost use Rattle.std.specs.Prelude.{◌≡◌, ◌++◌, ◌⊎◌, List, []};
-ghost use Rattle.epochs.specs.Seats.{JoinStep};
+ghost use Rattle.shelves.specs.Seats.{ShowsJoin};
 ghost use Rattle.orders.specs.Ordering.{OrderValue};
 ghost use Rattle.session.specs.Learning.{GoesOn};
 ghost use Rattle.session.specs.Lines.{memory_line};
@@ -10,9 +10,9 @@ ghost use Rattle.session.specs.Exchanges.{AgreeOnNotices, Deed, IsLoaded, OrderI
 
 use crate::reply::SessionReply;
 use crate::session_server::SessionServer;
-use epochs::Versions;
 use orders::Orders;
 use session_texts::{Refusal, load_line, loaded_line};
+use shelves::Versions;
 
 impl<'a, N: Drop, T: Versions<Notice = N>, G> SessionServer<'a, T, G> {
     /// Orders the feed. The reply is made first, so that no order is put for whose reply there is no memory.
@@ -65,7 +65,7 @@ impl<'a, N: Drop, T: Versions<Notice = N>, G> SessionServer<'a, T, G> {
     fn take_notice(&self, seat: &mut T::Seat, notice: N)
         requires { T.words.fits self.now.shelves.now seat.old }
         ensures seat { GoesOn T.words self.now.shelves.now seat.old seat.new }
-        ensures joined { JoinStep (T.words.shown seat.old) (T.words.version notice) (T.words.shown seat.new) }
+        ensures joined { ShowsJoin (T.words.shown seat.old) (T.words.version notice) (T.words.shown seat.new) }
     {
         self.shelves.join(seat, notice);
     }

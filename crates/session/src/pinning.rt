@@ -8,8 +8,8 @@ ghost use Rattle.session.specs.Exchanges.{IsMet, replied_to};
 
 use crate::reply::SessionReply;
 use crate::session_server::SessionServer;
-use epochs::Versions;
 use session_texts::{Refusal, pin_line, release_line};
+use shelves::Versions;
 
 impl<'a, T: Versions, G> SessionServer<'a, T, G> {
     /// Pins the current version, and names it in the reply. If there is no memory for the reply, the version is given

@@ -7,10 +7,10 @@ ghost use Rattle.session.specs.Replies.{line_bytes, plain, reply_value, scan_tex
 
 use crate::reply_log::ReplyLog;
 use arrayvec::ArrayString;
-use epochs::PinFault;
 use orders::OrderFault;
 use profile_scan::ReadLog;
 use session_texts::{Refusal, load_refused_line, moved_line};
+use shelves::PinFault;
 use station_answers::NoQuestion;
 use std::alloc::AllocError;
 use timetable::QueryFault;

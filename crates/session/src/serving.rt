@@ -4,9 +4,9 @@ ghost use Rattle.std.specs.Prelude.{◌≡◌, ◌++◌, ◌∷◌, ℕ, List, [
 ghost use Rattle.std.specs.Io.KnownBytes.{Appends};
 ghost use Rattle.lines.specs.Showing.{ShowsLine};
 ghost use Rattle.lines.specs.Streams.{HasFailed, HasFlushed, inner_of};
-ghost use Rattle.epochs.specs.Seats.{SeatValue};
+ghost use Rattle.shelves.specs.Seats.{SeatValue};
 ghost use Rattle.session.specs.Forms.{bare};
-ghost use Rattle.session.specs.Learning.{GoesOn, TellPublished};
+ghost use Rattle.session.specs.Learning.{GoesOn, AnswerFromPublished};
 ghost use Rattle.session.specs.SeatSteps.{seat_reply};
 ghost use Rattle.session.specs.Sessions.{LastRelease, Serves, replies_of, serve_words, state_of};
 ghost use Rattle.session.specs.Exchanges.{AgreeOnNotices, Exchange, ExchangeLeadsTo, seat_state};
@@ -14,9 +14,9 @@ ghost use Rattle.session.specs.Exchanges.{AgreeOnNotices, Exchange, ExchangeLead
 use crate::fault::{Ended, SessionFault};
 use crate::reply::SessionReply;
 use crate::session_server::{SessionServer, Streams};
-use epochs::Versions;
 use lines::{Counted, Line, LineReader, NextLine, ReadStream, WriteFailed, WriteStream};
 use orders::{Gate, Orders};
+use shelves::Versions;
 use std::alloc::Global;
 
 /// How many requests of a session are answered.
@@ -44,7 +44,7 @@ pub fn serve<
     requires notices { AgreeOnNotices O.notice_version T.words.version }
     ensures seat { GoesOn T.words shelves.now seat.old seat.new }
     ensures route { O.route orders.new ≡ O.route orders.old }
-    ensures profiles { TellPublished (T.words.known seat.new) (T.words.shown seat.old) (T.words.shown seat.new) }
+    ensures profiles { AnswerFromPublished (T.words.known seat.new) (T.words.shown seat.old) (T.words.shown seat.new) }
     ensures released { (T.words.shown seat.new).held ≡ None }
     ensures session { (last : SeatValue) × LastRelease (T.words.number seat.old) last (T.words.shown seat.new)
         × Serves (serve_words bare In.words Out.words) (T.words.number seat.old) result
@@ -71,7 +71,8 @@ impl<'a, N: Drop, T: Versions<Notice = N>, G: Gate> SessionServer<'a, T, G> {
         requires notices { AgreeOnNotices O.notice_version T.words.version }
         ensures seat { GoesOn T.words self.now.shelves.now seat.old seat.new }
         ensures route { O.route orders.new ≡ O.route orders.old }
-        ensures profiles { TellPublished (T.words.known seat.new) (T.words.shown seat.old) (T.words.shown seat.new) }
+        ensures profiles { AnswerFromPublished (T.words.known seat.new) (T.words.shown seat.old)
+            (T.words.shown seat.new) }
         ensures released { (T.words.shown seat.new).held ≡ None }
         ensures session { (last : SeatValue) × LastRelease (T.words.number seat.old) last (T.words.shown seat.new)
             × Serves (serve_words self.now.form In.words Out.words) (T.words.number seat.old) result

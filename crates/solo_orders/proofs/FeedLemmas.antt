@@ -7,12 +7,12 @@ use Rattle.std.proofs.lemmas.Option.{slice_get_read}
 use Rattle.solo_orders.specs.declared.FeedImage.{FeedImage}
 use Rattle.solo_orders.specs.declared.NotLoaded.{NotLoaded}
 use Rattle.solo_orders.specs.Feeds.{IsLoadedAs, IsRefusedSo, Leaves, feeds_state, index_of}
-use Rattle.epochs.specs.declared.seats.LoaderAnswer.{LoaderAnswer}
+use Rattle.shelves.specs.declared.answers.LoaderAnswer.{LoaderAnswer}
 use Rattle.orders.specs.Ordering.{IsNotTaken}
 use Rattle.std.specs.Arc.{arc_value}
-use Rattle.epochs.specs.Seats.{CollectStep, PublishStep, RefuseStep}
-use Rattle.epochs.specs.declared.collected.Collected.{Collected}
-use Rattle.epochs.specs.declared.faults.PublishFault.{PublishFault}
+use Rattle.shelves.specs.Seats.{ShowsCollection, ShowsPublish, ShowsRefusal}
+use Rattle.shelves.specs.declared.collected.Collected.{Collected}
+use Rattle.shelves.specs.declared.faults.PublishFault.{PublishFault}
 
 -- a place that is found is one of the list
 pub is_within : (name : List ℕ) (feeds : List FeedImage) (index : ℕ) → Some index ≡ index_of name feeds → index < length feeds
@@ -33,12 +33,12 @@ leaves name feeds index found others at read gone =
 
 pub loaded_as : (name : List ℕ) (feeds others : List FeedImage) (answers between answers_then : List LoaderAnswer)
     (version : ℕ) (found : FeedImage) (collected : Collected)
-    → Leaves name feeds found others → PublishStep answers (arc_value found.image) version between → CollectStep between collected answers_then
+    → Leaves name feeds found others → ShowsPublish answers (arc_value found.image) version between → ShowsCollection between collected answers_then
     → IsLoadedAs name (feeds_state feeds answers) version (feeds_state others answers_then)
 loaded_as name feeds others answers between answers_then version found collected gone publish collect =
     record { found = found; between = between; collected = collected; leaves = gone; publish = publish; collect = collect }
 
 pub refused_so : (name : List ℕ) (feeds others : List FeedImage) (answers answers_then : List LoaderAnswer) (fault : PublishFault) (found : FeedImage)
-    → Leaves name feeds found others → RefuseStep answers fault answers_then
+    → Leaves name feeds found others → ShowsRefusal answers fault answers_then
     → IsRefusedSo name (feeds_state feeds answers) fault (feeds_state others answers_then)
 refused_so name feeds others answers answers_then fault found gone refused = record { found = found; leaves = gone; refused = refused }

@@ -2,11 +2,11 @@
 use Rattle.std.specs.Prelude.{◌≡◌, ℕ, List, bytes_eq, Option, Some, None, Result, Ok, Err, slice_get, string_bytes}
 use Rattle.std.specs.Arc.{arc_value}
 use Rattle.std.specs.List.{position, remove}
-use Rattle.epochs.specs.declared.collected.Collected.{Collected}
-use Rattle.epochs.specs.declared.faults.PublishFault.{PublishFault}
-use Rattle.epochs.specs.declared.seats.LoaderAnswer.{LoaderAnswer}
-use Rattle.epochs.specs.FaultNumber.{publish_fault_number}
-use Rattle.epochs.specs.Seats.{CollectStep, PublishStep, RefuseStep}
+use Rattle.shelves.specs.declared.collected.Collected.{Collected}
+use Rattle.shelves.specs.declared.faults.PublishFault.{PublishFault}
+use Rattle.shelves.specs.declared.answers.LoaderAnswer.{LoaderAnswer}
+use Rattle.shelves.specs.FaultNumber.{publish_fault_number}
+use Rattle.shelves.specs.Seats.{ShowsCollection, ShowsPublish, ShowsRefusal}
 use Rattle.orders.specs.Ordering.{OrderValue}
 use Rattle.orders.specs.declared.fault.OrderFault.{OrderFault}
 use Rattle.solo_orders.specs.declared.FeedImage.{FeedImage}
@@ -42,14 +42,14 @@ pub record IsLoadedAs (name : List ℕ) (a : FeedsState) (version : ℕ) (b : Fe
   pub between : List LoaderAnswer
   pub collected : Collected
   pub leaves : Leaves name a.feeds found b.feeds
-  pub publish : PublishStep a.answers (arc_value found.image) version between
-  pub collect : CollectStep between collected b.answers
+  pub publish : ShowsPublish a.answers (arc_value found.image) version between
+  pub collect : ShowsCollection between collected b.answers
 
 -- or the publish is refused
 pub record IsRefusedSo (name : List ℕ) (a : FeedsState) (fault : PublishFault) (b : FeedsState) : Type 0 where
   pub found : FeedImage
   pub leaves : Leaves name a.feeds found b.feeds
-  pub refused : RefuseStep a.answers fault b.answers
+  pub refused : ShowsRefusal a.answers fault b.answers
 
 -- or no feed has the name, and nothing changes
 pub record IsUnknown (name : List ℕ) (a b : FeedsState) : Type 0 where

@@ -6,9 +6,9 @@ ghost use Rattle.orders.specs.Ordering.{IsNotTaken, order_value, version_alone, 
 ghost use Rattle.solo_orders.specs.Feeds.{LoadStep, OrderStep, WaitStep, feeds_state, index_of};
 ghost use Rattle.solo_orders.specs.Feeds.{order_answer, wait_answer};
 
-use epochs::{Loads, PublishFault, Versions};
 use image_verifier::Verified;
 use orders::{OrderFault, OrderRecord, Orders};
+use shelves::{Loads, PublishFault, Versions};
 use std::alloc::Global;
 use std::marker::Model;
 use std::sync::Arc;

@@ -1,5 +1,5 @@
 -- The best points of several answers.
-use Rattle.std.proofs.Common.{◌≡◌, ◌⊎◌, ℕ, zero, suc, ◌+◌, ◌<◌, ◌≤◌, Bool, true, false, nat_le, List, [], ◌∷◌, ◌++◌, length, Contains, AllPairs}
+use Rattle.std.proofs.Common.{◌≡◌, ◌⊎◌, ℕ, ◌+◌, ◌<◌, ◌≤◌, Bool, true, false, nat_le, List, [], ◌∷◌, ◌++◌, length, Contains, AllPairs}
 use Rattle.std.proofs.Common.{slice_get, Some}
 use Rattle.std.proofs.Common.{get_or, refl, sym, ◌∙◌, ap, subst, inl, inr, arith, append-nil, append_assoc}
 use Rattle.std.proofs.lemmas.Bool.{cases_Bool, cases_lt, leb-true, and_parts, true≢false}
@@ -7,14 +7,14 @@ use Rattle.std.proofs.lemmas.Option.{get_or_from_slice_get, same_Some, slice_get
 use Rattle.reasoning.specs.Lists.{Extends}
 use Rattle.reasoning.proofs.ListLemmas.{slice_get-append, slice_get-last, at_contains, contains_at}
 use Rattle.criteria.specs.Laws.{Rules, Laws, Admits, NoWorse}
-use Rattle.bags.specs.Bag.{criterion_of, points_of}
+use Rattle.bags.specs.Bag.{points_of}
 use Rattle.bags.specs.Dominance.{IsBag, Inserted, Stands, dominates, Dominates}
 use Rattle.bags.specs.declared.point.Point.{Point}
 use Rattle.timetable.specs.TimetableValue.{TimetableValue}
 use Rattle.timetable.specs.declared.query.Query.{Query}
 use Rattle.timetable.specs.JourneyValue.{JourneyValue}
 use Rattle.timetable.specs.Journeys.{Counts}
-use Rattle.profile_scan.specs.SetQuery.{SetQueryValue, IsAnswerBetween, IsPointBetween, Pair, single_set_query, pair_of, query_of_pair}
+use Rattle.profile_scan.specs.SetQuery.{SetQueryValue, IsAnswerBetween, IsPointBetween, single_set_query, pair_of, query_of_pair}
 use Rattle.profile_scan.specs.Destinations.{query_from}
 use Rattle.profile_scan.specs.declared.destination.Destination.{Destination}
 use Rattle.profile_scan.specs.Found.{Answers, listed}
@@ -136,13 +136,6 @@ merges_one {V} rules laws points number n p tag stands was was_origins old origi
       pushed ∙ (ap (λ (os : List PointSource). os ++ record { found = number; index = n } ∷ []) more.1
           ∙ append_assoc was_origins more.0 (record { found = number; index = n } ∷ [])),
     )
-
--- what is behind a list, or in it
-pushed_cases : {X : Type 0} (xs : List X) (x : X) (k : ℕ) (y : X) → slice_get (xs ++ x ∷ []) k ≡ Some y → (slice_get xs k ≡ Some y) ⊎ (x ≡ y)
-pushed_cases [] x zero y e = inr (same_Some x y e)
-pushed_cases [] x (suc k) y e = inl e
-pushed_cases (z ∷ xs) x zero y e = inl e
-pushed_cases (z ∷ xs) x (suc k) y e = pushed_cases xs x k y e
 
 -- a journey of the point that an answer has is one of the point that is kept
 pub attained_between : {K V : Type 0} {c : _} (rules_of : K → Rules V) (criterion : K) (t : TimetableValue) (b : SetQueryValue) (merged : MergedAnswers K V c)

@@ -1,13 +1,10 @@
 -- Which connections several scans read.
-use Rattle.std.proofs.Common.{◌≡◌, ◌≢◌, ℕ, suc, ◌+◌, ◌<◌, ◌≤◌, List, [], ◌∷◌, ◌++◌, length, reverse, take, refl, sym, ◌∙◌, ap, arith}
+use Rattle.std.proofs.Common.{◌≡◌, ℕ, suc, ◌+◌, ◌<◌, List, ◌++◌, length, reverse, take, sym, ◌∙◌, ap, arith}
 use Rattle.std.proofs.Common.{append_assoc, append-nil}
 use Rattle.timetable.specs.TimetableValue.{TimetableValue}
 use Rattle.profile_scan.proofs.LogLemmas.{taken_all}
 use Rattle.profile_scan.specs.SetQuery.{SetQueryValue}
 use Rattle.station_answers.specs.Reading.{ReadsPart, ReadsWindow, repeated, window_between}
-
-pub none_read : (log read : List ℕ) → log ≡ log ++ repeated 0 read
-none_read log read = sym (append-nil log)
 
 pub one_scan_more : (log read now new : List ℕ) (n : ℕ) → now ≡ log ++ repeated n read → new ≡ now ++ read → new ≡ log ++ repeated (n + 1) read
 one_scan_more log read now new n was more =

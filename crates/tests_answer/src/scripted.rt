@@ -4,9 +4,9 @@ ghost use Rattle.std.specs.Prelude.{◌≡◌};
 
 use crate::sessions::{Solo, feed_of, image, solo_of, talked};
 use crate::streams::{Pieces, Taker, taker_of};
-use epochs::{Loads, NamedNotice, ShelvesName, SoloShelves};
 use orders::{Gate, OrderFault, OrderRecord, Orders};
 use session::{Ended, OpenGate, SessionFault, SessionServer, Streams};
+use shelves::{Loads, NamedNotice, ShelvesName, SoloShelves};
 use solo_orders::FeedImage;
 use std::alloc::{AllocError, Global};
 use std::io;

@@ -5,11 +5,11 @@ mod cuts;
 ghost use Rattle.std.specs.Prelude.{◌≡◌, IfOk, Ok};
 
 use crate::streams::{Answers, Asker, Endless, Pieces, Taker, failing_at, taker_of, whole};
-use epochs::{ShelfLoader, ShelfSeat, Shelves, ShelvesName, SoloShelves};
 use image_layout::sample_words;
 use image_verifier::{Verified, verify};
 use orders::{Gate, OrderFault, OrderRecord, Orders};
 use session::{Counted, Ended, OpenGate, SessionFault, SessionServer, Streams, serve};
+use shelves::{ShelfLoader, ShelfSeat, Shelves, ShelvesName, SoloShelves};
 use solo_orders::{FeedImage, SoloOrders};
 use std::alloc::{AllocError, Global};
 use std::cell::Cell;

@@ -1,8 +1,8 @@
-//! `machine` tests `version_core`, `steps` and `plain_store` test `shelf_steps`, and `shelves` tests `epochs`. `images`
-//! has the images that they publish.
+//! `machine` tests `version_core`, `steps` and `plain_store` test `shelf_steps`, and `on_shelves` tests `shelves` and
+//! `epochs`. `images` has the images that they publish.
 
 mod images;
 mod machine;
+mod on_shelves;
 mod plain_store;
-mod shelves;
 mod steps;

@@ -3,10 +3,10 @@
 ghost use Rattle.std.specs.Prelude.{◌≡◌, []};
 ghost use Rattle.load_orders.specs.Answering.{AllAnswered};
 
-use epochs::{Edition, PinFault, SeatAnswer, Versions};
 use load_orders::{
     LoadAnswer, LoaderOrders, OrderFault, OrderKeeper, Orders, WorkerOrders, order_queue,
 };
+use shelves::{Edition, PinFault, SeatAnswer, Versions};
 use std::alloc::{AllocError, Global};
 use std::marker::Model;
 use std::process::Abort;
@@ -293,7 +293,7 @@ fn play_at_new_ends<R: Wait + Abort>(
     Ok(())
 }
 
-/// What a client that waits for the feed `fast` is told if the loader answers this, and which feed the loader was told.
+/// What a client that waits for the feed `fast` gets if the loader answers this, and which feed the loader was given.
 fn reported<R: Threads + Wait + Sync>(
     rt: &R,
     worker: &mut Worker<'_, R>,
@@ -307,7 +307,7 @@ fn reported<R: Threads + Wait + Sync>(
     )
 }
 
-/// Asserts what is told about the load if the loader answers this, and that the loader was told of the feed `fast`.
+/// Asserts what that client gets if the loader answers this, and that the loader was given the feed `fast`.
 fn tells<'a, R: Threads + Wait + Sync + Abort>(
     alloc: Global,
     names: &'a [String],
@@ -346,7 +346,7 @@ fn each_answer<R: Threads + Wait + Sync + Abort>(
     tells(alloc, names, &shelves, None, Err(OrderFault::LoaderGone))
 }
 
-/// Each answer of the loader reaches the client that waits for it; if there is none, the client is told that the loader
+/// Each answer of the loader reaches the client that waits for it; if there is none, it is reported that the loader
 /// is gone.
 #[test]
 fn answers_are_reported(rt: HostRuntime) -> Result<(), Fail> {

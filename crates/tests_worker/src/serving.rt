@@ -7,10 +7,9 @@ mod spending;
 
 ghost use Rattle.std.specs.Prelude.{◌≡◌, ◌≤◌, [], All, length, IfOk, MatchOption};
 ghost use Rattle.workers.specs.Sessions.{MayClose};
-ghost use Rattle.epochs.specs.ShelfWords.{shelf_seats};
+ghost use Rattle.shelves.specs.ShelfWords.{shelf_seats};
 ghost use Rattle.workers.specs.Words.{sessions_of};
 
-use epochs::{PublishFault, ShelfLoader, ShelfSeat, Shelves, ShelvesName};
 use feed_files::{FeedFiles, MemoryFiles};
 use feed_loader::Plan;
 use gtfs_tables::Day;
@@ -19,6 +18,7 @@ use image_verifier::verify;
 use load_orders::GhostList;
 use orders::{Gate, OpenGate};
 use service_days::Zone;
+use shelves::{PublishFault, ShelfLoader, ShelfSeat, Shelves, ShelvesName};
 use std::alloc::{AllocError, Global};
 use std::io::Write;
 use std::marker::Brand;
@@ -468,7 +468,7 @@ fn legs_are_replied(rt: HostRuntime) -> Result<(), Fail> {
     Ok(())
 }
 
-/// A client that waits for a load is told its version, and pins it; or it is told the number with which the load was
+/// A client that waits for a load gets its version, and pins it; or it gets the number with which the load was
 /// refused.
 #[test]
 fn loads_are_waited_for(rt: HostRuntime) -> Result<(), Fail> {

@@ -2,10 +2,10 @@
 use Rattle.std.proofs.Common.{◌≡◌, ◌∷◌, ℕ, List, [], Option, Some, None, sym, subst}
 use Rattle.image_layout.specs.Image.{ImageValue}
 use Rattle.shelf_steps.specs.declared.views.KnownHistory.{KnownHistory}
-use Rattle.session.specs.Learning.{IsPublishedIfHeld, Learns, TellPublished, TellsPublished}
+use Rattle.session.specs.Learning.{IsPublishedIfHeld, Learns, AnswerFromPublished, PinIsPublished}
 use Rattle.session.specs.Exchanges.{seat_state}
 use Rattle.session.specs.declared.session_server.Streams.{Streams}
-use Rattle.epochs.proofs.GrowthLemmas.{learns_nothing}
+use Rattle.shelves.proofs.GrowthLemmas.{learns_nothing}
 use Rattle.session.proofs.LearnLemmas.{learning_tells, learns_on, learns_same}
 use Rattle.workers.specs.Ends.{Session}
 use Rattle.workers.specs.Sessions.{AreExact, AreServed, IsExact, IsServed, WorkerState, served_client_of}
@@ -28,7 +28,7 @@ module _ {C R W T S N : Type 0} (words : SessionWords C R W T S N) where
   -- a session at a seat that held nothing, which tells what this history published
   exact_one : (history : KnownHistory) (client : C) (now : Option (Streams R W S)) (end : SessionEnd) (a m : WorkerState S)
       → (words.seats.shown a.seat).held ≡ None → IsServed words client (now, end) a m
-      → TellPublished history (words.seats.shown a.seat) (words.seats.shown m.seat)
+      → AnswerFromPublished history (words.seats.shown a.seat) (words.seats.shown m.seat)
       → IsExact words history (served_client_of client (now, end)) a m
   exact_one history client None end a m none served tells = served
   exact_one history client (Some now) end a m none served tells =
@@ -48,7 +48,7 @@ module _ {C R W T S N : Type 0} (words : SessionWords C R W T S N) where
       let rest = knows_more clients sessions m b served.2 in
       let known = words.seats.known in
       let learns = learns_on (known a.seat) (words.seats.shown a.seat) (known m.seat) (words.seats.shown m.seat)
-      (known b.seat) (words.seats.shown m.seat) at.learns (learns_nothing TellsPublished (known m.seat) (known b.seat) _ rest.grows) in
+      (known b.seat) (words.seats.shown m.seat) at.learns (learns_nothing PinIsPublished (known m.seat) (known b.seat) _ rest.grows) in
       let tells = learning_tells (known a.seat) (known b.seat) (words.seats.shown a.seat) (words.seats.shown m.seat) learns in (
         m,
         exact_one (known b.seat) client session.0 session.1 a m none at.served tells,

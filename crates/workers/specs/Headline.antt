@@ -1,23 +1,21 @@
 -- What a server did, from what it was started with to what is left.
-use Rattle.std.specs.Prelude.{◌≡◌, ◌≤◌, ℕ, Some, List, All, length}
+use Rattle.std.specs.Prelude.{◌≡◌, ◌≤◌, ℕ, List, All, length}
 use mathlib.Core.Option.{some}
 use lib.ListN.{get_elem?}
 use Rattle.atomic_table.specs.Seated.{TableId}
-use Rattle.epochs.specs.Pinned.{IsLeftAlone}
-use Rattle.epochs.specs.SeatHistory.{Grows}
-use Rattle.epochs.specs.ShelfLoads.{ShelfLoaderValue}
-use Rattle.epochs.specs.ShelfSeats.{NoticeValue, ShelfSeatValue, ShowsWhatItKnows}
-use Rattle.epochs.specs.ShelfWords.{shelf_loader, shelf_seats}
-use Rattle.epochs.specs.Words.{LoaderWords, SeatWords}
+use Rattle.shelves.specs.Pinned.{PinnedIsLeftAlone}
+use Rattle.shelves.specs.SeatHistory.{Grows}
+use Rattle.shelves.specs.ShelfLoads.{ShelfLoaderValue}
+use Rattle.shelves.specs.ShelfSeats.{NoticeValue, ShelfSeatValue}
+use Rattle.shelves.specs.ShelfWords.{shelf_loader, shelf_seats}
+use Rattle.shelves.specs.Words.{LoaderWords, SeatWords}
 use Rattle.shelf_steps.specs.EventHistory.{all_of}
 use Rattle.shelf_steps.specs.Events.{known_of}
-use Rattle.image_layout.specs.Image.{ImageValue}
-use Rattle.shelf_steps.specs.Laws.{IsLoader, Shelved}
+use Rattle.shelf_steps.specs.Laws.{Shelved}
 use Rattle.shelf_steps.specs.Rule.{KeepsRule}
-use Rattle.shelf_steps.specs.declared.views.LoaderView.{LoaderView}
 use Rattle.client_queue.specs.Dealing.{IsExhausted, SourceWords}
-use Rattle.ordered_loads.specs.Carrying.{AreLoaded, load_input_of, loads_value}
-use Rattle.ordered_loads.specs.Words.{FeedWords, LoadWords}
+use Rattle.feed_loads.specs.Carrying.{AreLoaded, load_input_of, loads_value}
+use Rattle.feed_loads.specs.Words.{FeedWords, LoadWords}
 use Rattle.workers.specs.Ordering.{AreAllTaken, route_to}
 use Rattle.workers.specs.Sessions.{AreServedSince, worker_starts, work_of}
 use Rattle.workers.specs.Words.{SessionWords}
@@ -68,14 +66,11 @@ KnowOneHistory loader seat =
     (table : Shelved) (i j : ℕ) (r : KeepsRule table) → get_elem? table.views i ≡ some seat.view → get_elem? table.views j ≡ some loader.view
     → Grows (known_of seat.view) (all_of r.history) × Grows (known_of loader.view) (all_of r.history)
 
--- while a seat of these shelves shows that it holds a version, that version is left alone, at each moment between two steps of any seats. This binds
--- every body: whatever workers and the loader do, a table of shelves changes by steps of its seats alone, and each step keeps the rule that `r` stands
--- for; so `table` is whatever a run of these shelves can come to, and there is no way to free what this law leaves alone
+-- while a seat of these shelves shows that it holds a version, that version is left alone, in any table that keeps the rule: `shelves` only narrows the
+-- seats. This binds every body: whatever workers and the loader do, a table of shelves changes by steps of its seats alone, and each step keeps the
+-- rule; so the law is about whatever a run of these shelves can come to, and there is no way to free what it leaves alone
 abbrev pub PinnedAreLeftAloneAt : TableId → Type 0
-PinnedAreLeftAloneAt shelves =
-    (seat : ShelfSeatValue) (version : ℕ) (image : ImageValue) (table : Shelved) (l : LoaderView) (i : ℕ) (r : KeepsRule table)
-    → seat.table ≡ shelves → ShowsWhatItKnows seat → seat.shown.held ≡ Some (version, image)
-    → IsLoader table l → get_elem? table.views i ≡ some seat.view → IsLeftAlone seat version image table l r
+PinnedAreLeftAloneAt shelves = (seat : ShelfSeatValue) → seat.table ≡ shelves → PinnedIsLeftAlone seat
 
 -- as `IsLeft`, at shelves without a lock; and the histories by which the sessions' profiles are exact and that of what the loader published are one
 abbrev pub IsLeftAt : {C R W K F D : Type 0} → SourceWords K C → ServerInput K TableId ShelfSeatValue ShelfLoaderValue F

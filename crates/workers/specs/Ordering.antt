@@ -3,12 +3,12 @@ use Rattle.std.specs.Prelude.{◌≡◌, ℕ, List, String, IsPermutation, flat_
 use Rattle.std.specs.Global.{Global}
 use Rattle.handoff.specs.Queue.{IsQueue}
 use Rattle.load_orders.specs.Asking.{HasAsked, OrderRoute, WorkerOrdersValue, route_of}
-use Rattle.load_orders.specs.Keeping.{QueueId}
+use Rattle.load_orders.specs.Keeping.{OrderQueueId}
 use Rattle.load_orders.specs.Answering.{LoaderOrdersValue}
 use Rattle.load_orders.specs.declared.queue.Order.{Order}
 
 -- orders of feeds of these names, by this queue
-abbrev pub route_to : {N : Type 0} → List (String Global) → QueueId N → OrderRoute N
+abbrev pub route_to : {N : Type 0} → List (String Global) → OrderQueueId N → OrderRoute N
 route_to names queue = record { names = map string_bytes names; queue = queue }
 
 -- a worker's orders go this way, and each order that was asked for did at this queue what its answer says

@@ -1,10 +1,10 @@
 -- Where the workers of a server work, and what they return.
 use Rattle.std.specs.Prelude.{◌≡◌, ◌++◌, ◌∷◌, ℕ, List, [], All, length, true}
 use Rattle.client_queue.specs.Ends.{DealerValue, nothing_put, with_back}
-use Rattle.handoff.specs.Ends.{QueueId as ClientQueueId, TakerValue}
+use Rattle.handoff.specs.Ends.{QueueId, TakerValue}
 use Rattle.load_orders.specs.Asking.{OrderRoute}
-use Rattle.load_orders.specs.Keeping.{KeeperValue, QueueId, with_orders}
-use Rattle.ordered_loads.specs.Words.{FeedWords}
+use Rattle.load_orders.specs.Keeping.{KeeperValue, OrderQueueId, with_orders}
+use Rattle.feed_loads.specs.Words.{FeedWords}
 use Rattle.session.specs.declared.reply_form.ReplyForm.{ReplyForm}
 use Rattle.workers.specs.Ordering.{put_by, route_to}
 use Rattle.workers.specs.Sessions.{HaveAllServed, IsShare, ShareValue, WorkValue, WorkerStart, worker_start}
@@ -15,11 +15,11 @@ use Rattle.workers.specs.Words.{SessionWords}
 pub record PlaceValue (T C N F : Type 0) : Type 0 where
   pub shelves : T
   pub form : ReplyForm
-  pub clients : ClientQueueId C
+  pub clients : QueueId C
   pub feeds : F
-  pub orders : QueueId N
+  pub orders : OrderQueueId N
 
-abbrev pub place_of : {T C N F : Type 0} → T → ReplyForm → ClientQueueId C → F → QueueId N → PlaceValue T C N F
+abbrev pub place_of : {T C N F : Type 0} → T → ReplyForm → QueueId C → F → OrderQueueId N → PlaceValue T C N F
 place_of shelves form clients feeds orders = record { shelves = shelves; form = form; clients = clients; feeds = feeds; orders = orders }
 
 -- one worker's post: its seat at that place

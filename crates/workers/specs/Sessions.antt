@@ -1,12 +1,12 @@
 -- What clients' sessions do.
 use Rattle.std.specs.Prelude.{◌≡◌, ◌++◌, ◌∷◌, Some, None, List, [], All, Result, Ok, Err, IsPermutation, MatchOption, flat_map, map}
-use Rattle.epochs.specs.Seats.{SeatValue}
+use Rattle.shelves.specs.Seats.{SeatValue}
 use Rattle.handoff.specs.Ends.{QueueId, TakerValue}
 use Rattle.lines.specs.Streams.{inner_of}
 use Rattle.load_orders.specs.Asking.{OrderRoute, WorkerOrdersValue}
 use Rattle.orders.specs.Ordering.{OrderValue}
 use Rattle.shelf_steps.specs.declared.views.KnownHistory.{KnownHistory}
-use Rattle.session.specs.Learning.{AreFromPublished, Learns, TellPublished}
+use Rattle.session.specs.Learning.{AreFromPublished, Learns, AnswerFromPublished}
 use Rattle.session.specs.declared.fault.Ended.{Ended}
 use Rattle.session.specs.declared.fault.SessionFault.{SessionFault}
 use Rattle.session.specs.Sessions.{LastRelease, Serves, serve_words, state_of}
@@ -106,8 +106,8 @@ module _ {C R W T S N : Type 0} (words : SessionWords C R W T S N) where
   AreExact _ _ a b = ⊥
 
   -- the seat holds no version
-  abbrev pub IsIdle : S → Type 0
-  IsIdle seat = (words.seats.shown seat).held ≡ None
+  abbrev pub HoldsNothing : S → Type 0
+  HoldsNothing seat = (words.seats.shown seat).held ≡ None
 
   -- a client is served at this seat, which learns meanwhile: each profile is answered over the image that the history published as its version, and
   -- the seat holds nothing then if it held nothing
@@ -115,8 +115,8 @@ module _ {C R W T S N : Type 0} (words : SessionWords C R W T S N) where
     pub served : IsServed client session a b
     pub number : words.seats.number b.seat ≡ words.seats.number a.seat
     pub learns : Learns (words.seats.known a.seat) (words.seats.shown a.seat) (words.seats.known b.seat) (words.seats.shown b.seat)
-    pub profiles : TellPublished (words.seats.known b.seat) (words.seats.shown a.seat) (words.seats.shown b.seat)
-    pub idle : IsIdle a.seat → IsIdle b.seat
+    pub profiles : AnswerFromPublished (words.seats.known b.seat) (words.seats.shown a.seat) (words.seats.shown b.seat)
+    pub idle : HoldsNothing a.seat → HoldsNothing b.seat
 
   -- the clients are served at this seat one after the other, each in one of these sessions
   abbrev pub AreServed : List C → List (Session R W S) → WorkerState S → WorkerState S → Type 0
@@ -161,13 +161,13 @@ module _ {C R W T S N : Type 0} (words : SessionWords C R W T S N) where
     pub fits : words.seats.fits shelves b.seat
     pub queue_is : share.0.queue ≡ queue
     pub served : AreServed share.0.taken share.1 a b
-    pub exact : IsIdle a.seat → AreExact share.0.taken share.1 a b
+    pub exact : HoldsNothing a.seat → AreExact share.0.taken share.1 a b
 
   -- a worker's share: the sessions are those of these clients at its seat, and each profile in them is answered exactly, if the seat was idle at first,
   -- as new seats are. All that was ordered in them was asked of these orders, which go the way of this post
   pub record IsShare (start : WorkerStart S N) (clients : List C) (share : ShareValue R W S N) : Type 0 where
     pub served : AreServed clients share.sessions (worker_state start.seat []) (worker_state share.seat share.orders.asked)
-    pub exact : IsIdle start.seat → AreExact clients share.sessions (worker_state start.seat []) (worker_state share.seat share.orders.asked)
+    pub exact : HoldsNothing start.seat → AreExact clients share.sessions (worker_state start.seat []) (worker_state share.seat share.orders.asked)
     pub asked : IsAskedBy words.seats.version start.route share.orders
 
   -- each worker at one of these posts got one hand of the clients, and this is its share

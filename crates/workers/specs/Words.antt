@@ -1,6 +1,6 @@
 -- What contracts say of clients and of their sessions: one record of words for each.
 use Rattle.std.specs.Prelude.{Result}
-use Rattle.epochs.specs.Words.{SeatWords}
+use Rattle.shelves.specs.Words.{SeatWords}
 use Rattle.lines.specs.Streams.{StreamWords}
 use Rattle.session.specs.declared.reply_form.ReplyForm.{ReplyForm}
 use Rattle.workers.specs.declared.clients.ConnFault.{ConnFault}

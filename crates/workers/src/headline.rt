@@ -4,21 +4,21 @@ ghost use Rattle.std.specs.Prelude.{◌≡◌, All, IfOk, MatchResult};
 ghost use Rattle.workers.specs.Headline.{AllLoaded, AllServed, AreReadyAt, IsLeftAt, IsUnserved, KnowOneHistory};
 ghost use Rattle.workers.specs.Headline.{PinnedAreLeftAloneAt, server_input_of};
 ghost use Rattle.workers.specs.Sessions.{MayClose};
-ghost use Rattle.epochs.specs.ShelfWords.{shelf_loader, shelf_seats};
-ghost use Rattle.ordered_loads.specs.Words.{loads_of, outcomes_of};
+ghost use Rattle.shelves.specs.ShelfWords.{shelf_loader, shelf_seats};
+ghost use Rattle.feed_loads.specs.Words.{loads_of, outcomes_of};
 ghost use Rattle.workers.specs.Words.{sessions_of};
 
 use crate::clients::Client;
 use crate::outcome::ServingOutcome;
 use crate::running::{WorkersFault, run_workers};
 use client_queue::Clients;
-use epochs::laws::{pinned_images_are_left_alone, seats_know_one_history};
-use epochs::{
-    NamedLoader, NamedNotice, NamedSeat, NamedShelves, ShelfLoader, ShelfSeat, Shelves, ShelvesName,
-};
-use ordered_loads::Feeds;
+use feed_loads::Feeds;
 use orders::Gate;
 use session::ReplyForm;
+use shelves::laws::{pinned_images_are_left_alone, seats_know_one_history};
+use shelves::{
+    NamedLoader, NamedNotice, NamedSeat, NamedShelves, ShelfLoader, ShelfSeat, Shelves, ShelvesName,
+};
 use std::alloc::{AllocError, Global};
 use std::io::Write;
 use std::sync::Wait;
@@ -26,16 +26,14 @@ use std::thread::Threads;
 
 /// Serves all clients and loads the feeds that they order, as [`run_workers`] does, at shelves without a lock.
 ///
-/// This contract is the headline of the program. Each clause is one name of `specs/Headline.antt`, `Sessions` or
-/// `epochs`:
+/// This contract is the headline of the program. Each clause is one name of `specs/Headline.antt` or `Sessions`:
 ///
 /// - `ready`: 1 to 16 seats and the loader's are of these shelves.
-/// - `closes`: a client's reader and writer may be closed after whatever sessions are served from the first on at one
-///   of these seats, as those of a session that ended as the last one did. A reader or writer can't be dropped, so
-///   each is closed in the end.
+/// - `closes`: a client's reader and writer may be closed in any state in which a session at one of these seats may
+///   leave them, with that session's end. A reader or writer can't be dropped, so each is closed in the end.
 /// - `left`: no further client comes, and what held of their source holds still; the seats are of these shelves. In
-///   any one state of the table in which the loader and a seat stand, the histories that `loaded` and `served` speak of
-///   are beginnings of one. After an `Err`, either no client was taken from the source, or no further one comes; of
+///   any one state of the table that has the loader and a seat, the histories that `loaded` and `served` speak of are
+///   beginnings of one. After an `Err`, either no client was taken from the source, or no further one comes; of
 ///   sessions nothing is said then.
 /// - `served`: each client who came was dealt to exactly one worker and had one session at its seat, unless it couldn't
 ///   be opened. Each line that was read has its reply, up to where the session ended. Each profile is answered exactly,

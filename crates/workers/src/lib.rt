@@ -12,9 +12,9 @@ mod shares;
 
 pub use client_queue::Clients;
 pub use clients::{Client, ConnFault};
+pub use feed_loads::{DrawnFiles, Feeds, LoadRefusal, LoadedVersion, UsedFiles, load_one};
 pub use headline::run_shelves;
 pub use load_orders::{DrawPermit, UsedLoader};
-pub use ordered_loads::{DrawnFiles, Feeds, LoadRefusal, LoadedVersion, UsedFiles, load_one};
 pub use outcome::ServingOutcome;
 pub use running::{WorkersFault, run_workers};
 pub use served::{Served, SessionEnd};

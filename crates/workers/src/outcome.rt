@@ -1,8 +1,8 @@
 //! What is left of a server.
 
 use crate::served::Served;
+use feed_loads::UsedFiles;
 use load_orders::{GhostList, UsedLoader, UsedOrders};
-use ordered_loads::UsedFiles;
 
 /// What is left once all clients were served.
 #[derive(Drop)]

@@ -9,9 +9,9 @@ use crate::clients::{Client, ConnFault};
 use crate::served::{Served, SessionEnd, close_client, end_of};
 use crate::shares::Share;
 use client_queue::Taker;
-use epochs::Versions;
 use orders::{Gate, Orders};
 use session::{SessionServer, Streams};
+use shelves::Versions;
 use std::sync::Wait;
 
 /// A worker, who serves clients.

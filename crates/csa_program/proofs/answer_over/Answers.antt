@@ -1,6 +1,7 @@
 use Rattle.std.proofs.Common.{ℕ, List, rules, subst}
 use Rattle.image_files.specs.Held.{HoldsOfBytes, IsUnreadable}
-use Rattle.image_commands.specs.Commands.{PrintsAsked, path_of}
+use Rattle.command_requests.specs.Paths.{path_of}
+use Rattle.image_commands.specs.Commands.{PrintsAsked}
 use Rattle.command_endings.specs.Ending.{IsOutcome, PrintsRefusal}
 use Rattle.image_commands.specs.Opening.{IsRefusedImage, SpellsImage}
 use Rattle.csa_program.proofs.OverImages.{over_image, over_none}
@@ -10,7 +11,7 @@ pub returns-in-Ok : goal.returns-in-Ok
 returns-in-Ok g c =
     let may_hold = g.H.ImageDisk.may_hold c.args.rt.now in
     let disk = g.H.OutDisk.files c.args.rt.now in
-    let asked = c.args.asked in
+    let asked = c.args.asked.now in
     let input = g.I.Read.remaining c.args.input.now in
     let image = c.in-Ok.image in
     let held : HoldsOfBytes may_hold (path_of asked) input (SpellsImage image) = search rules in
@@ -20,7 +21,7 @@ pub returns-in-Err : goal.returns-in-Err
 returns-in-Err g c =
     let may_hold = g.H.ImageDisk.may_hold c.args.rt.now in
     let disk = g.H.OutDisk.files c.args.rt.now in
-    let asked = c.args.asked in
+    let asked = c.args.asked.now in
     let input = g.I.Read.remaining c.args.input.now in
     let before = g.O.Write.contents c.args.output.now in
     let after = g.O.Write.contents c.open_image.new.output in

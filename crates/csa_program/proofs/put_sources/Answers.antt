@@ -4,9 +4,10 @@ use Rattle.std.specs.declared.io.ErrorKind.{ErrorKind}
 use Rattle.command_requests.specs.declared.statuses.TheConstants.{ACCEPTED, INPUT_OUTPUT}
 use Rattle.command_endings.specs.Ending.{IsDone}
 use Rattle.command_endings.proofs.Outcomes.{fault_of_text}
+use Rattle.image_files.proofs.Appended.{begun_after}
 use Rattle.image_files.specs.Watching.{HasFault}
 use Rattle.std.proofs.KnownBytes.{Appends-trans}
-use Rattle.csa_program.proofs.TextEnds.{begun_first, begun_then, text_told_behind}
+use Rattle.csa_program.proofs.TextEnds.{begun_first, text_told_behind}
 use Rattle.csa_program.proofs.put_sources.Goals as goal
 
 -- a part that wasn't printed left a fault
@@ -30,7 +31,7 @@ returns-then-write_text-ne-ACCEPTED-2 g c =
     inr (
       refl,
       faulty c.write_text-2.result _ _ _ _ c.write_text-2.ensures.status c.if-write_text-ne-ACCEPTED-2.true c.write_text-2.ensures.failed,
-      begun_first _ _ _ (codes "\n") (begun_then _ _ _ (codes "sources ") c.args.sources.now head c.write_text-2.ensures.begun),
+      begun_first _ _ _ (codes "\n") (begun_after _ _ _ (codes "sources ") c.args.sources.now head c.write_text-2.ensures.begun),
     )
 
 pub returns : goal.returns

@@ -131,7 +131,7 @@ helps
 run serve --help
 helps
 run --version
-answers csa 1.16.0
+answers csa 1.17.0
 
 # Days, dates and zones of a wrong form.
 run build no_such_feed none.csa --first 20240115 --days 0 --zone fixed:0

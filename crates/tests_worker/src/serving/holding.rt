@@ -4,11 +4,11 @@
 ghost use Rattle.std.specs.Prelude.{◌≡◌, All, IfOk};
 
 use super::{EndCounts, Manner, Row, Shared, Visitor, count_ends, visitor_of};
-use epochs::{ShelfLoader, ShelfSeat, Shelves};
 use image_layout::sample_words;
 use image_verifier::{Verified, verify};
 use load_orders::GhostList;
 use orders::OpenGate;
+use shelves::{ShelfLoader, ShelfSeat, Shelves};
 use std::alloc::{AllocError, Global};
 use std::marker::Brand;
 use std::process::Abort;

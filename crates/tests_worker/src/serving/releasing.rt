@@ -3,9 +3,9 @@
 ghost use Rattle.std.specs.Prelude.{◌≡◌};
 
 use super::holding::{Stage, stage_of};
-use epochs::{ShelfLoader, ShelfSeat, Shelves, ShelvesName, SoloShelves};
 use orders::Gate;
 use session::{SessionServer, Streams};
+use shelves::{ShelfLoader, ShelfSeat, Shelves, ShelvesName, SoloShelves};
 use solo_orders::SoloOrders;
 use std::alloc::{AllocError, Global};
 use std::io;

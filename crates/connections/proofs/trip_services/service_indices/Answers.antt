@@ -1,9 +1,10 @@
-use Rattle.std.proofs.Common.{◌+◌, ◌∙◌, ap, length, subst, List}
+use Rattle.std.proofs.Common.{◌≡◌, ◌+◌, ◌∙◌, ap, length, subst, List, string_bytes}
 use Rattle.std.proofs.lemmas.List.{length_push, take_all}
 use Rattle.gtfs_tables.specs.declared.tables.Trip.{Trip}
 use Rattle.service_days.specs.Named.{names_of}
-use Rattle.connections.specs.Active.{AreNamed}
-use Rattle.connections.proofs.ActiveSteps.{named_more}
+use Rattle.gtfs_rows.specs.Ids.{seen_also}
+use Rattle.connections.specs.Active.{AreNamed, names_also}
+use Rattle.connections.proofs.ActiveSteps.{named_more, names_more}
 use Rattle.connections.proofs.trip_services.service_indices.Goals as goal
 
 pub loop-trip-preserved : goal.loop-trip-preserved
@@ -14,7 +15,14 @@ loop-trip-preserved c =
       named = named_more (names_of c.loop-trip.named) (names_of c.index_of.new.self) c.args.trips.now c.loop-trip.trip-index c.trip-item.result
           c.loop-trip.indices.items c.push.new.self.items c.in_ok-index.index c.loop-trip-test.true c.trip-item.is
           c.in_ok-index.ensures.names c.in_ok-index.ensures.index c.in_ok-push.ensures.items was.named;
+      names = c.in_ok-index.ensures.names ∙ ap (λ names. seen_also names (string_bytes c.trip-item.result.service)) was.names
+          ∙ names_more (names_of c.args.named.now) c.args.trips.now c.loop-trip.trip-index c.trip-item.result c.loop-trip-test.true c.trip-item.is;
     }
+
+pub returns-clause-names : goal.returns-clause-names
+returns-clause-names c =
+    subst (λ (ts : List Trip). names_of c.loop-trip.named ≡ names_also (names_of c.args.named.now) ts)
+    (take_all c.loop-trip.trip-index c.args.trips.now c.loop-trip-test.false) c.loop-trip.invariant.names
 
 pub returns-clause-named : goal.returns-clause-named
 returns-clause-named c =

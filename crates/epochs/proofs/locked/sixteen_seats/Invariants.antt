@@ -1,5 +1,5 @@
 use Rattle.std.proofs.Common.{◌≡◌, ◌≤◌}
-use Rattle.epochs.specs.Seats.{idle_seats}
+use Rattle.epochs.specs.WorkerSeats.{idle_seats}
 use Rattle.epochs.proofs.locked.sixteen_seats.Given as goal
 
 abbrev pub invariant-loop-number : goal.invariant-loop-number

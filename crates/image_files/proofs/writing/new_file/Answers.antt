@@ -8,5 +8,7 @@ returns-then-is_special-clause-written g c =
     λ file has. inr (inr (special, c.in_ok-file.ensures.written file has))
 
 pub returns-clause-written : goal.returns-clause-written
-returns-clause-written g c = λ file has.
-    inl (subst (g.H.OutDisk.files c.args.rt.now).may_not_make (c.as_str-2.ensures.value ∙ c.in_ok-beside.ensures) (c.in_ok-file-2.ensures.written file has))
+returns-clause-written g c =
+    let plain : (g.H.OutDisk.files c.args.rt.now).plain c.args.path.now = search rules in
+    let beside = c.as_str-2.ensures.value ∙ c.in_ok-beside.ensures in
+    λ file has. inl (plain, subst (g.H.OutDisk.files c.args.rt.now).may_not_make beside (c.in_ok-file-2.ensures.written file has))

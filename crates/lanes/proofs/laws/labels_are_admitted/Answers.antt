@@ -1,4 +1,4 @@
-use Rattle.std.proofs.Common.{◌≡◌, ℕ, ◌<◌, ◌≤◌, ◌&&◌, nat_lt, nat_le, List, Contains, Option, slice_get, slice_index, inl, inr, subst, arith}
+use Rattle.std.proofs.Common.{ℕ, nat_lt, nat_le, List, Contains, Option, slice_get, slice_index, inl, inr, subst, arith}
 use Rattle.std.proofs.lemmas.Bool.{and_from, lt-ltb, le-leb}
 use Rattle.reasoning.proofs.ListLemmas.{not_in_nil}
 use Rattle.reasoning.proofs.OptionLemmas.{option_cases}

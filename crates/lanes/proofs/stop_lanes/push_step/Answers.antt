@@ -9,6 +9,6 @@ returns c =
     let same = ap (λ ss. length (steps_in ss)) c.deref.ensures.value in
     let long = steps_long c.args.steps.now.items in (
       c.in_ok-first.ensures.0,
-      has_steps c.args.steps.now.items c.push.new.self.items _ c.in_ok-push.ensures.items c.args.boarding c.args.labels c.in_ok-first.first refl
+      has_steps c.args.steps.now.items c.append.new.items.items _ c.in_ok-append.ensures.added c.args.boarding c.args.labels c.in_ok-first.first refl
           (omega (arith, first, long, same)),
     )

@@ -1,4 +1,4 @@
-use Rattle.std.proofs.Common.{◌≡◌, ℕ, ◌<◌, ◌≤◌, MatchBool, get_or}
+use Rattle.std.proofs.Common.{ℕ, ◌<◌, ◌≤◌, MatchBool, get_or}
 use Rattle.lanes.proofs.words.are_adding.Given as goal
 
 abbrev pub invariant-loop-k : goal.invariant-loop-k

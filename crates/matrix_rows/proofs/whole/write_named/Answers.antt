@@ -5,10 +5,11 @@ use Rattle.std.specs.Global.{Vec}
 use Rattle.std.specs.Io.KnownBytes.{Appends}
 use Rattle.std.specs.Slice.Iter.{chunks_rest}
 use Rattle.csv.specs.Writing.{default_writer, row_text}
-use Rattle.matrix_rows.specs.Tables.{AreRowsOf, IsBegun, IsTableBegun, names_of}
-use Rattle.image_files.proofs.Appended.{appended_and_kept, appended_in_turns}
+use Rattle.matrix_rows.specs.Tables.{AreRowsOf, IsTableBegun, names_of}
+use Rattle.image_files.proofs.Appended.{appended_and_kept, appended_in_turns, begun_by_all, begun_by_nothing}
+use Rattle.image_files.specs.Watching.{IsBegun}
 use Rattle.image_files.proofs.Faults.{flush_failed, if_failed}
-use Rattle.matrix_rows.proofs.Joins.{at_error, at_value, begun_by_all, begun_by_nothing, in_middle, run_begun}
+use Rattle.matrix_rows.proofs.Joins.{at_error, at_value, in_middle, run_begun}
 use Rattle.matrix_rows.proofs.Targets.{no_targets, targets_joined}
 use Rattle.matrix_rows.proofs.whole.write_named.Goals as goal
 
@@ -19,7 +20,7 @@ loop-next-init g c =
       search rules,
       tt,
       λ k part there. absurd (omega (arith, slice_get_within c.new-made.result.items k part there, ap length c.new-made.ensures.items)),
-      ([], [], no_targets c.args.table.now.plain [] refl, subst (Appends _ _) is c.in_ok-write_bytes.ensures.written, search rules),
+      ([], [], no_targets c.args.table.now.plain [] refl, subst (Appends _ _) is c.in_ok-write_all.ensures.written, search rules),
     )
 
 pub write_beside-requires-clause-can : goal.write_beside-requires-clause-can
@@ -113,10 +114,10 @@ returns-in_err-names-clause-begun g c =
       begun = begun_by_nothing _ _;
     })
 
-pub returns-in_err-write_bytes-clause-begun : goal.returns-in_err-write_bytes-clause-begun
-returns-in_err-write_bytes-clause-begun g c =
-    at_error {P = IsTableBegun c.args.table.now.plain (g.W.Write.contents c.args.out.now) (g.W.Write.contents c.write_bytes.new.out)}
-    c.from_residual-in_err-write_bytes.result (record {
+pub returns-in_err-write_all-clause-begun : goal.returns-in_err-write_all-clause-begun
+returns-in_err-write_all-clause-begun g c =
+    at_error {P = IsTableBegun c.args.table.now.plain (g.W.Write.contents c.args.out.now) (g.W.Write.contents c.write_all.new.writer)}
+    c.from_residual-in_err-write_all.result (record {
       first = [];
       others = c.args.table.now.plain.targets.now;
       rows = [];
@@ -124,7 +125,7 @@ returns-in_err-write_bytes-clause-begun g c =
       are = no_targets c.args.table.now.plain [] refl;
       begun = subst (IsBegun _ _)
           (c.deref.ensures.value ∙ c.in_ok-names.ensures ∙ sym (append-nil (row_text default_writer (names_of c.args.table.now.plain.each))))
-          c.in_err-write_bytes.ensures.begun;
+          c.in_err-write_all.ensures.begun;
     })
 
 pub returns-in_err-made-clause-begun : goal.returns-in_err-made-clause-begun

@@ -1,6 +1,7 @@
 use Rattle.std.proofs.Common.{[], refl}
 use Rattle.matrix_rows.specs.Tables.{IsTableBegun}
-use Rattle.matrix_rows.proofs.Joins.{at_error, begun_by_nothing}
+use Rattle.image_files.proofs.Appended.{begun_by_nothing}
+use Rattle.matrix_rows.proofs.Joins.{at_error}
 use Rattle.matrix_rows.proofs.Targets.{no_targets}
 use Rattle.matrix_rows.proofs.whole.write_table.Goals as goal
 

@@ -9,10 +9,10 @@ pub returns-in-Some-clause-written : goal.returns-in-Some-clause-written
 returns-in-Some-clause-written g c =
     let table = c.args.table.now.plain in
     let rows = subst (λ o. IfSome o (λ (rows : Bor (List ℕ)). AreRowsBy table.criterion table c.args.targets.now rows.now)) c.in-Some.is c.requires.rows in
-    on_done c.write_bytes.result (λ added. (c.in-Some.rows.now, rows, added)) c.write_bytes.ensures.written
+    on_done c.write_all.result (λ added. (c.in-Some.rows.now, rows, added)) c.write_all.ensures.written
 
 pub returns-in-Some-clause-begun : goal.returns-in-Some-clause-begun
 returns-in-Some-clause-begun g c =
     let table = c.args.table.now.plain in
     let rows = subst (λ o. IfSome o (λ (rows : Bor (List ℕ)). AreRowsBy table.criterion table c.args.targets.now rows.now)) c.in-Some.is c.requires.rows in
-    on_failed c.write_bytes.result (λ begun. inr (c.in-Some.rows.now, rows, begun)) c.write_bytes.ensures.begun
+    on_failed c.write_all.result (λ begun. inr (c.in-Some.rows.now, rows, begun)) c.write_all.ensures.begun

@@ -1,4 +1,4 @@
 use Rattle.workers.proofs.headline.know_pins.Goals as goal
 
 pub returns : goal.returns
-returns c = λ seat version image table l i r of. c.pinned_images_are_left_alone.ensures seat version image table l i r
+returns c = λ seat of. c.pinned_images_are_left_alone.ensures seat

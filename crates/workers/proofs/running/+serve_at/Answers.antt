@@ -3,7 +3,7 @@ use Rattle.std.proofs.lemmas.List.{flat_map_more, length-append, map-append, nil
 use Rattle.std.proofs.lemmas.List.Elements.{All-pop, All-push}
 use Rattle.handoff.specs.Ends.{times}
 use Rattle.load_orders.specs.Asking.{WorkerOrdersValue}
-use Rattle.load_orders.specs.Keeping.{KeeperValue, QueueId, with_orders}
+use Rattle.load_orders.specs.Keeping.{KeeperValue, OrderQueueId, with_orders}
 use Rattle.session.specs.declared.reply_form.ReplyForm.{ReplyForm}
 use Rattle.workers.specs.Ordering.{put_by, route_to}
 use Rattle.workers.specs.Posts.{IsWorked, PostValue}
@@ -49,14 +49,14 @@ returns-in-Some-join_worker-clause-served g t c =
     let taken = c.serve_at.new.dealer.view.taken in
     let starts = ap (λ list. worker_starts list route) items ∙ map-append (λ s. worker_start s route) seats (seat ∷ []) in
     let queue = ap (λ asks. asks.queue) started.ends.1 in
-    let at_route = subst (λ (q : QueueId _). HaveAllServed words taken (worker_starts seats (route_to names q)) work) queue left.served in
+    let at_route = subst (λ (q : OrderQueueId _). HaveAllServed words taken (worker_starts seats (route_to names q)) work) queue left.served in
     let all = served_also words taken one.taker.taken (worker_starts seats route) (worker_start seat route) one.share work work_then at_route
     mine.served one.sessions_are one.seats_are one.asked_are in
     let one_more = length-append (worker_starts seats route) (worker_start seat route ∷ []) in
     let out = ap (λ dealer. dealer.view.out) one.clients_are in
     let went_out = ap (λ dealer. dealer.view.out) started.ends.0 in
     let ended = ap (λ dealer. dealer.view.ended) one.clients_are in
-    let had_ended = dealt.ended ∙ ap (λ (q : QueueId _). length (worker_starts seats (route_to names q))) queue in
+    let had_ended = dealt.ended ∙ ap (λ (q : OrderQueueId _). length (worker_starts seats (route_to names q))) queue in
     let put = put_by work.orders in
     let more = one.share.orders.end.items in
     let back : asks.out + 1 - 1 ≡ asks.out = omega arith in

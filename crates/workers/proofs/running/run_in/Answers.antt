@@ -1,10 +1,10 @@
 use Rattle.std.proofs.Common.{◌∙◌, ap, arith, subst, sym}
 use Rattle.std.proofs.lemmas.List.{length-map}
 use Rattle.std.specs.Prelude.{IsPermutation}
-use Rattle.load_orders.specs.Keeping.{QueueId}
-use Rattle.ordered_loads.specs.Carrying.{AreLoaded, load_input_of, loads_value}
-use Rattle.ordered_loads.specs.Posts.{IsLoaderDone, LoaderPostValue}
-use Rattle.ordered_loads.specs.Words.{loads_of, outcomes_of}
+use Rattle.load_orders.specs.Keeping.{OrderQueueId}
+use Rattle.feed_loads.specs.Carrying.{AreLoaded, load_input_of, loads_value}
+use Rattle.feed_loads.specs.Posts.{IsLoaderDone, LoaderPostValue}
+use Rattle.feed_loads.specs.Words.{loads_of, outcomes_of}
 use Rattle.workers.specs.Ordering.{route_to}
 use Rattle.workers.specs.Sessions.{AreAllServed, worker_start, worker_starts, work_of}
 use Rattle.workers.specs.Words.{sessions_of}
@@ -40,10 +40,11 @@ returns-in-Some g c =
       served = record {
         clients = served.clients;
         came = served.came;
-        all = subst (λ (q : QueueId _). AreAllServed words served.clients (worker_starts c.args.seats.items (route_to names q)) work) queue shared;
+        all = subst (λ (q : OrderQueueId _). AreAllServed words served.clients (worker_starts c.args.seats.items (route_to names q)) work) queue shared;
       };
       loaded = record {
         taken = subst (λ list. IsPermutation list after.orders.taken) (ap (λ keeper. keeper.put) served.orders_are) after.ensures.0;
-        loaded = subst (λ (q : QueueId _). AreLoaded (load_input_of loads workplace.feeds.now q) c.args.loader value after.loader) (sym done.queue) done.loaded;
+        loaded = subst (λ (q : OrderQueueId _). AreLoaded (load_input_of loads workplace.feeds.now q) c.args.loader value after.loader)
+            (sym done.queue) done.loaded;
       };
     }

@@ -1,6 +1,6 @@
 use Rattle.std.proofs.Common.{ap, sym, ◌∙◌, Option}
 use Rattle.epochs.specs.declared.seats.Pin.{Pin}
-use Rattle.epochs.specs.Seats.{worker_of, held_of}
+use Rattle.epochs.specs.WorkerSeats.{worker_of, held_of}
 use Rattle.epochs.proofs.seats.WorkerSeat.is_holding.Goals as goal
 
 pub returns-in-Some : goal.returns-in-Some

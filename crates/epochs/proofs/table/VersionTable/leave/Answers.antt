@@ -1,10 +1,12 @@
+use Rattle.std.proofs.Common.{refl}
 use Rattle.version_core.specs.declared.event.Event.{Event}
-use Rattle.epochs.proofs.HistoryLemmas.{drop_same, history_goes_on, still_shelved}
+use Rattle.epochs.proofs.HistoryLemmas.{worker_leaves, history_goes_on, still_shelved}
 use Rattle.epochs.proofs.table.VersionTable.leave.Goals as goal
 
 pub invariant_of-self : goal.invariant_of-self
 invariant_of-self c =
-    let drop = drop_same c.self.inside.core c.leave-dropped.new.self c.args.worker c.leave-dropped.result c.leave-dropped.ensures in (
+    let drop = worker_leaves c.self.inside.core c.leave-dropped.new.self (Event.Drop c.args.worker) c.args.worker c.leave-dropped.result refl
+    c.leave-dropped.ensures in (
       history_goes_on c.self.inside.core c.leave-dropped.new.self c.self.inside.events c.note.new.self
           c.self.inside.images (Event.Drop c.args.worker) c.leave-dropped.result c.laws.ensures.grow
           c.laws.ensures.stays c.self.invariant.0 tt c.leave-dropped.ensures drop.editions c.note.ensures,

@@ -1,13 +1,13 @@
-use Rattle.std.proofs.Common.{◌∙◌, ap, List, [], ◌∷◌, ◌++◌, append_assoc}
+use Rattle.std.proofs.Common.{◌∙◌, refl, ap, List, [], ◌∷◌, ◌++◌, append_assoc}
 use Rattle.version_core.specs.declared.event.Event.{Event}
-use Rattle.epochs.proofs.HistoryLemmas.{look_same, take_same, history_goes_on, still_shelved, looks_and_takes}
+use Rattle.epochs.proofs.HistoryLemmas.{worker_leaves, history_goes_on, still_shelved, looks_and_takes}
 use Rattle.epochs.proofs.table.VersionTable.look_and_take.Goals as goal
 
 pub invariant_of-self : goal.invariant_of-self
 invariant_of-self c =
-    let look = look_same c.self.inside.core c.look-looked.new.self c.args.worker c.look-looked.result c.look-looked.ensures in
-    let take = take_same c.look-looked.new.self c.take-held.new.self c.args.worker c.take-held.result c.take-held.ensures in
-    let laws = c.laws.ensures in
+    let w = c.args.worker in let laws = c.laws.ensures in
+    let look = worker_leaves c.self.inside.core c.look-looked.new.self (Event.Look w) w c.look-looked.result refl c.look-looked.ensures in
+    let take = worker_leaves c.look-looked.new.self c.take-held.new.self (Event.Take w) w c.take-held.result refl c.take-held.ensures in
     let first = history_goes_on c.self.inside.core c.look-looked.new.self c.self.inside.events c.note.new.self
     c.self.inside.images (Event.Look c.args.worker) c.look-looked.result laws.grow laws.stays c.self.invariant.0
     tt c.look-looked.ensures look.editions c.note.ensures in (

@@ -1,4 +1,4 @@
-use Rattle.std.proofs.Common.{ℕ, List, slice_get, refl, sym, ap, ◌∙◌, subst}
+use Rattle.std.proofs.Common.{List, slice_get, refl, sym, ap, ◌∙◌, subst}
 use Rattle.std.proofs.lemmas.List.{get_or_default}
 use Rattle.criteria.specs.declared.arrival_trips.TimeTrips.{TimeTrips}
 use Rattle.fronts.specs.declared.labels.Label.{Label}

@@ -1,4 +1,4 @@
-use Rattle.std.proofs.Common.{ℕ, ◌<◌, List, length, ◌∙◌, sym, subst, slice_index}
+use Rattle.std.proofs.Common.{◌<◌, List, length, ◌∙◌, sym, subst, slice_index}
 use Rattle.std.proofs.lemmas.List.{get_or_default}
 use Rattle.lanes.specs.LaneLists.{AreLists, IsLate}
 use Rattle.lanes.specs.declared.lane_lists.LaneEntry.{LaneEntry}

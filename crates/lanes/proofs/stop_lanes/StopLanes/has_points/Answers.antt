@@ -1,4 +1,4 @@
-use Rattle.std.proofs.Common.{◌≡◌, [], ◌∙◌, sym, subst, arith}
+use Rattle.std.proofs.Common.{◌≡◌, [], ◌∙◌, subst, arith}
 use Rattle.std.proofs.lemmas.Bool.{ltb-false}
 use Rattle.std.proofs.lemmas.List.{get_or_default}
 use Rattle.lanes.specs.LaneLists.{points_from}

@@ -18,16 +18,16 @@ pub front_from-entry-requires-clause-stop : goal.front_from-entry-requires-claus
 front_from-entry-requires-clause-stop c = c.requires.stop
 
 pub change_but_eight-requires-clause-can : goal.change_but_eight-requires-clause-can
-change_but_eight-requires-clause-can c = lanes_can (question c.args.asked.now.query) c.args.hop.now c.args.self.now c.requires
+change_but_eight-requires-clause-can c = lanes_can (question c.args.asked.now.query) c.args.hop c.args.self.now c.requires
 
 -- the lanes have taken in what has fewer trips
-mid : (c : In_ok-change_but_eight) → TripTakesBut c.args.hop.now.connection.trip c.args.hop.now.bound.now
-    (λ p. Excludes trip_rules c.args.hop.now.bound.now p.value ⊎ IsBeatenByEight (front_at c.args.self.now.lanes.stops c.front_from-entry.result) p.value)
-    (λ tags. changes_from tags c.args.hop.now.place c.args.hop.now.connection.arr
-    (points_at c.args.self.now.lanes.stops c.args.hop.now.connection.to)) c.args.self.now
+mid : (c : In_ok-change_but_eight) → TripTakesBut c.args.hop.connection.trip c.args.hop.bound.now
+    (λ p. Excludes trip_rules c.args.hop.bound.now p.value ⊎ IsBeatenByEight (front_at c.args.self.now.lanes.stops c.front_from-entry.result) p.value)
+    (λ tags. changes_from tags c.args.hop.place c.args.hop.connection.arr
+    (points_at c.args.self.now.lanes.stops c.args.hop.connection.to)) c.args.self.now
     (record { lanes = c.change_but_eight.new.self; beyond = c.args.self.now.beyond })
 mid c =
-    let hop = c.args.hop.now in
+    let hop = c.args.hop in
     let old = c.args.self.now in
     in_lanes (question c.args.asked.now.query) hop old c.requires
     (λ p. Excludes trip_rules hop.bound.now p.value ⊎ IsBeatenByEight (front_at old.lanes.stops c.front_from-entry.result) p.value)
@@ -36,13 +36,13 @@ mid c =
 
 pub returns-in_default : goal.returns-in_default
 returns-in_default c =
-    none_of_eight (question c.args.asked.now.query) c.args.hop.now c.args.self.now c.requires c.front_from-entry.result c.front_from-entry.ensures
+    none_of_eight (question c.args.asked.now.query) c.args.hop c.args.self.now c.requires c.front_from-entry.result c.front_from-entry.ensures
     (record { lanes = c.change_but_eight.new.self; beyond = c.args.self.now.beyond }) c.front.result.now
     (mid (goal.at.returns-in_default c).In_ok-change_but_eight) c.front.ensures c.in_default.ensures
 
 pub offer_label-requires-clause-can : goal.offer_label-requires-clause-can
 offer_label-requires-clause-can c =
-    let hop = c.args.hop.now in
+    let hop = c.args.hop in
     let old = c.args.self.now in
     still_can (question c.args.asked.now.query) hop old c.requires (record { lanes = c.change_but_eight.new.self; beyond = old.beyond })
     (λ p. Excludes trip_rules hop.bound.now p.value ⊎ IsBeatenByEight (front_at old.lanes.stops c.front_from-entry.result) p.value)
@@ -51,7 +51,7 @@ offer_label-requires-clause-can c =
 
 pub offer_label-requires-clause-admitted : goal.offer_label-requires-clause-admitted
 offer_label-requires-clause-admitted c =
-    eight_admits (question c.args.asked.now.query) c.args.hop.now c.args.self.now c.requires c.front_from-entry.result c.front_from-entry.ensures
+    eight_admits (question c.args.asked.now.query) c.args.hop c.args.self.now c.requires c.front_from-entry.result c.front_from-entry.ensures
     (record { lanes = c.change_but_eight.new.self; beyond = c.args.self.now.beyond }) c.front.result.now
     (mid (goal.at.offer_label-requires-clause-admitted c).In_ok-change_but_eight) c.front.ensures c.in-Some.value (slice_index c.tags.result.now 7)
     c.in-Some.ensures.0 c.in-Some.ensures.1 (ap (λ ts. slice_index ts 7) c.tags.ensures)
@@ -59,7 +59,7 @@ offer_label-requires-clause-admitted c =
 pub returns : goal.returns
 returns c =
     on_ok_weaker c.offer_label.result
-    (with_eight (question c.args.asked.now.query) c.args.hop.now c.args.self.now c.requires c.front_from-entry.result c.front_from-entry.ensures
+    (with_eight (question c.args.asked.now.query) c.args.hop c.args.self.now c.requires c.front_from-entry.result c.front_from-entry.ensures
     (record { lanes = c.change_but_eight.new.self; beyond = c.args.self.now.beyond }) c.front.result.now
     (mid (goal.at.returns c).In_ok-change_but_eight) c.front.ensures c.in-Some.value (slice_index c.tags.result.now 7) c.in-Some.ensures.0 c.in-Some.ensures.1
     (ap (λ ts. slice_index ts 7) c.tags.ensures) c.offer_label.new.self) c.offer_label.ensures

@@ -25,9 +25,9 @@ board_walks-requires g c =
     let rules = g.C.Criterion.rules c.args.asked.now.criterion in
     let laws = g.met.C.Criterion.laws c.args.asked.now.criterion in
     let labels = label_points c.args.labels.now in
-    let values = c.args.hop.now.bound.now in
+    let values = c.args.hop.bound.now in
     record {
-      walks = walks_into_it (g.S.ConnSource.timetable c.args.source.now) c.args.hop.now.connection.from
+      walks = walks_into_it (g.S.ConnSource.timetable c.args.source.now) c.args.hop.connection.from
           c.walks_into-begin.result.0 c.walks_into-begin.result.1 c.requires.can.hop.begins
           c.walks_into-begin.ensures.order c.walks_into-begin.ensures.within c.walks_into-begin.ensures.exact;
       ready = record {
@@ -54,9 +54,9 @@ returns g c = record {
       let rules = g.C.Criterion.rules c.args.asked.now.criterion in
       let t = g.S.ConnSource.timetable c.args.source.now in
       let all_labels = label_points c.args.labels.now in
-      let values = c.args.hop.now.bound.now in
-      boardings_taken rules t (from_to (spelling_of t.footpaths before) (spelling_of t.footpaths all)) c.args.hop.now.place
-      c.args.hop.now.connection c.requires.can.hop.stands.is c.requires.boards c.walks_into-begin.result.0
+      let values = c.args.hop.bound.now in
+      boardings_taken rules t (from_to (spelling_of t.footpaths before) (spelling_of t.footpaths all)) c.args.hop.place
+      c.args.hop.connection c.requires.can.hop.stands.is c.requires.boards c.walks_into-begin.result.0
       c.walks_into-begin.result.1 c.walks_into-begin.ensures.exact (survivors rules values all_labels)
       stop (points_at c.args.self.now stop) (points_at c.board_walks.new.self stop)
       (c.in_ok-board_walks.ensures.takes (survivors rules values all_labels) c.in_ok-ride_labels.ensures
@@ -82,8 +82,8 @@ returns-then-len-eq0 g c = record {
   takes = λ stop exits set_outs before all ext_before ext.
       let rules = g.C.Criterion.rules c.args.asked.now.criterion in
       let t = g.S.ConnSource.timetable c.args.source.now in
-      let labels = survivors rules c.args.hop.now.bound.now (label_points c.args.labels.now) in
-      takes_none rules (boardings rules t (from_to (spelling_of t.footpaths before) (spelling_of t.footpaths all)) c.args.hop.now.place
+      let labels = survivors rules c.args.hop.bound.now (label_points c.args.labels.now) in
+      takes_none rules (boardings rules t (from_to (spelling_of t.footpaths before) (spelling_of t.footpaths all)) c.args.hop.place
       stop labels) (points_at c.args.self.now stop)
       (λ way may. no_ridden rules labels c.ride_labels.new.ridden.items c.in_ok-ride_labels.ensures (omega arith) way.label may.is_label);
 }

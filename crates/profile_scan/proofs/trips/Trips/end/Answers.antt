@@ -16,19 +16,19 @@ returns-in-Some g c =
     let rules = g.C.Criterion.rules c.args.asked.now.criterion in
     let end = c.in-Some.end in
     let is = c.in-Some.ensures in
-    on_ok_weaker c.offer.result
+    on_ok_weaker c.offer_end.result
     (λ taken. record {
       trip = taken.trip;
       takes = λ walks steps set_outs before all ext_before ext.
           takes_the_end rules (from_to (spelling_of walks before) (spelling_of walks all)) c.args.hop.now.place
           c.args.hop.now.connection (question c.args.asked.now.query) c.args.hop.now.final_walk end.walk c.started-value.result
           end.time (trip_points c.args.self.now.labels c.args.hop.now.connection.trip)
-          (trip_points c.offer.new.self.labels c.args.hop.now.connection.trip)
+          (trip_points c.offer_end.new.self.labels c.args.hop.now.connection.trip)
           is.0 is.3
           (c.started-value.ensures ∙ ap (λ (v : g.row.C-V.Denot). started rules end.walk v) c.arrive-arrived.ensures) is.1
           (taken.takes walks steps set_outs before all ext_before ext);
     })
-    c.offer.ensures
+    c.offer_end.ensures
 
 pub returns-in-None : goal.returns-in-None
 returns-in-None g c = record {
@@ -62,8 +62,8 @@ started-value-requires-clause-admitted g c =
     subst (Admits (g.C.Criterion.rules c.args.asked.now.criterion)) (sym c.arrive-arrived.ensures)
     ((g.met.C.Criterion.laws c.args.asked.now.criterion).arrive_admits c.in-Some.end.time time)
 
-pub offer-requires-clause-admitted : goal.offer-requires-clause-admitted
-offer-requires-clause-admitted g c =
+pub offer_end-requires-clause-admitted : goal.offer_end-requires-clause-admitted
+offer_end-requires-clause-admitted g c =
     let rules = g.C.Criterion.rules c.args.asked.now.criterion in
     let end = c.in-Some.end in
     let is = c.in-Some.ensures in

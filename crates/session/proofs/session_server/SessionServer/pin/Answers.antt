@@ -1,6 +1,6 @@
 use Rattle.std.proofs.Common.{rules, ◌≡◌, ◌++◌, ◌∷◌, [], string_bytes, ◌∙◌, ap, refl, inr}
 use Rattle.std.specs.Arc.{arc_value}
-use Rattle.epochs.specs.declared.seats.SeatAnswer.{SeatAnswer}
+use Rattle.shelves.specs.declared.answers.SeatAnswer.{SeatAnswer}
 use Rattle.session_texts.specs.Replies.{pin_text}
 use Rattle.session_texts.specs.Requests.{pin}
 use Rattle.session.specs.Lines.{asks}

@@ -1,5 +1,5 @@
 use Rattle.std.proofs.Common.{◌∙◌, ap, refl, inl, inr}
-use Rattle.epochs.specs.declared.seats.SeatAnswer.{SeatAnswer}
+use Rattle.shelves.specs.declared.answers.SeatAnswer.{SeatAnswer}
 use Rattle.session_texts.specs.Requests.{release}
 use Rattle.session.specs.Lines.{asks}
 use Rattle.session.proofs.MetLemmas.{answer_met}

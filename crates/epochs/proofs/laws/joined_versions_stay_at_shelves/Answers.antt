@@ -1,5 +1,0 @@
-use Rattle.epochs.proofs.JoinLemmas.{joined_stay_at_shelves}
-use Rattle.epochs.proofs.laws.joined_versions_stay_at_shelves.Goals as goal
-
-pub returns : goal.returns
-returns c = joined_stay_at_shelves

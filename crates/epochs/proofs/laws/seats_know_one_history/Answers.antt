@@ -1,5 +1,0 @@
-use Rattle.epochs.proofs.OneHistory.{beginnings_known, images_agreed}
-use Rattle.epochs.proofs.laws.seats_know_one_history.Goals as goal
-
-pub returns : goal.returns
-returns c = record { beginnings = beginnings_known; agree = images_agreed }

@@ -1,6 +1,0 @@
-use Rattle.std.proofs.Common.{ℕ, ◌<◌}
-use Rattle.epochs.specs.ShelfLoads.{IsFreeIn}
-use Rattle.epochs.proofs.shelf_loader.ShelfLoader.free_shelf.Given as goal
-
-abbrev pub invariant-loop-k : goal.invariant-loop-k
-invariant-loop-k l = (j : ℕ) → j < l.k → ¬ (IsFreeIn l.self.view j)

@@ -1,0 +1,9 @@
+pub mod Resting
+pub mod Tries
+pub mod GrowthLemmas
+pub mod Publications
+pub mod HandedSeats
+pub mod JoinLemmas
+pub mod PinnedLemmas
+pub mod Pinning
+pub mod OneHistory

@@ -1,0 +1,9 @@
+pub mod FaultNumber
+pub mod Seats
+pub mod SeatHistory
+pub mod SeatLaws
+pub mod ShelfSeats
+pub mod ShelfLoads
+pub mod Pinned
+pub mod Words
+pub mod ShelfWords
