@@ -8,6 +8,10 @@ use Rattle.version_core.specs.declared.state.Worker.{Worker}
 use Rattle.shelf_steps.specs.declared.edition.Edition.{Edition}
 use Rattle.shelf_steps.specs.EventHistory.{IsEdition}
 
+-- the number of a worker's slot of a shelf
+abbrev pub slot_at : ℕ → ℕ → ℕ
+slot_at shelf worker = 16 * shelf + worker
+
 -- a slot as it is found: `some (some x)` if it is at home with x in it, `some none` if it is out with a seat
 abbrev pub Slot : Type 0
 Slot = Maybe (Maybe (Option Edition))
@@ -33,7 +37,7 @@ SlotFits images workers hand (Shelf.Closing v) k w slot = (hand ≢ Some k) × I
 abbrev pub SlotsFit : List (Maybe (Option Edition)) → List Shelf → List Worker → List ImageValue → Option ℕ → Type 0
 SlotsFit homes shelves workers images hand =
     (k w : ℕ) (x : Shelf) → slice_get shelves k ≡ Some x → w < 16
-    → SlotFits images workers hand x k w (get_elem? homes (16 * k + w))
+    → SlotFits images workers hand x k w (get_elem? homes (slot_at k w))
 
 -- n slots with their contents, from k + n - 1 down to k, followed by those of c
 abbrev pub down_from : {S : Type 0} → (ℕ → S) → ℕ → ℕ → List (ℕ × S) → List (ℕ × S)

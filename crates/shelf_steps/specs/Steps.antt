@@ -18,9 +18,18 @@ use Rattle.shelf_steps.specs.EventHistory.{IsLonger, all_of}
 use Rattle.shelf_steps.specs.Rule.{KeepsRule, first_words, first_loader, FirstSlots}
 use Rattle.shelf_steps.specs.Plays.{SeatAndSlots, is_open, newest_of, Looks, Takes, Leaves, GivesBack, Opens, Publishes, Closes, Collects}
 use Rattle.shelf_steps.specs.Plays.{Gathers, PutsBack, MayOpenOn, MayPublish, MayClose, MayCollect, MayGather, MayPutBack}
-use Rattle.shelf_steps.specs.Plays.{newcomer, one_more}
+use Rattle.shelf_steps.specs.Plays.{closing_word, newcomer, one_more, open_word}
+use Rattle.shelf_steps.specs.Slots.{slot_at}
 use Rattle.shelf_steps.specs.Laws.{Shelved}
 use Rattle.shelf_steps.specs.Events.{known_of}
+
+-- the numbers that a word of 64 bits can have
+abbrev pub word_values : ℕ
+word_values = 18446744073709551616
+
+-- a word after so much was added to it; `word_values - 1` more is one less
+abbrev pub added : ℕ → ℕ → ℕ
+added more n = (n + more) % word_values
 
 -- A seat's step on the word i, which becomes f of what it was. `slots` is the number of slots of the table, id the seat, me its view and the slots
 -- that are out with it. Whatever the table is at that moment, if the rule holds of it, then the seat can have a new view and move slots such that the
@@ -29,7 +38,7 @@ use Rattle.shelf_steps.specs.Events.{known_of}
 abbrev pub Adds : ℕ → ℕ → SeatAndSlots → ℕ → (ℕ → ℕ) → Event → (ℕ → Reply) → (ℕ → SeatAndSlots → Type 0) → Type 0
 Adds slots id me i f e reply tells =
     (table : Shelved) (r : KeepsRule table) → length table.homes ≡ slots → get_elem? table.views id ≡ some me.0
-    → slice_index table.words i < 18446744073709551616
+    → slice_index table.words i < word_values
     → (w : View) × (a : Act (Option Edition)) × Valid table.homes me.1 a
     × (after : KeepsRule (stepped table i (f (slice_index table.words i)) id me.1 w a))
     × IsLonger r.history e (reply (slice_index table.words i)) after.history × (known_of w ≡ all_of after.history)
@@ -48,30 +57,30 @@ LooksAdd = (slots id : ℕ) (v : WorkerView) (c : Carried) → v.now ≡ Worker.
 -- a worker that has looked adds one to its shelf's word: it holds the version if the word says so, else it is late
 abbrev pub TakesAdd : Type 0
 TakesAdd = (slots id k version : ℕ) (v : WorkerView) (c : Carried) → v.now ≡ Worker.Looked version k
-    → Adds slots id (View.Working v, c) (k + 1) (λ n. (n + 1) % 18446744073709551616) (Event.Take v.number)
+    → Adds slots id (View.Working v, c) (k + 1) (added 1) (Event.Take v.number)
     (λ n. cond (is_open n version) (Reply.Holds version) Reply.Late) (Takes (View.Working v, c))
 
 -- a late worker subtracts one from its shelf's word
 abbrev pub LeavesAdd : Type 0
 LeavesAdd = (slots id k : ℕ) (v : WorkerView) (c : Carried) → v.now ≡ Worker.Late k
-    → Adds slots id (View.Working v, c) (k + 1) (λ n. (n + (18446744073709551616 - 1)) % 18446744073709551616)
+    → Adds slots id (View.Working v, c) (k + 1) (added (word_values - 1))
     (Event.Drop v.number) (λ _. Reply.Dropped) (λ _. Leaves (View.Working v, c))
 
 -- so does a worker that holds the shelf, whose slot is out with it, with the edition in the slot
 abbrev pub GivingsAdd : Type 0
 GivingsAdd = (slots id k version : ℕ) (v : WorkerView) → slots ≡ 128 → v.now ≡ Worker.Holding k version
-    → Adds slots id (View.Working v, (16 * k + v.number, v.edition) ∷ []) (k + 1)
-    (λ n. (n + (18446744073709551616 - 1)) % 18446744073709551616) (Event.Drop v.number) (λ _. Reply.Dropped)
-    (λ _. GivesBack (View.Working v, (16 * k + v.number, v.edition) ∷ []))
+    → Adds slots id (View.Working v, (slot_at k v.number, v.edition) ∷ []) (k + 1)
+    (added (word_values - 1)) (Event.Drop v.number) (λ _. Reply.Dropped)
+    (λ _. GivesBack (View.Working v, (slot_at k v.number, v.edition) ∷ []))
 
 -- the loader opens a free shelf by adding to its word, makes the version current by a store, and closes an older version's shelf by adding to its
 -- word
 abbrev pub OpensAdd : Type 0
 OpensAdd = (slots id k version : ℕ) (l : LoaderView) (c : Carried) → slots ≡ 128 → k < 8
     → MayOpenOn k version (View.Loading l) c
-    → Adds slots id (View.Loading l, c) (k + 1) (λ n. (n + (256 + 65536 * version)) % 18446744073709551616)
+    → Adds slots id (View.Loading l, c) (k + 1) (added (open_word version))
     (Event.Open (newest_of l)) (λ _. Reply.Opened version k)
-    (Opens (step slots (k + 1) (256 + 65536 * version) 0 none) (View.Loading l, c))
+    (Opens (step slots (k + 1) (open_word version) 0 none) (View.Loading l, c))
 
 abbrev pub PublishesAdd : Type 0
 PublishesAdd = (slots id k version : ℕ) (l : LoaderView) (c : Carried) → k < 8
@@ -81,16 +90,16 @@ PublishesAdd = (slots id k version : ℕ) (l : LoaderView) (c : Carried) → k <
 
 abbrev pub ClosesAdd : Type 0
 ClosesAdd = (slots id k : ℕ) (l : LoaderView) (c : Carried) → k < 8 → MayClose k (View.Loading l)
-    → Adds slots id (View.Loading l, c) (k + 1) (λ n. (n + 256) % 18446744073709551616) (Event.Close k)
+    → Adds slots id (View.Loading l, c) (k + 1) (added 256) (Event.Close k)
     (λ _. Reply.Closing) (Closes (step slots (k + 1) 256 0 none) (View.Loading l, c))
 
 -- a compare-exchange frees a closing shelf if its count is 0, and otherwise finds the count
 abbrev pub CollectsAdd : Type 0
 CollectsAdd = (slots id k version : ℕ) (l : LoaderView) (c : Carried) → slots ≡ 128 → k < 8
     → MayCollect k version (View.Loading l) c
-    → Adds slots id (View.Loading l, c) (k + 1) (λ n. either (n == 512 + 65536 * version) 0 n) (Event.Collect k)
-    (λ n. cond (n == 512 + 65536 * version) Reply.Freed (Reply.Busy (n % 256)))
-    (Collects (step slots (k + 1) (512 + 65536 * version) 0 none) (View.Loading l, c))
+    → Adds slots id (View.Loading l, c) (k + 1) (λ n. either (n == closing_word version) 0 n) (Event.Collect k)
+    (λ n. cond (n == closing_word version) Reply.Freed (Reply.Busy (n % 256)))
+    (Collects (step slots (k + 1) (closing_word version) 0 none) (View.Loading l, c))
 
 -- the slots of a free shelf are moved by compare-exchanges that fail
 abbrev pub GatheringsAdd : Type 0

@@ -10,7 +10,7 @@ use Rattle.image_layout.specs.Image.{ImageValue}
 use Rattle.version_core.specs.declared.event.Event.{Event}
 use Rattle.version_core.specs.declared.event.Reply.{Reply}
 use Rattle.version_core.specs.declared.state.Shelf.{Shelf}
-use Rattle.version_core.specs.State.{State, start}
+use Rattle.version_core.specs.State.{State, most_versions, start}
 use Rattle.version_core.specs.Steps.{Step}
 use Rattle.version_core.specs.Runs.{Run}
 use Rattle.version_core.specs.Actors.{actor, NoneOf}
@@ -146,7 +146,7 @@ busy_known k count u u' led h = of_loaders (λ a b. FindsShelfBusy a k count b) 
 -- a load of the next version
 rests_loaded : (a b : LoaderView) (current current_shelf : ℕ) (shelves : List Shelf) (image : ImageValue)
     (shelf version : ℕ) → Rests current current_shelf shelves a → slice_get a.shelves shelf ≡ Some Shelf.Free
-    → version ≡ current + 1 → version ≤ 1000000000 → LoadsShelf a image version shelf current_shelf b
+    → version ≡ current + 1 → version ≤ most_versions → LoadsShelf a image version shelf current_shelf b
     → Rests version shelf (set (set shelves shelf (Shelf.Open version)) current_shelf (Shelf.Closing current)) b
 rests_loaded a b current current_shelf shelves image shelf version rest free next few loaded =
     let free' : slice_get shelves shelf ≡ Some Shelf.Free = ap (λ (xs : List Shelf). slice_get xs shelf) (sym rest.shelves_are) ∙ free in
@@ -188,7 +188,7 @@ abbrev pub Remembers : ℕ → ℕ → List Shelf → View → Type 0
 Remembers current current_shelf shelves u = OfLoader u (λ l. Rests current current_shelf shelves l) × KnowsShelves u
 
 pub remembers_loaded : (current current_shelf : ℕ) (shelves : List Shelf) (image : ImageValue) (shelf version : ℕ) (u u' : View)
-    → Remembers current current_shelf shelves u → shelf_of u shelf ≡ Some Shelf.Free → version ≡ current + 1 → version ≤ 1000000000
+    → Remembers current current_shelf shelves u → shelf_of u shelf ≡ Some Shelf.Free → version ≡ current + 1 → version ≤ most_versions
     → Loads shelf version current_shelf image u u'
     → Remembers version shelf (set (set shelves shelf (Shelf.Open version)) current_shelf (Shelf.Closing current)) u'
 remembers_loaded current current_shelf shelves image shelf version u u' known free next few loads =
@@ -244,25 +244,25 @@ tries_stay zero n u u' freed busy f b less t = t
 tries_stay (suc k) n u u' freed busy f b less t = (
   t.0,
   tries_stay k n u t.0 freed busy f b (omega arith) t.1,
-  subst (λ x. TriedShelf k (shelf_of t.0 k) t.0 x (get_or (set busy n b) k 0) u') (sym (get_or-set_other freed n k f false (λ e. omega arith)))
-      (subst (λ x. TriedShelf k (shelf_of t.0 k) t.0 (get_or freed k false) x u') (sym (get_or-set_other busy n k b 0 (λ e. omega arith))) t.2),
+  subst (λ x. TriedShelf k (shelf_of t.0 k) t.0 (x, get_or (set busy n b) k 0) u') (sym (get_or-set_other freed n k f false (λ e. omega arith)))
+      (subst (λ x. TriedShelf k (shelf_of t.0 k) t.0 (get_or freed k false, x) u') (sym (get_or-set_other busy n k b 0 (λ e. omega arith))) t.2),
 )
 
 pub one_more_try : (k : ℕ) (u mid u' : View) (freed : List Bool) (busy : List ℕ) (f : Bool) (b : ℕ) → k < length freed
-    → k < length busy → TriesBelow k u freed busy mid → TriedShelf k (shelf_of mid k) mid f b u'
+    → k < length busy → TriesBelow k u freed busy mid → TriedShelf k (shelf_of mid k) mid (f, b) u'
     → TriesBelow (k + 1) u (set freed k f) (set busy k b) u'
 one_more_try k u mid u' freed busy f b l1 l2 t new =
     let e : suc k ≡ k + 1 = omega arith in
     subst (λ n. TriesBelow n u (set freed k f) (set busy k b) u') e (
       mid,
       tries_stay k k u mid freed busy f b (omega arith) t,
-      subst (λ x. TriedShelf k (shelf_of mid k) mid x (get_or (set busy k b) k 0) u')
+      subst (λ x. TriedShelf k (shelf_of mid k) mid (x, get_or (set busy k b) k 0) u')
           (sym (get_or-set_same freed k f false l1))
-          (subst (λ x. TriedShelf k (shelf_of mid k) mid f x u') (sym (get_or-set_same busy k b 0 l2)) new),
+          (subst (λ x. TriedShelf k (shelf_of mid k) mid (f, x) u') (sym (get_or-set_same busy k b 0 l2)) new),
     )
 
 -- a try at a shelf that doesn't free it finds it in use, if it is closing, and nobody there, if it is open
-found_at : (k : ℕ) (s : Option Shelf) (u : View) (f : Bool) (b : ℕ) (u' : View) → TriedShelf k s u f b u'
+found_at : (k : ℕ) (s : Option Shelf) (u : View) (f : Bool) (b : ℕ) (u' : View) → TriedShelf k s u (f, b) u'
     → ((v : ℕ) → s ≡ Some (Shelf.Closing v) → (f ≡ true) ⊎ (0 < b)) × ((v : ℕ) → s ≡ Some (Shelf.Open v) → b ≡ 0)
 found_at k (Some (Shelf.Closing v)) u true b u' t = ((λ x e. inl refl), (λ x e. absurd (cc)))
 found_at k (Some (Shelf.Closing v)) u false b u' t =
@@ -295,7 +295,7 @@ each_closing current current_shelf shelves (View.Loading l) u' found known t =
     }
 each_closing current current_shelf shelves _ u' found known t = absurd known.0
 
-pub unspent : (current current_shelf : ℕ) (shelves : List Shelf) (u : View) → Remembers current current_shelf shelves u → current < 1000000000 → IsUnspent u
+pub unspent : (current current_shelf : ℕ) (shelves : List Shelf) (u : View) → Remembers current current_shelf shelves u → current < most_versions → IsUnspent u
 unspent current current_shelf shelves (View.Loading l) known less = let e = known.0.current_is in omega arith
 unspent current current_shelf shelves _ known less = absurd known.0
 

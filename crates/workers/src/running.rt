@@ -184,13 +184,13 @@ fn run_in<
     )?;
     dealer.all_were_taken();
     match close_and_join(workplace.rt, asks, loading) {
-        Some((orders, loader, used)) => Ok(ServingOutcome {
+        Some((loader_orders, loader, used)) => Ok(ServingOutcome {
             served: work.served,
             clients,
             seats: work.seats,
-            orders,
+            loader_orders,
             loader,
-            asked: work.asked,
+            worker_orders: work.asked,
             used,
         }),
         None => Err(WorkersFault::Lost { clients }),
