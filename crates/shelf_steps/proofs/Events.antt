@@ -70,7 +70,7 @@ pub closes_events : ClosesAreEvents
 closes_events (View.Loading l, c) m' k h = subst (λ (m : SeatAndSlots). IsEvent (View.Loading l) (Event.Close k) Reply.Closing m.0) (sym h.3) h.4.0
 closes_events (_, c) m' k h = absurd h
 
-collects_found_so : (l : LoaderView) (m' : SeatAndSlots) (k version n : ℕ) (b : Bool) → CollectsFound l k version n b m'
+collects_found_so : (l : LoaderView) (m' : SeatAndSlots) (k version n : ℕ) (b : Bool) → CollectsFound l k n b m'
     → IsEvent (View.Loading l) (Event.Collect k) Reply.Freed m'.0 ⊎ IsEvent (View.Loading l) (Event.Collect k) (Reply.Busy (n % 256)) m'.0
 collects_found_so l m' k version n true h = inl (subst (λ (m : SeatAndSlots). IsEvent (View.Loading l) (Event.Collect k) Reply.Freed m.0) (sym h.2) h.3.0)
 collects_found_so l m' k version n false h = inr (subst (λ (m : SeatAndSlots). IsEvent (View.Loading l) (Event.Collect k) (Reply.Busy (n % 256)) m.0) (sym h.1)

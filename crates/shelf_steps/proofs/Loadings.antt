@@ -95,13 +95,15 @@ module _ (shelf version former : ℕ) (l : LoaderView) (image : ImageValue) (f :
     may_close_now : MayClose former m4.0
     may_close_now = subst (λ (m : SeatAndSlots). MayClose former m.0) (sym published_so.1) (l.current, still_open, older)
 
-    loaded_so : (m5 : SeatAndSlots) → ClosesOn former m4 m5 → Loads shelf version former image (View.Loading l) m5.0 × (m5.1 ≡ [])
+    loaded_so : (m5 : SeatAndSlots) → ClosesOn former m4 m5 → Loads shelf version image (View.Loading l) m5.0 × (m5.1 ≡ [])
     loaded_so m5 k =
         let p' = published_so in
         let h = subst (λ (m : SeatAndSlots). ClosesOn former m m5) p'.1 k in
         let z : Some (Shelf.Open l.current) ≡ Some (Shelf.Open h.0) = sym still_open ∙ h.2 in let same : l.current ≡ h.0 = cc in
-        subst (λ (m : SeatAndSlots). Loads shelf version former image (View.Loading l) m.0 × (m.1 ≡ [])) (sym h.3) (
+        subst (λ (m : SeatAndSlots). Loads shelf version image (View.Loading l) m.0 × (m.1 ≡ [])) (sym h.3) (
           record {
+            former = former;
+            former_is = may.former_is;
             gathered = g.0;
             opened = (opened_so m3 o).0;
             published = p'.0;
@@ -124,7 +126,7 @@ abbrev pub LoadsOn : ℕ → ℕ → ℕ → View → ImageValue → SeatAndSlot
 LoadsOn shelf version former u image m2 = (version ≤ most_versions → MayOpenOn shelf version m2.0 m2.1)
     × ((m3 : SeatAndSlots) → OpensOn shelf m2 m3 → MayPublish version shelf m3.0
     × ((m4 : SeatAndSlots) → PublishesOn version shelf m3 m4 → MayClose former m4.0
-    × ((m5 : SeatAndSlots) → ClosesOn former m4 m5 → Loads shelf version former image u m5.0 × (m5.1 ≡ []))))
+    × ((m5 : SeatAndSlots) → ClosesOn former m4 m5 → Loads shelf version image u m5.0 × (m5.1 ≡ []))))
 
 pub loads_on : (shelf version former : ℕ) (u : View) (image : ImageValue) (f : ℕ → Option Edition) (c : List (ℕ × Option Edition))
     (m1 m2 : SeatAndSlots) → IsReady shelf version former u → AllHave version image shelf f → GathersOn shelf (u, c) m1
@@ -146,5 +148,5 @@ pub freed_block : (shelf version n : ℕ) (u : View) (c : List (ℕ × Option Ed
     → CollectsOn shelf version n (u, c) m1 → (n == 512 + 65536 * version) ≡ true
     → (f : ℕ → Option Edition) × IsBlock f shelf m1.1
 freed_block shelf version n (View.Loading l) c m1 h is =
-    let k = subst (λ (b : Bool). CollectsFound l shelf version n b m1) is h in (k.0, ap (λ (m : SeatAndSlots). m.1) k.2)
+    let k = subst (λ (b : Bool). CollectsFound l shelf n b m1) is h in (k.0, ap (λ (m : SeatAndSlots). m.1) k.2)
 freed_block shelf version n _ c m1 h is = absurd h

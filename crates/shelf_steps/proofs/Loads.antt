@@ -389,7 +389,7 @@ collects_found : (id k version : ℕ) (l : LoaderView) (table : Table (Option Ed
     × (after : KeepsRule (stepped table (k + 1) (either b 0 (get_or table.words (k + 1) 0)) id [] w a))
     × IsLonger r.history (Event.Collect k) (cond b Reply.Freed (Reply.Busy (get_or table.words (k + 1) 0 % 256))) after.history
     × (known_of w ≡ all_of after.history)
-    × CollectsFound l k version (get_or table.words (k + 1) 0) b (w, carried_after [] a)
+    × CollectsFound l k (get_or table.words (k + 1) 0) b (w, carried_after [] a)
 collects_found id k version l table r at many small shelf hand true found =
     let s = r.history.state in let kept : KeepsInvariants s = kept_of r.history r.goes in
     let knows = loader_knows table r id l at in

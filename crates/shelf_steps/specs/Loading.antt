@@ -20,7 +20,9 @@ pub record MayLoad (shelf version former : ℕ) (l : LoaderView) : Type 0 where
   pub former_open : slice_get l.shelves former ≡ Some (Shelf.Open l.current)
 
 -- the slots were gathered, the shelf opened with the image, its version made current, and the former shelf closed
-pub record LoadsShelf (a : LoaderView) (image : ImageValue) (version shelf former : ℕ) (b : LoaderView) : Type 0 where
+pub record LoadsShelf (a : LoaderView) (image : ImageValue) (version shelf : ℕ) (b : LoaderView) : Type 0 where
+  pub former : ℕ
+  pub former_is : former ≡ a.current_shelf
   pub gathered : KnownHistory
   pub opened : KnownHistory
   pub published : KnownHistory
@@ -35,8 +37,8 @@ pub record LoadsShelf (a : LoaderView) (image : ImageValue) (version shelf forme
   pub notes : b.notes ≡ a.notes
   pub hand : b.hand ≡ None
 
-abbrev pub Loads : ℕ → ℕ → ℕ → ImageValue → View → View → Type 0
-Loads shelf version former image u u' = OfLoader u (λ a. OfLoader u' (λ b. LoadsShelf a image version shelf former b))
+abbrev pub Loads : ℕ → ℕ → ImageValue → View → View → Type 0
+Loads shelf version image u u' = OfLoader u (λ a. OfLoader u' (λ b. LoadsShelf a image version shelf b))
 
 -- the closing shelf is free, with its slots at home and empty (Freed), or its count was above 0 (FoundBusy)
 pub record FreesShelf (a : LoaderView) (shelf : ℕ) (b : LoaderView) : Type 0 where

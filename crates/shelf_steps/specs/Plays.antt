@@ -199,17 +199,17 @@ abbrev pub closing_word : ℕ → ℕ
 closing_word version = 512 + 65536 * version
 
 -- a collection that found the word n: the shelf is free and its slots are out with the loader (true), or its count was above 0 (false)
-abbrev pub CollectsFound : LoaderView → ℕ → ℕ → ℕ → Bool → SeatAndSlots → Type 0
-CollectsFound l k version n true m' =
+abbrev pub CollectsFound : LoaderView → ℕ → ℕ → Bool → SeatAndSlots → Type 0
+CollectsFound l k n true m' =
     (f : ℕ → Option Edition) × (known : KnownHistory) × (m' ≡ (View.Loading (with_free l k known), down_from f (16 * k) 16 []))
     × IsLastEvent l (Event.Collect k) Reply.Freed known × FoundAt known (Event.Collect k) k n
-CollectsFound l k version n false m' =
+CollectsFound l k n false m' =
     (known : KnownHistory) × (m' ≡ (View.Loading (with_hand l None known), [])) × IsLastEvent l (Event.Collect k) (Reply.Busy (n % 256)) known × (0 < n % 256)
     × FoundAt known (Event.Collect k) k n
 
 -- the shelf is free if the word n says that it was closing with the version and that its count was 0
 abbrev pub CollectsOn : ℕ → ℕ → ℕ → SeatAndSlots → SeatAndSlots → Type 0
-CollectsOn k version n m m' = OfLoader m.0 (λ l. CollectsFound l k version n (n == closing_word version) m')
+CollectsOn k version n m m' = OfLoader m.0 (λ l. CollectsFound l k n (n == closing_word version) m')
 
 -- the step `Collecting`, on the word of a shelf, which expects exactly that word
 abbrev pub Collects : Step (Option Edition) → SeatAndSlots → ℕ → SeatAndSlots → Type 0

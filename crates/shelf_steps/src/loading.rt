@@ -31,7 +31,7 @@ pub fn load(
     requires ready { OfLoader loader.old.me.0 (λ l. MayLoad shelf version former l) }
     requires empty { loader.old.me.1 ≡ [] }
     ensures table { loader.new.table ≡ loader.old.table }
-    ensures load { OnOk result (Loads shelf version former (arc_value image.now) loader.old.me.0 loader.new.me.0) }
+    ensures load { OnOk result (Loads shelf version (arc_value image.now) loader.old.me.0 loader.new.me.0) }
     ensures empty { loader.new.me.1 ≡ [] }
     ensures refused { OnErr result (loader.new ≡ loader.old) }
 {
@@ -56,7 +56,7 @@ fn load_editions(
     requires editions { (image : ImageValue) × EachHas version image 16 editions.items }
     ensures table { loader.new.table ≡ loader.old.table }
     ensures load { (image : ImageValue) → EachHas version image 16 editions.items
-        → Loads shelf version former image loader.old.me.0 loader.new.me.0 }
+        → Loads shelf version image loader.old.me.0 loader.new.me.0 }
     ensures empty { loader.new.me.1 ≡ [] }
 {
     gather(shelves, loader, shelf);

@@ -86,7 +86,7 @@ MakesRoomBySteps u u' = (HasFree u × (u' ≡ u)) ⊎ ((¬ (HasFree u)) × ((fou
 
 -- the image is the next version, on the least free shelf
 abbrev pub PublishesBySteps : View → ImageValue → ℕ → View → Type 0
-PublishesBySteps u image version u' = (shelf former : ℕ) × IsLeastFree u shelf × Loads shelf version former image u u'
+PublishesBySteps u image version u' = (shelf : ℕ) × IsLeastFree u shelf × Loads shelf version image u u'
 
 -- the same, and then one notice of the version goes out
 abbrev pub PublishesWithNotice : View → ImageValue → ℕ → View → Type 0

@@ -220,8 +220,7 @@ impl ShelfLoader {
         requires free { (shelf < 8) × (shelf_of self.old.view shelf ≡ Some Shelf.Free) }
         ensures table { (self.new.table ≡ self.old.table) × (self.new.answers ≡ self.old.answers) }
         ensures next { IfOk result (λ v. IsNext self.old v self.new × (1 < v) × (v ≤ most_versions)) }
-        ensures loads { IfOk result (λ version. (former : ℕ)
-            × Loads shelf version former (arc_value image.now) self.old.view self.new.view) }
+        ensures loads { IfOk result (λ version. Loads shelf version (arc_value image.now) self.old.view self.new.view) }
         ensures known { IfOk result (λ v. IsPublished (known_of self.new.view) v (arc_value image.now)) }
         ensures refused { OnErr result (self.new ≡ self.old) }
     {
