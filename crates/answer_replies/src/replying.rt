@@ -35,8 +35,8 @@ pub fn reply_by_name<L: ReadLog>(
     log: L,
 ) -> (Result<String, AllocError>, L)
     requires { IsAskableBetween image.now.timetable.stops (question query.now) }
-    ensures line { IfOk result.0 (λ line. IsAnsweredBy criterion (subject_of form image.now version) (question query.now)
-        (string_bytes line)) }
+    ensures line { IfOk result.0 (λ line. IsAnsweredBy criterion (subject_of form image.now version)
+        (question query.now) (string_bytes line)) }
     ensures whole { OnOk result.0 (L.reads result.1
         ≡ L.reads log ++ reverse (window_between image.now.timetable (question query.now))) }
     ensures part { (n : ℕ) × (L.reads result.1

@@ -30,14 +30,14 @@ use Rattle.shelf_steps.specs.declared.views.View.{View}
 use Rattle.shelf_steps.specs.EventHistory.{EventHistory, LeadsToItsState, IsLonger, extended, all_of, IsKnownBeginning, Happened, image_of}
 use Rattle.version_core.specs.Shown.{WordsShow, shelf_word}
 use Rattle.shelf_steps.specs.Seats.{WorkerFits, LoaderFits}
-use Rattle.shelf_steps.specs.Slots.{SlotsFit, SlotFits, down_from, nothings}
+use Rattle.shelf_steps.specs.Slots.{SlotsFit, SlotFits, held_by, down_from, nothings}
 use Rattle.shelf_steps.specs.Rule.{KeepsRule}
 use Rattle.shelf_steps.specs.Plays.{SeatAndSlots, newest_of, with_open, with_current, with_closing, with_free}
 use Rattle.shelf_steps.specs.Plays.{with_hand, AllHave, IsLastEvent, Opens, Publishes, Closes, CollectsFound, Collects}
 use Rattle.shelf_steps.specs.Plays.{Gathers, PutsBack, MayOpenOn, MayPublish, MayClose, MayCollect, MayGather}
 use Rattle.shelf_steps.specs.Plays.{MayPutBack}
 use Rattle.shelf_steps.specs.Events.{known_of}
-use Rattle.shelf_steps.specs.Steps.{Adds, added, OpensAdd, PublishesAdd, ClosesAdd, CollectsAdd, GatheringsAdd, PuttingsAdd}
+use Rattle.shelf_steps.specs.Steps.{Adds, added, word_change, OpensAdd, PublishesAdd, ClosesAdd, CollectsAdd, GatheringsAdd, PuttingsAdd}
 use Rattle.shelf_steps.proofs.Works.{allows}
 use Rattle.shelf_steps.proofs.Courses.{kept_of, joined_same, no_join, nothing_snoc, loaders_event}
 use Rattle.shelf_steps.proofs.Courses.{begins_longer, happened, goes_on, goes_same, image_later, loader_next, prefix_same, other_fits}
@@ -145,7 +145,7 @@ opens_as : (slots id k version : ℕ) (l : LoaderView) (image : ImageValue) (f :
     → Adds slots id (
       View.Loading l,
       down_from f (16 * k) 16 [],
-    ) (k + 1) (added (256 + 65536 * version)) (Event.Open (newest_of l)) (λ _. Reply.Opened version k)
+    ) (word_change (k + 1) (added (256 + 65536 * version)) (Event.Open (newest_of l)) (λ _. Reply.Opened version k))
     (Opens (step slots (k + 1) (256 + 65536 * version) 0 none) (View.Loading l, down_from f (16 * k) 16 []))
 opens_as slots id k version l image f many small free hand current next few all table r full at fits =
     let s = r.history.state in let n = get_or table.words (k + 1) 0 in let top = newest_of l in
@@ -170,8 +170,7 @@ opens_as slots id k version l image f many small free hand current next few all 
     let found = r.words.each k Shelf.Free is_free in
     let word : added (256 + 65536 * version) n ≡ shelf_word (Shelf.Open (newest s + 1)) (get_or s.counts k 0) =
     open_word n (get_or s.counts k 0) version found counted few ∙ ap (λ m. get_or s.counts k 0 + 256 + 65536 * m) (next ∙ ap (λ m. m + 1) is_newest) in
-    let here : (u : ℕ) → u < 16 → SlotFits images s.workers None (Shelf.Open (newest s + 1)) k u
-    (get_elem? (homes_after table.homes (down_from f (16 * k) 16 []) (give_block 16)) (16 * k + u)) =
+    let here : (u : ℕ) → u < 16 → SlotFits (held_by images s.workers None) (Shelf.Open (newest s + 1)) k u (get_elem? (homes_after table.homes (down_from f (16 * k) 16 []) (give_block 16)) (16 * k + u)) =
     λ u less. let h = all (16 * k + u) (omega arith) (omega arith) in (
       (λ q. cc),
       inl (
@@ -227,7 +226,7 @@ opens_add slots id k version l c many small may =
     subst (λ (x : List (ℕ × Option Edition)). Adds slots id (
       View.Loading l,
       x,
-    ) (k + 1) (added (256 + 65536 * version)) (Event.Open (newest_of l)) (λ _. Reply.Opened version k)
+    ) (word_change (k + 1) (added (256 + 65536 * version)) (Event.Open (newest_of l)) (λ _. Reply.Opened version k))
     (Opens (step slots (k + 1) (256 + 65536 * version) 0 none) (View.Loading l, x))) (sym block.2)
     (opens_as slots id k version l block.0 block.1 many small may.0 may.1 may.2 may.3 may.4 block.3)
 
@@ -465,8 +464,8 @@ collects_add slots id k version l c many small may =
     subst (λ (x : List (ℕ × Option Edition)). Adds slots id (
       View.Loading l,
       x,
-    ) (k + 1) (λ n. either (n == 512 + 65536 * version) 0 n) (Event.Collect k)
-    (λ n. cond (n == 512 + 65536 * version) Reply.Freed (Reply.Busy (n % 256)))
+    ) (word_change (k + 1) (λ n. either (n == 512 + 65536 * version) 0 n) (Event.Collect k)
+    (λ n. cond (n == 512 + 65536 * version) Reply.Freed (Reply.Busy (n % 256))))
     (Collects (step slots (k + 1) (512 + 65536 * version) 0 none) (View.Loading l, x))) (sym may.2)
     (λ table r full at fits.
     let n = get_or table.words (k + 1) 0 in
@@ -544,11 +543,11 @@ spare_tries : (slots id k : ℕ) (l : LoaderView) (c was : List (ℕ × Option E
     → ((table : Table (Option Edition) View) (r : KeepsRule table) → length table.homes ≡ slots
     → get_elem? table.views id ≡ some (View.Loading l) → IsFree r.history.state k
     → Valid table.homes was a × SlotsFit (homes_after table.homes was a) r.history.state.shelves r.history.state.workers r.history.images (hand k))
-    → Adds slots id (View.Loading l, c) (k + 1) (λ n. either (n == 512) 0 n) (Event.Collect k) (λ _. Reply.NotNow)
+    → Adds slots id (View.Loading l, c) (word_change (k + 1) (λ n. either (n == 512) 0 n) (Event.Collect k) (λ _. Reply.NotNow))
     (λ n m'. (j : ℕ) × (k + 1 ≡ j + 1) × SparedOn l hand after j m')
 spare_tries slots id k l c was hand after a is small free moves moved =
-    subst (λ (x : List (ℕ × Option Edition)). Adds slots id (View.Loading l, x) (k + 1) (λ n. either (n == 512) 0 n) (Event.Collect k)
-    (λ _. Reply.NotNow) (λ n m'. (j : ℕ) × (k + 1 ≡ j + 1) × SparedOn l hand after j m')) (sym is)
+    subst (λ (x : List (ℕ × Option Edition)). Adds slots id (View.Loading l, x) (word_change (k + 1) (λ n. either (n == 512) 0 n) (Event.Collect k)
+    (λ _. Reply.NotNow)) (λ n m'. (j : ℕ) × (k + 1 ≡ j + 1) × SparedOn l hand after j m')) (sym is)
     (λ table r full at fits.
     let m = moved table r full at (shelf_is table r id l at k Shelf.Free free) in
     let z = tries_free id k l was (hand k) a table r at small free m.1 (get_or table.words (k + 1) 0 == 512) refl in

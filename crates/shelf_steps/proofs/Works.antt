@@ -24,12 +24,12 @@ use Rattle.shelf_steps.specs.declared.views.View.{View}
 use Rattle.shelf_steps.specs.EventHistory.{EventHistory, LeadsToItsState, IsLonger, extended, all_of, IsKnownBeginning, Happened, IsEdition}
 use Rattle.version_core.specs.Shown.{WordsShow, WorkerShows, shelf_word}
 use Rattle.shelf_steps.specs.Seats.{WorkerFits, LoaderFits, SeatsFit, HasEdition}
-use Rattle.shelf_steps.specs.Slots.{SlotsFit, SlotFits, Slot}
+use Rattle.shelf_steps.specs.Slots.{SlotsFit, SlotFits, Slot, held_by}
 use Rattle.shelf_steps.specs.Rule.{KeepsRule}
 use Rattle.shelf_steps.specs.Plays.{SeatAndSlots, looked_at, is_open, holding, come_late, gone, Looks, TakesFound, TakesAs}
 use Rattle.shelf_steps.specs.Plays.{Takes, Leaves, GivesBack, IsIdle, HasLooked, IsLate, HoldsOut, ShowsIn}
 use Rattle.shelf_steps.specs.Events.{known_of}
-use Rattle.shelf_steps.specs.Steps.{Adds, added, word_values, LooksAdd, TakesAdd, LeavesAdd, GivingsAdd}
+use Rattle.shelf_steps.specs.Steps.{Adds, added, word_change, word_values, LooksAdd, TakesAdd, LeavesAdd, GivingsAdd}
 use Rattle.shelf_steps.proofs.Courses.{kept_of, joined_same, no_note, no_join, nothing_snoc, workers_event}
 use Rattle.shelf_steps.proofs.Courses.{begins_longer, happened, goes_same, loader_apart, prefix_same, other_fits, worker_next}
 use Rattle.shelf_steps.proofs.Frames.{there, worker_moves}
@@ -104,7 +104,7 @@ module _ (table : Table (Option Edition) View) (r : KeepsRule table) (id : ℕ) 
 
 -- what the kit asks of an operation on a word, where the history grows by its event
 pub allows : (slots id : ℕ) (me : SeatAndSlots) (i : ℕ) (f : ℕ → ℕ) (e : Event) (reply : ℕ → Reply) (tells : ℕ → SeatAndSlots → Type 0)
-    → Adds slots id me i f e reply tells → Allows KeepsRule slots id me i f tells
+    → Adds slots id me (word_change i f e reply) tells → Allows KeepsRule slots id me i f tells
 allows slots id me i f e reply tells adds table r full at small = let z = adds table r full at small in (z.0, z.1, z.2, z.3, z.6)
 
 pub looks_add : LooksAdd
@@ -189,7 +189,7 @@ takes_found : (id k : ℕ) (v : WorkerView) (version : ℕ) (c : List (ℕ
     → (w : View) × (a : Act (Option Edition)) × Valid table.homes c a
     × (after : KeepsRule (stepped table (k + 1) (added 1 (get_or table.words (k + 1) 0)) id c w a))
     × IsLonger r.history (Event.Take v.number) (cond b (Reply.Holds version) Reply.Late) after.history × (known_of w ≡ all_of after.history)
-    × TakesFound v c version k (get_or table.words (k + 1) 0) b (w, carried_after c a)
+    × TakesFound (v, c) (version, k) (get_or table.words (k + 1) 0) b (w, carried_after c a)
 takes_found id k v version c table r at now true stands =
     let s = r.history.state in let w = v.number in let n = get_or table.words (k + 1) 0 in
     let kept : KeepsInvariants s = kept_of r.history r.goes in let l = looker id k v version table r at now in
@@ -362,8 +362,8 @@ held_shelf s w k version kept here = held_on s.shelves k version (held_known s w
 -- a slot at home with the edition of the shelf's version, if its worker doesn't hold the shelf
 fills : (y : Shelf) (images : List ImageValue) (before ws : List Worker) (hand : Option ℕ) (k w version : ℕ) (slot : Slot)
     (edition : Option Edition) → version_of y ≡ Some version → IsEdition images version edition
-    → ((x : ℕ) → slice_get ws w ≢ Some (Worker.Holding k x)) → SlotFits images before hand y k w slot
-    → SlotFits images ws hand y k w (some (some edition))
+    → ((x : ℕ) → slice_get ws w ≢ Some (Worker.Holding k x)) → SlotFits (held_by images before hand) y k w slot
+    → SlotFits (held_by images ws hand) y k w (some (some edition))
 fills y images before ws hand k w version slot edition e its away was =
     filled_fits images ws hand y k w version (some (some edition)) e (slot_filled images before hand y k w version slot e was).0
     (inl (edition, refl, its, away version))

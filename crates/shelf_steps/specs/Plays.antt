@@ -70,19 +70,19 @@ Looks m n m' = OfWorker m.0 (λ v.
 
 -- a take that found the word n: if the shelf was open with the version that was looked at (true), the worker holds it, with its edition in the slot;
 -- otherwise (false) the worker is late
-abbrev pub TakesFound : WorkerView → List (ℕ × Option Edition) → ℕ → ℕ → ℕ → Bool → SeatAndSlots → Type 0
-TakesFound v c version k n true m' =
+abbrev pub TakesFound : WorkerView × List (ℕ × Option Edition) → ℕ × ℕ → ℕ → Bool → SeatAndSlots → Type 0
+TakesFound (v, c) (version, k) n true m' =
     (e : Edition) × (known : KnownHistory) × (m' ≡ (View.Working (holding v k version e known), (slot_at k v.number, Some e) ∷ c))
     × Happened v.known (Event.Take v.number) (Reply.Holds version) known × IsEdition known.images version (Some e) × ShowsIn (holding v k version e known)
     × FoundAt known (Event.Take v.number) k n
-TakesFound v c version k n false m' =
+TakesFound (v, c) (version, k) n false m' =
     (known : KnownHistory) × (m' ≡ (View.Working (come_late v k known), c)) × Happened v.known (Event.Take v.number) Reply.Late known × ShowsIn
     (come_late v k known)
     × FoundAt known (Event.Take v.number) k n
 
 -- the same of a worker that has looked; no other takes a shelf
 abbrev pub TakesAs : WorkerView → List (ℕ × Option Edition) → Worker → ℕ → SeatAndSlots → Type 0
-TakesAs v c (Worker.Looked version k) n m' = TakesFound v c version k n (is_open n version) m'
+TakesAs v c (Worker.Looked version k) n m' = TakesFound (v, c) (version, k) n (is_open n version) m'
 TakesAs v c _ n m' = ⊥
 
 -- the step `Taking`, which found the word n on the shelf that the worker saw

@@ -75,7 +75,7 @@ taken version k true = Worker.Holding k version
 taken version k false = Worker.Late k
 
 found_so : (v : WorkerView) (c : List (ℕ × Option Edition)) (version k n : ℕ) (b : Bool) (m' : SeatAndSlots) → k < 8 → c ≡ []
-    → TakesFound v c version k n b m' → DoesSo (taken version k b) m'
+    → TakesFound (v, c) (version, k) n b m' → DoesSo (taken version k b) m'
 found_so v c version k n true m' small empty t =
     subst (λ (m : SeatAndSlots). DoesSo (Worker.Holding k version) m) (sym t.2) (
       refl,
@@ -90,8 +90,8 @@ after_take (View.Loading l) c version k n b m' h take is = absurd h
 after_take (View.Noting x') c version k n b m' h take is = absurd h
 after_take View.Spent c version k n b m' h take is = absurd h
 after_take (View.Working v) c version k n b m' h take is =
-    let t : TakesFound v c version k n (is_open n version) m' = subst (λ (w : Worker). Rattle.shelf_steps.specs.Plays.TakesAs v c w n m') h.0 take in
-    found_so v c version k n b m' h.1.0 h.1.1 (subst (λ x. TakesFound v c version k n x m') is t)
+    let t : TakesFound (v, c) (version, k) n (is_open n version) m' = subst (λ (w : Worker). Rattle.shelf_steps.specs.Plays.TakesAs v c w n m') h.0 take in
+    found_so v c version k n b m' h.1.0 h.1.1 (subst (λ x. TakesFound (v, c) (version, k) n x m') is t)
 
 pub held_so : (m m' : SeatAndSlots) (version k n : ℕ) → DoesSo (Worker.Looked version k) m → Takes m n m'
     → is_open n version ≡ true → DoesSo (Worker.Holding k version) m'
