@@ -29,7 +29,8 @@ looks_events (View.Working v, c) m' n h = subst
     )
 looks_events (_, c) m' n h = absurd h
 
-takes_found_so : (v : WorkerView) (c : List (ℕ × Option Edition)) (version k n : ℕ) (b : Bool) (m' : SeatAndSlots) → TakesFound (v, c) (version, k) n b m'
+takes_found_so : (v : WorkerView) (c : List (ℕ × Option Edition)) (version k n : ℕ) (b : Bool) (m' : SeatAndSlots)
+    → TakesFound (v, c) (version, k) n b m'
     → ((held : ℕ) × IsWorkers Event.Take (Reply.Holds held) (View.Working v) m'.0) ⊎ IsWorkers Event.Take Reply.Late (View.Working v) m'.0
 takes_found_so v c version k n true m' h =
     inl (version, subst (λ (m : SeatAndSlots). IsWorkers Event.Take (Reply.Holds version) (View.Working v) m.0) (sym h.2) (v.number, refl, refl, h.3))
@@ -99,7 +100,8 @@ late_found v c version k n false m' h late = subst (λ (m : SeatAndSlots). OfWor
 late_so : (u : View) (c : List (ℕ × Option Edition)) (m1 m2 : SeatAndSlots) (n word : ℕ) → Looks (u, c) n m1 → Takes m1 word m2
     → IsLate (n % 8) m2.0 → Passed (n / 8) m2.0
 late_so (View.Working v) c m1 m2 n word look take late =
-    let t : TakesFound ((looked_at v n look.0), c) ((n / 8), (n % 8)) word (is_open word (n / 8)) m2 = subst (λ (m : SeatAndSlots). Takes m word m2) look.1 take in
+    let t : TakesFound (looked_at v n look.0, c) (n / 8, n % 8) word (is_open word (n / 8)) m2 =
+    subst (λ (m : SeatAndSlots). Takes m word m2) look.1 take in
     late_found (looked_at v n look.0) c (n / 8) (n % 8) word (is_open word (n / 8)) m2 t late
 late_so _ c m1 m2 n word look take late = absurd look
 

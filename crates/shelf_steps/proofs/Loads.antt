@@ -170,7 +170,8 @@ opens_as slots id k version l image f many small free hand current next few all 
     let found = r.words.each k Shelf.Free is_free in
     let word : added (256 + 65536 * version) n ≡ shelf_word (Shelf.Open (newest s + 1)) (get_or s.counts k 0) =
     open_word n (get_or s.counts k 0) version found counted few ∙ ap (λ m. get_or s.counts k 0 + 256 + 65536 * m) (next ∙ ap (λ m. m + 1) is_newest) in
-    let here : (u : ℕ) → u < 16 → SlotFits (held_by images s.workers None) (Shelf.Open (newest s + 1)) k u (get_elem? (homes_after table.homes (down_from f (16 * k) 16 []) (give_block 16)) (16 * k + u)) =
+    let here : (u : ℕ) → u < 16 → SlotFits (held_by images s.workers None) (Shelf.Open (newest s + 1)) k u
+    (get_elem? (homes_after table.homes (down_from f (16 * k) 16 []) (give_block 16)) (16 * k + u)) =
     λ u less. let h = all (16 * k + u) (omega arith) (omega arith) in (
       (λ q. cc),
       inl (

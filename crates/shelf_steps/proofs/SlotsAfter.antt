@@ -34,20 +34,26 @@ spare_on hand hand' k slot to from f = elim f as (λ _. IsSpare hand' k slot) [ 
 pub slot_filled : (images : List ImageValue) (workers : List Worker) (hand : Option ℕ) (x : Shelf) (k u v : ℕ) (slot : Slot)
     → version_of x ≡ Some v → SlotFits (held_by images workers hand) x k u slot → (hand ≢ Some k) × IsFilled images (slice_get workers u) k v slot
 slot_filled images workers hand Shelf.Free k u v slot e f = absurd (cc)
-slot_filled images workers hand (Shelf.Open x) k u v slot e f = let same : x ≡ v = cc in (f.0, subst (λ n. IsFilled images (slice_get workers u) k n slot) same f.1)
-slot_filled images workers hand (Shelf.Closing x) k u v slot e f = let same : x ≡ v = cc in (f.0, subst (λ n. IsFilled images (slice_get workers u) k n slot) same f.1)
+slot_filled images workers hand (Shelf.Open x) k u v slot e f =
+    let same : x ≡ v = cc in (f.0, subst (λ n. IsFilled images (slice_get workers u) k n slot) same f.1)
+slot_filled images workers hand (Shelf.Closing x) k u v slot e f =
+    let same : x ≡ v = cc in (f.0, subst (λ n. IsFilled images (slice_get workers u) k n slot) same f.1)
 
 pub filled_fits : (images : List ImageValue) (workers : List Worker) (hand : Option ℕ) (x : Shelf) (k u v : ℕ) (slot : Slot)
     → version_of x ≡ Some v → hand ≢ Some k → IsFilled images (slice_get workers u) k v slot → SlotFits (held_by images workers hand) x k u slot
 filled_fits images workers hand Shelf.Free k u v slot e away f = absurd (cc)
-filled_fits images workers hand (Shelf.Open x) k u v slot e away f = let same : v ≡ x = cc in (away, subst (λ n. IsFilled images (slice_get workers u) k n slot) same f)
-filled_fits images workers hand (Shelf.Closing x) k u v slot e away f = let same : v ≡ x = cc in (away, subst (λ n. IsFilled images (slice_get workers u) k n slot) same f)
+filled_fits images workers hand (Shelf.Open x) k u v slot e away f =
+    let same : v ≡ x = cc in (away, subst (λ n. IsFilled images (slice_get workers u) k n slot) same f)
+filled_fits images workers hand (Shelf.Closing x) k u v slot e away f =
+    let same : v ≡ x = cc in (away, subst (λ n. IsFilled images (slice_get workers u) k n slot) same f)
 
 -- a slot that stays where it is
-pub slot_on : (images more : List ImageValue) (workers ws : List Worker) (hand hand' : Option ℕ) (x : Shelf) (k u : ℕ) (slot : Slot) → IsPrefix images more
+pub slot_on : (images more : List ImageValue) (workers ws : List Worker) (hand hand' : Option ℕ) (x : Shelf) (k u : ℕ) (slot : Slot)
+    → IsPrefix images more
     → ((v : ℕ) → slice_get workers u ≡ Some (Worker.Holding k v) → slice_get ws u ≡ Some (Worker.Holding k v))
     → ((v : ℕ) → slice_get ws u ≡ Some (Worker.Holding k v) → slice_get workers u ≡ Some (Worker.Holding k v))
-    → (hand ≡ Some k → hand' ≡ Some k) → (hand' ≡ Some k → hand ≡ Some k) → SlotFits (held_by images workers hand) x k u slot → SlotFits (held_by more ws hand') x k u slot
+    → (hand ≡ Some k → hand' ≡ Some k) → (hand' ≡ Some k → hand ≡ Some k) → SlotFits (held_by images workers hand) x k u slot
+    → SlotFits (held_by more ws hand') x k u slot
 slot_on images more workers ws hand hand' Shelf.Free k u slot p holds held to from f = spare_on hand hand' k slot to from f
 slot_on images more workers ws hand hand' (Shelf.Open v) k u slot p holds held to from f =
     ((λ q. f.0 (from q)), filled_on images more workers ws k u v slot p (holds v) (held v) f.1)
@@ -95,7 +101,8 @@ pub slots_one : (homes : List (Maybe (Option Edition))) (shelves : List Shelf) (
     → SlotFits (held_by images (set workers w now) hand) y k w (some value) → SlotsFit homes shelves workers images hand
     → SlotsFit (set homes (16 * k + w) value) shelves (set workers w now) images hand
 slots_one homes shelves workers images hand k w was now y value is here_alone there_alone at less room here fit j u x at' small =
-    let P : ℕ → ℕ → Shelf → Type 0 = λ j u x. SlotFits (held_by images (set workers w now) hand) x j u (get_elem? (set homes (16 * k + w) value) (16 * j + u)) in
+    let P : ℕ → ℕ → Shelf → Type 0 =
+    λ j u x. SlotFits (held_by images (set workers w now) hand) x j u (get_elem? (set homes (16 * k + w) value) (16 * j + u)) in
     dite (ℕ_discrete j k)
     (λ e. dite (ℕ_discrete u w)
     (λ d. let z : Some y ≡ Some x = sym at ∙ (ap (λ n. slice_get shelves n) (sym e) ∙ at') in let same : y ≡ x = cc in
