@@ -118,6 +118,15 @@ module _ (fault : Option ErrorKind) (has : HasFault fault) where
     ended = at_port_unwritten (may_host request run.image run.zone_bytes) run.port status before after done run.ended;
   })
 
+-- a text's end is as it would be, or its output has a fault
+pub text_unwritten_as : (text : List ℕ) (fault : Option ErrorKind) (status result : ℕ) (before after : Option (List ℕ))
+    → (result ≡ status) ⊎ (((status ≡ ACCEPTED) ⊎ (status ≡ REFUSED)) × (result ≡ INPUT_OUTPUT) × HasFault fault)
+    → IsTextEnd text fault status before after → IsTextEnd text fault result before after
+text_unwritten_as text fault status result before after (inl same) ended =
+    subst (λ (s : ℕ). IsTextEnd text fault s before after) (sym same) ended
+text_unwritten_as text fault status result before after (inr (done, three, has)) ended =
+    subst (λ (s : ℕ). IsTextEnd text fault s before after) (sym three) (text_unwritten fault has text status before after done ended)
+
 module _ {D : Type 0} (may_hold : List ℕ → Option (List ℕ) → Type 0) (may_fail : List ℕ → Type 0) (gives : Gives D) (disk : OutFiles)
     (may_show : Option ℤ → Type 0) (may_host : MayHost) (input : Option (List ℕ)) (input_failed : Type 0)
     (fault : Option ErrorKind) (has : HasFault fault) (status : ℕ) (before after : Option (List ℕ)) (done : IsSettled status) where

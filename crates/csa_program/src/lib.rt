@@ -89,10 +89,12 @@ const NO_MEMORY: &str = "csa: out of memory";
 /// Prints the checksum of the program's sources, below its version. The status is 0, or 3 if the line can't be written:
 /// `errors` says why, as for a command. It takes no memory.
 pub fn print_sources<O: Watched, E: Write>(sources: &str, output: &mut O, errors: &mut E) -> u8
-    ensures { IsTextEnd ((codes "sources " ++ sources.now) ++ codes "\n") (O.noted output.new) result
+    ensures ended { IsTextEnd ((codes "sources " ++ sources.now) ++ codes "\n") (O.noted output.new) result
         (O.Write.contents output.old) (O.Write.contents output.new) }
+    ensures clean { result ≡ ACCEPTED → O.noted output.new ≡ None }
 {
-    let status = put_sources(sources, output);
+    let ended = put_sources(sources, output);
+    let status = unless_unwritten(ended, output.fault());
     explain_unwritten(errors, output.fault());
     status
 }
