@@ -93,8 +93,8 @@ pub fn print_sources<O: Watched, E: Write>(sources: &str, output: &mut O, errors
         (O.Write.contents output.old) (O.Write.contents output.new) }
     ensures clean { result ≡ ACCEPTED → O.noted output.new ≡ None }
 {
-    let ended = put_sources(sources, output);
-    let status = unless_unwritten(ended, output.fault());
+    let printed = put_sources(sources, output);
+    let status = unless_unwritten(printed, output.fault());
     explain_unwritten(errors, output.fault());
     status
 }

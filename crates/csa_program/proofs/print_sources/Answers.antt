@@ -9,7 +9,7 @@ use Rattle.image_files.specs.Watching.{HasFault}
 pub returns-clause-ended : goal.returns-clause-ended
 returns-clause-ended g c =
     let status = c.unless_unwritten-status in
-    let ended = c.put_sources-ended.result in
+    let ended = c.put_sources-printed.result in
     let kept = subst (λ (fault : Option ErrorKind). (status.result ≡ ended) ⊎ (((ended ≡ ACCEPTED) ⊎ (ended ≡ REFUSED)) × (status.result ≡ INPUT_OUTPUT)
     × HasFault fault)) c.fault.ensures status.ensures.kept in
-    text_unwritten_as _ _ ended status.result _ _ kept c.put_sources-ended.ensures
+    text_unwritten_as _ _ ended status.result _ _ kept c.put_sources-printed.ensures
