@@ -81,10 +81,18 @@ IsPicturePut disk None picture = Unit {0}
 IsPicturePut disk (Some path) None = Unit {0}
 IsPicturePut disk (Some path) (Some picture) = IsPutInto disk path.now (string_bytes picture)
 
--- a picture is asked for, and may not be written into the file at its path; or this may be the file of the image, which is at the other path
+-- a picture is asked for, and may not be written into the file at its path
+abbrev pub IsPictureUnwritten : OutFiles → Option (Bor (List ℕ)) → Type 0
+IsPictureUnwritten disk None = ⊥
+IsPictureUnwritten disk (Some path) = IsUnwritableInto disk path.now
+
+-- a picture is asked for at a path where the file of the image may be, which is at the other path
+abbrev pub IsOverImage : OutFiles → List ℕ → Option (Bor (List ℕ)) → Type 0
+IsOverImage disk image None = ⊥
+IsOverImage disk image (Some path) = disk.may_be_one path.now image
+
 abbrev pub IsPictureUnwritable : OutFiles → List ℕ → Option (Bor (List ℕ)) → Type 0
-IsPictureUnwritable disk image None = ⊥
-IsPictureUnwritable disk image (Some path) = IsUnwritableInto disk path.now ⊎ disk.may_be_one path.now image
+IsPictureUnwritable disk image picture = IsPictureUnwritten disk picture ⊎ IsOverImage disk image picture
 
 -- the question is answered, and its picture may not be written
 abbrev pub LacksPicture : OutFiles → ImageValue → ProfileRequest → Type 0

@@ -6,7 +6,7 @@ ghost use Rattle.std.specs.Io.KnownBytes.{Appends};
 ghost use Rattle.profile_scan.specs.SetQuery.{IsAskableBetween, question};
 ghost use Rattle.command_requests.specs.declared.statuses.TheConstants.{INPUT_OUTPUT, OUT_OF_MEMORY, REFUSED};
 ghost use Rattle.image_commands.specs.Answering.{IsPicturePut, IsPictureUnwritable, IsProfile, IsShown, IsShownBy};
-ghost use Rattle.image_commands.specs.Answering.{LacksPicture};
+ghost use Rattle.image_commands.specs.Answering.{IsOverImage, IsPictureUnwritten, LacksPicture};
 ghost use Rattle.image_files.specs.Watching.{HasFault, IsBegun};
 ghost use Rattle.image_commands.specs.Commands.{PrintsProfile};
 ghost use Rattle.command_endings.specs.Ending.{EndsUndone, IsOutcome, PrintsOnly};
@@ -79,10 +79,13 @@ fn print_profile<H: OutDisk + AllocGlobal, O: Watched, E: Write>(
 {
     if is_over_image(rt, request) {
         let path = shown_path(request.picture.unwrap_or(""));
-        explain(errors, &["csa: ", path, " can't be written: it is the image"]);
+        explain(
+            errors,
+            &["csa: ", path, " can't be written: it is the image"],
+        );
         return status::INPUT_OUTPUT;
     }
-    match put_picture(rt, request, &profile.picture) {
+    match put_picture(rt, request.picture, &profile.picture) {
         Ok(()) => status::write_text(output, profile.text.as_str(), status::ACCEPTED),
         Err(error) => {
             let path = request.picture.unwrap_or("");
@@ -93,8 +96,7 @@ fn print_profile<H: OutDisk + AllocGlobal, O: Watched, E: Write>(
 
 /// Whether a picture is asked for in the file of the image.
 fn is_over_image<H: OutDisk>(rt: &H, request: &ProfileRequest<'_>) -> bool
-    ensures { result ≡ true
-        → IsPictureUnwritable (H.files rt.now) request.now.image.now request.now.picture }
+    ensures { result ≡ true → IsOverImage (H.files rt.now) request.now.image.now request.now.picture }
 {
     match request.picture {
         Some(path) => request.image != "-" && rt.is_one(path, request.image),
@@ -103,16 +105,11 @@ fn is_over_image<H: OutDisk>(rt: &H, request: &ProfileRequest<'_>) -> bool
 }
 
 /// Writes a picture into the file at its path, if there are both.
-fn put_picture<H: OutDisk>(
-    rt: &H,
-    request: &ProfileRequest<'_>,
-    picture: &Option<String>,
-) -> io::Result<()>
-    ensures put { OnOk result (IsPicturePut (H.files rt.now) request.now.picture picture.now) }
-    ensures failed { OnErr result
-        (IsPictureUnwritable (H.files rt.now) request.now.image.now request.now.picture) }
+fn put_picture<H: OutDisk>(rt: &H, path: Option<&str>, picture: &Option<String>) -> io::Result<()>
+    ensures put { OnOk result (IsPicturePut (H.files rt.now) path.entry picture.now) }
+    ensures failed { OnErr result (IsPictureUnwritten (H.files rt.now) path.entry) }
 {
-    match request.picture {
+    match path {
         None => Ok(()),
         Some(path) => match picture {
             None => Ok(()),

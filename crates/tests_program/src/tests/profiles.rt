@@ -270,8 +270,10 @@ fn an_answer_is_drawn(rt: HostRuntime) -> Result<(), Fail> {
     fs::remove_file(&rt, "answer.svg")?;
     let two = fs::read_to_string(&rt, "two.svg")?;
     fs::remove_file(&rt, "two.svg")?;
-    let first = "<g transform=\"translate(0 134)\">\n<text class=\"time\" x=\"16\" y=\"5\">08:00 – 08:20</text>\n";
-    let second = "<g transform=\"translate(0 182)\">\n<text class=\"time\" x=\"16\" y=\"5\">08:00 – 08:30</text>\n";
+    let first =
+        "<g transform=\"translate(0 134)\">\n<text class=\"time\" x=\"16\" y=\"5\">08:00 – 08:20</text>\n";
+    let second =
+        "<g transform=\"translate(0 182)\">\n<text class=\"time\" x=\"16\" y=\"5\">08:00 – 08:30</text>\n";
     assert!(rt; two.as_str().contains("viewBox=\"0 0 960 278\""));
     assert!(rt; two.as_str().contains(first) && two.as_str().contains(second));
     Ok(())

@@ -613,12 +613,7 @@ fn expect_help<
     expect_texts(rt, &stage.words, &outcome.output, texts)
 }
 
-fn expect_texts<R: Abort>(
-    rt: &R,
-    words: &[&str],
-    output: &[u8],
-    texts: &str,
-) -> Result<(), Fail> {
+fn expect_texts<R: Abort>(rt: &R, words: &[&str], output: &[u8], texts: &str) -> Result<(), Fail> {
     let Ok(page) = str::from_utf8(output) else {
         return Err(Fail::new("help that is text"));
     };
