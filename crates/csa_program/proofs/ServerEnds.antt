@@ -15,7 +15,7 @@ use Rattle.command_requests.specs.declared.plans.ZoneText.{ZoneText}
 use Rattle.command_requests.specs.declared.requests.ServeRequest.{ServeRequest}
 use Rattle.command_requests.specs.declared.statuses.TheConstants.{ACCEPTED, INPUT_OUTPUT, OUT_OF_MEMORY, REFUSED}
 use Rattle.csa_program.specs.Running.{IsPlanned, IsServeEnd, IsServeRefusal, IsUnservable}
-use Rattle.csa_program.specs.Serving.{IsEndAt, IsNoServerEnd, IsServerEnd, port_text, served_text}
+use Rattle.csa_program.specs.Serving.{IsEndAt, IsNoServerEnd, IsServerEnd, MayHost, port_text, served_text}
 use Rattle.feed_commands.specs.Refusing.{RefusesFeed, feed_line, refusal_status}
 use Rattle.feed_loader.specs.Refused.{IsWantOfMemory}
 use Rattle.feed_loader.specs.declared.fault.LoadFault.{LoadFault}
@@ -91,14 +91,14 @@ zone_unreadable may_fail (ZoneText.Posix rule) path none = none
 zone_unreadable may_fail (ZoneText.File file) path unread = unread.1
 
 module _ (may_hold : List ℕ → Option (List ℕ) → Type 0) (may_fail : List ℕ → Type 0) (may_show : Option ℤ → Type 0)
-    (input : Option (List ℕ)) (input_failed : Type 0) (request : ServeRequest) (noted : Option ErrorKind) (status : ℕ)
+    (input : Option (List ℕ)) (input_failed : Type 0) (request : ServeRequest) (may_host : MayHost) (noted : Option ErrorKind) (status : ℕ)
     (before after : Option (List ℕ)) where
   -- its zone is refused
   pub zone_refused : (fault : LoadFault) → IsNoZoneOf may_hold request.plan fault → EndsUndone status → (IsWantOfMemory fault → status ≡ OUT_OF_MEMORY)
       → (status ≡ REFUSED → RefusesFeed fault) → (status ≡ REFUSED → Appends before after (feed_line fault))
       → (status ≡ OUT_OF_MEMORY → after ≡ before) → (status ≡ INPUT_OUTPUT → IsBegun before after (feed_line fault))
       → (status ≡ INPUT_OUTPUT → IsDone (refusal_status fault) (feed_line fault) before after ⊎ HasFault noted)
-      → IsServeEnd may_hold may_fail may_show input input_failed request noted status before after
+      → IsServeEnd may_hold may_fail may_show input input_failed request may_host noted status before after
   zone_refused fault is (inl e) memory refuses whole silent begun failed =
       let judged = refuses e in
       inl (inl (feed_line fault, inl (fault, judged.0, e ∙ sym judged.1, is, refl), whole e))
@@ -114,7 +114,7 @@ module _ (may_hold : List ℕ → Option (List ℕ) → Type 0) (may_fail : List
   pub image_refused : (zone_bytes : List ℕ) → IsPlanned may_hold may_fail may_show input input_failed request zone_bytes
       → IsOutcome (PrintsRefusal (IsRefusedImage may_hold request.image.now input)) (IsUnreadable may_fail request.image.now input_failed) noted
       status before after
-      → IsServeEnd may_hold may_fail may_show input input_failed request noted status before after
+      → IsServeEnd may_hold may_fail may_show input input_failed request may_host noted status before after
   image_refused zone_bytes planned ended =
       inl (outcome_of (PrintsRefusal (IsRefusedImage may_hold request.image.now input))
       (IsServeRefusal may_hold may_fail may_show input input_failed request)
@@ -123,7 +123,7 @@ module _ (may_hold : List ℕ → Option (List ℕ) → Type 0) (may_fail : List
 
   -- its zone's file can't be read
   pub zone_unread : (path : Bor (List ℕ)) → IsNoPlan may_hold may_fail request.plan (PlanFailure.Unreadable path) → status ≡ INPUT_OUTPUT
-      → after ≡ before → IsServeEnd may_hold may_fail may_show input input_failed request noted status before after
+      → after ≡ before → IsServeEnd may_hold may_fail may_show input input_failed request may_host noted status before after
   zone_unread path unread e same = inl (inr (inr (inl (e, inl (zone_unreadable may_fail request.plan.zone path unread)), same)))
 
   -- nothing listens at its port
@@ -131,7 +131,7 @@ module _ (may_hold : List ℕ → Option (List ℕ) → Type 0) (may_fail : List
       → IsPlanned may_hold may_fail may_show input input_failed request zone_bytes
       → HoldsOfBytes may_hold request.image.now input (SpellsImage image)
       → (status ≡ INPUT_OUTPUT) ⊎ (status ≡ OUT_OF_MEMORY) → after ≡ before
-      → IsServeEnd may_hold may_fail may_show input input_failed request noted status before after
+      → IsServeEnd may_hold may_fail may_show input input_failed request may_host noted status before after
   unheard image zone_bytes planned held (inl e) same =
       inl (inr (inr (inl (e, inr (zone_bytes, planned, inr (image, held, tt))), same)))
   unheard image zone_bytes planned held (inr e) same = inl (inr (inr (inr e, same)))
@@ -141,8 +141,8 @@ module _ (may_hold : List ℕ → Option (List ℕ) → Type 0) (may_fail : List
       → IsPlanned may_hold may_fail may_show input input_failed request zone_bytes
       → HoldsOfBytes may_hold request.image.now input (SpellsImage image)
       → (request.port ≢ 0 → port ≡ request.port) → port < 65_536 → opened ≡ before
-      → IsEndAt port noted opened after status
-      → IsServeEnd may_hold may_fail may_show input input_failed request noted status before after
+      → IsEndAt (may_host request image zone_bytes) port noted opened after status
+      → IsServeEnd may_hold may_fail may_show input input_failed request may_host noted status before after
   listened image zone_bytes port opened planned held at small kept ended = inr (record {
     image = image;
     zone_bytes = zone_bytes;
@@ -151,5 +151,5 @@ module _ (may_hold : List ℕ → Option (List ℕ) → Type 0) (may_fail : List
     held = held;
     at = at;
     small = small;
-    ended = subst (λ (was : Option (List ℕ)). IsEndAt port noted was after status) kept ended;
+    ended = subst (λ (was : Option (List ℕ)). IsEndAt (may_host request image zone_bytes) port noted was after status) kept ended;
   })

@@ -14,7 +14,7 @@ use Rattle.command_requests.specs.declared.ends.SessionCounts.{SessionCounts}
 use Rattle.command_requests.specs.declared.requests.ServeRequest.{ServeRequest}
 use Rattle.command_requests.specs.declared.statuses.TheConstants.{ACCEPTED, COMMAND_LINE, INPUT_OUTPUT, OUT_OF_MEMORY, REFUSED}
 use Rattle.csa_program.specs.Running.{IsEnd, IsEndOf, IsServeEnd, IsTableCut, IsTableEnd, IsTextEnd}
-use Rattle.csa_program.specs.Serving.{IsEndAt, port_text, served_text}
+use Rattle.csa_program.specs.Serving.{IsEndAt, MayHost, port_text, served_text}
 use Rattle.feed_files.specs.Files.{Gives}
 use Rattle.image_commands.proofs.MatrixLemmas.{shown_in_part}
 use Rattle.image_commands.specs.Matrices.{IsTableRefused}
@@ -89,25 +89,25 @@ module _ (fault : Option ErrorKind) (has : HasFault fault) where
       spent = λ e. absurd (omega (arith, e));
     }
 
-  at_port_unwritten : (port status : ℕ) (before after : Option (List ℕ)) → IsSettled status
-      → IsEndAt port fault before after status
-      → IsEndAt port fault before after INPUT_OUTPUT
-  at_port_unwritten port status before after done (inl (inl three)) = absurd (not_failed status done three.0)
-  at_port_unwritten port status before after done (inl (inr four)) = absurd (not_spent status done four.0)
-  at_port_unwritten port status before after done (inr (ends, is_deaf, inl (is, whole))) =
+  at_port_unwritten : (MayEnd : SessionCounts → Bool → Type 0) (port status : ℕ) (before after : Option (List ℕ)) → IsSettled status
+      → IsEndAt MayEnd port fault before after status
+      → IsEndAt MayEnd port fault before after INPUT_OUTPUT
+  at_port_unwritten MayEnd port status before after done (inl (inl three)) = absurd (not_failed status done three.0)
+  at_port_unwritten MayEnd port status before after done (inl (inr four)) = absurd (not_spent status done four.0)
+  at_port_unwritten MayEnd port status before after done (inr (ends, is_deaf, may, inl (is, whole))) =
       let text = served_text ends in
       let all : take (length text) text ≡ text = take_all (length text) text (omega arith) in
-      inr (ends, is_deaf, inr (inl (refl, has, length text, subst (λ (t : List ℕ). Appends before after (port_text port ++ t)) (sym all) whole)))
-  at_port_unwritten port status before after done (inr (ends, is_deaf, inr (inl three))) = absurd (not_failed status done three.0)
-  at_port_unwritten port status before after done (inr (ends, is_deaf, inr (inr four))) = absurd (not_spent status done four.0)
+      inr (ends, is_deaf, may, inr (inl (refl, has, length text, subst (λ (t : List ℕ). Appends before after (port_text port ++ t)) (sym all) whole)))
+  at_port_unwritten MayEnd port status before after done (inr (ends, is_deaf, may, inr (inl three))) = absurd (not_failed status done three.0)
+  at_port_unwritten MayEnd port status before after done (inr (ends, is_deaf, may, inr (inr four))) = absurd (not_spent status done four.0)
 
   serve_unwritten : (may_hold : List ℕ → Option (List ℕ) → Type 0) (may_fail : List ℕ → Type 0) (may_show : Option ℤ → Type 0)
-      (input : Option (List ℕ)) (input_failed : Type 0) (request : ServeRequest) (status : ℕ) (before after : Option (List ℕ))
-      → IsSettled status → IsServeEnd may_hold may_fail may_show input input_failed request fault status before after
-      → IsServeEnd may_hold may_fail may_show input input_failed request fault INPUT_OUTPUT before after
-  serve_unwritten may_hold may_fail may_show input input_failed request status before after done (inl ended) =
+      (input : Option (List ℕ)) (input_failed : Type 0) (request : ServeRequest) (may_host : MayHost) (status : ℕ) (before after : Option (List ℕ))
+      → IsSettled status → IsServeEnd may_hold may_fail may_show input input_failed request may_host fault status before after
+      → IsServeEnd may_hold may_fail may_show input input_failed request may_host fault INPUT_OUTPUT before after
+  serve_unwritten may_hold may_fail may_show input input_failed request may_host status before after done (inl ended) =
       inl (outcome_unwritten _ _ status before after done ended)
-  serve_unwritten may_hold may_fail may_show input input_failed request status before after done (inr run) = inr (record {
+  serve_unwritten may_hold may_fail may_show input input_failed request may_host status before after done (inr run) = inr (record {
     image = run.image;
     zone_bytes = run.zone_bytes;
     port = run.port;
@@ -115,14 +115,23 @@ module _ (fault : Option ErrorKind) (has : HasFault fault) where
     held = run.held;
     at = run.at;
     small = run.small;
-    ended = at_port_unwritten run.port status before after done run.ended;
+    ended = at_port_unwritten (may_host request run.image run.zone_bytes) run.port status before after done run.ended;
   })
 
+-- a text's end is as it would be, or its output has a fault
+pub text_unwritten_as : (text : List ℕ) (fault : Option ErrorKind) (status result : ℕ) (before after : Option (List ℕ))
+    → (result ≡ status) ⊎ (((status ≡ ACCEPTED) ⊎ (status ≡ REFUSED)) × (result ≡ INPUT_OUTPUT) × HasFault fault)
+    → IsTextEnd text fault status before after → IsTextEnd text fault result before after
+text_unwritten_as text fault status result before after (inl same) ended =
+    subst (λ (s : ℕ). IsTextEnd text fault s before after) (sym same) ended
+text_unwritten_as text fault status result before after (inr (done, three, has)) ended =
+    subst (λ (s : ℕ). IsTextEnd text fault s before after) (sym three) (text_unwritten fault has text status before after done ended)
+
 module _ {D : Type 0} (may_hold : List ℕ → Option (List ℕ) → Type 0) (may_fail : List ℕ → Type 0) (gives : Gives D) (disk : OutFiles)
-    (may_show : Option ℤ → Type 0) (input : Option (List ℕ)) (input_failed : Type 0)
+    (may_show : Option ℤ → Type 0) (may_host : MayHost) (input : Option (List ℕ)) (input_failed : Type 0)
     (fault : Option ErrorKind) (has : HasFault fault) (status : ℕ) (before after : Option (List ℕ)) (done : IsSettled status) where
-  end_unwritten : (request : CommandRequest) → IsEnd may_hold may_fail gives disk may_show input input_failed fault request status before after
-      → IsEnd may_hold may_fail gives disk may_show input input_failed fault request INPUT_OUTPUT before after
+  end_unwritten : (request : CommandRequest) → IsEnd may_hold may_fail gives disk may_show may_host input input_failed fault request status before after
+      → IsEnd may_hold may_fail gives disk may_show may_host input input_failed fault request INPUT_OUTPUT before after
   end_unwritten (requests.OverImage asked) ended = outcome_unwritten fault has _ _ status before after done ended
   end_unwritten (requests.Matrix request) ended = table_unwritten fault has may_hold may_fail disk input input_failed request before after status done ended
   end_unwritten (requests.Tables request) ended = outcome_unwritten fault has _ _ status before after done ended
@@ -130,11 +139,11 @@ module _ {D : Type 0} (may_hold : List ℕ → Option (List ℕ) → Type 0) (ma
   end_unwritten (requests.Stations request) ended = outcome_unwritten fault has _ _ status before after done ended
   end_unwritten (requests.Build request) ended = outcome_unwritten fault has _ _ status before after done ended
   end_unwritten (requests.Serve request) ended =
-      serve_unwritten fault has may_hold may_fail may_show input input_failed request status before after done ended
+      serve_unwritten fault has may_hold may_fail may_show input input_failed request may_host status before after done ended
 
   asked_unwritten : (asked : Result CommandRequest NoCommand)
-      → IsEndOf may_hold may_fail gives disk may_show input input_failed fault asked status before after
-      → IsEndOf may_hold may_fail gives disk may_show input input_failed fault asked INPUT_OUTPUT before after
+      → IsEndOf may_hold may_fail gives disk may_show may_host input input_failed fault asked status before after
+      → IsEndOf may_hold may_fail gives disk may_show may_host input input_failed fault asked INPUT_OUTPUT before after
   asked_unwritten (Ok request) ended = end_unwritten request ended
   asked_unwritten (Err (Help text)) ended = text_unwritten fault has (string_bytes text) status before after done ended
   asked_unwritten (Err (Mistake text)) (other, same) = absurd (not_mistaken status done other)
@@ -142,13 +151,13 @@ module _ {D : Type 0} (may_hold : List ℕ → Option (List ℕ) → Type 0) (ma
 
 -- it ended as it would, or its output has a fault
 pub unwritten_as : {D : Type 0} (may_hold : List ℕ → Option (List ℕ) → Type 0) (may_fail : List ℕ → Type 0) (gives : Gives D) (disk : OutFiles)
-    (may_show : Option ℤ → Type 0) (input : Option (List ℕ)) (input_failed : Type 0)
+    (may_show : Option ℤ → Type 0) (may_host : MayHost) (input : Option (List ℕ)) (input_failed : Type 0)
     (fault : Option ErrorKind) (status result : ℕ) (before after : Option (List ℕ)) (asked : Result CommandRequest NoCommand)
     → (result ≡ status) ⊎ (((status ≡ ACCEPTED) ⊎ (status ≡ REFUSED)) × (result ≡ INPUT_OUTPUT) × HasFault fault)
-    → IsEndOf may_hold may_fail gives disk may_show input input_failed fault asked status before after
-    → IsEndOf may_hold may_fail gives disk may_show input input_failed fault asked result before after
-unwritten_as may_hold may_fail gives disk may_show input input_failed fault status result before after asked (inl same) ended =
-    subst (λ (s : ℕ). IsEndOf may_hold may_fail gives disk may_show input input_failed fault asked s before after) (sym same) ended
-unwritten_as may_hold may_fail gives disk may_show input input_failed fault status result before after asked (inr (done, three, has)) ended =
-    subst (λ (s : ℕ). IsEndOf may_hold may_fail gives disk may_show input input_failed fault asked s before after) (sym three)
-    (asked_unwritten may_hold may_fail gives disk may_show input input_failed fault has status before after done asked ended)
+    → IsEndOf may_hold may_fail gives disk may_show may_host input input_failed fault asked status before after
+    → IsEndOf may_hold may_fail gives disk may_show may_host input input_failed fault asked result before after
+unwritten_as may_hold may_fail gives disk may_show may_host input input_failed fault status result before after asked (inl same) ended =
+    subst (λ (s : ℕ). IsEndOf may_hold may_fail gives disk may_show may_host input input_failed fault asked s before after) (sym same) ended
+unwritten_as may_hold may_fail gives disk may_show may_host input input_failed fault status result before after asked (inr (done, three, has)) ended =
+    subst (λ (s : ℕ). IsEndOf may_hold may_fail gives disk may_show may_host input input_failed fault asked s before after) (sym three)
+    (asked_unwritten may_hold may_fail gives disk may_show may_host input input_failed fault has status before after done asked ended)

@@ -28,7 +28,7 @@ use Rattle.feed_plans.specs.Planning.{IsPlanBy}
 use Rattle.feed_plans.specs.Zoning.{AreZoneBytes, IsNoZoneOf, IsZoneUnreadable}
 use Rattle.feed_commands.specs.Stations.{IsStopsRefusal, IsTextOf}
 use Rattle.feed_commands.specs.Tabling.{IsCounts}
-use Rattle.csa_program.specs.Serving.{IsEndAt}
+use Rattle.csa_program.specs.Serving.{IsEndAt, MayHost}
 
 -- a text was printed; or the output has a fault, and a first part of it was
 abbrev pub IsTextEnd : List ℕ → Option ErrorKind → ℕ → Option (List ℕ) → Option (List ℕ) → Type 0
@@ -82,8 +82,9 @@ module _ (may_hold : List ℕ → Option (List ℕ) → Type 0) (may_fail : List
   IsServeRefusal status line = IsFeedRefusal (IsNoZoneOf may_hold request.plan) status line
       ⊎ ((zone_bytes : List ℕ) × IsPlanned zone_bytes × PrintsRefusal (IsRefusedImage may_hold request.image.now input) status line)
 
-  -- a server ended so, at the port that is asked for, if one is; at its path was this image, and its plan was made of these bytes of its zone's file
-  pub record IsEndOfRun (fault : Option ErrorKind) (status : ℕ) (before after : Option (List ℕ)) : Type 0 where
+  -- a server ended so, at the port that is asked for, if one is; at its path was this image, and its plan was made of these bytes of its zone's file.
+  -- `may_host` says how the sessions of a server that is asked for may end
+  pub record IsEndOfRun (may_host : MayHost) (fault : Option ErrorKind) (status : ℕ) (before after : Option (List ℕ)) : Type 0 where
     pub image : ImageValue
     pub zone_bytes : List ℕ
     pub port : ℕ
@@ -91,7 +92,7 @@ module _ (may_hold : List ℕ → Option (List ℕ) → Type 0) (may_fail : List
     pub held : HoldsOfBytes may_hold request.image.now input (SpellsImage image)
     pub at : request.port ≢ 0 → port ≡ request.port
     pub small : port < 65_536
-    pub ended : IsEndAt port fault before after status
+    pub ended : IsEndAt (may_host request image zone_bytes) port fault before after status
 
   -- a server can't be begun: its zone's file may not be read; or, once a plan was made, its image; or that is one, and nothing listens at its port, of
   -- which it isn't said that nothing can
@@ -101,8 +102,9 @@ module _ (may_hold : List ℕ → Option (List ℕ) → Type 0) (may_fail : List
       × IsUnusableOver may_hold may_fail input input_failed request.image.now (λ image. Unit {0}))
 
   -- a server was refused, or can't be begun, or ended so
-  abbrev pub IsServeEnd : Option ErrorKind → ℕ → Option (List ℕ) → Option (List ℕ) → Type 0
-  IsServeEnd fault status before after = IsOutcome IsServeRefusal IsUnservable fault status before after ⊎ IsEndOfRun fault status before after
+  abbrev pub IsServeEnd : MayHost → Option ErrorKind → ℕ → Option (List ℕ) → Option (List ℕ) → Type 0
+  IsServeEnd may_host fault status before after =
+      IsOutcome IsServeRefusal IsUnservable fault status before after ⊎ IsEndOfRun may_host fault status before after
 
 -- a command over the image at its path ended so; `disk` says what is known of files that are written, and `fault` is that of the output
 abbrev pub IsEndOver : (List ℕ → Option (List ℕ) → Type 0) → (List ℕ → Type 0) → OutFiles → Option (List ℕ) → Type 0 → Option ErrorKind → ImageRequest
@@ -112,9 +114,10 @@ IsEndOver may_hold may_fail disk input input_failed fault asked =
     (IsUnusableOver may_hold may_fail input input_failed (path_of asked) (λ image. IsUnusable may_fail may_hold disk image asked)) fault
 
 -- `gives` says what a disk of some kind may give for a folder in some state and the name of a file, and `disk` what is known of files that are written;
--- `may_fail` that a file at a path may not be read, and `input_failed` that a read of the input failed; `fault` is that of the output
+-- `may_fail` that a file at a path may not be read, and `input_failed` that a read of the input failed; `may_host` says how the sessions of a server may end;
+-- `fault` is that of the output
 module _ {D : Type 0} (may_hold : List ℕ → Option (List ℕ) → Type 0) (may_fail : List ℕ → Type 0) (gives : Gives D) (disk : OutFiles)
-    (may_show : Option ℤ → Type 0) (input : Option (List ℕ)) (input_failed : Type 0)
+    (may_show : Option ℤ → Type 0) (may_host : MayHost) (input : Option (List ℕ)) (input_failed : Type 0)
     (fault : Option ErrorKind) where
   -- a command ended so, over the image at its path, or over the files of its folder
   abbrev pub IsEnd : CommandRequest → ℕ → Option (List ℕ) → Option (List ℕ) → Type 0
@@ -128,7 +131,7 @@ module _ {D : Type 0} (may_hold : List ℕ → Option (List ℕ) → Type 0) (ma
   IsEnd (requests.Build request) =
       IsOutcome (PrintsOfFeed (IsReport gives may_hold may_show disk request) (IsBuildRefusal gives request.folder.now may_hold may_show request.plan))
       (BuildIsUnusable gives may_hold may_fail may_show disk request) fault
-  IsEnd (requests.Serve request) = IsServeEnd may_hold may_fail may_show input input_failed request fault
+  IsEnd (requests.Serve request) = IsServeEnd may_hold may_fail may_show input input_failed request may_host fault
 
   -- a command line ended so: the request that it makes, or the help; or it makes none, or memory ran out, and nothing was printed
   abbrev pub IsEndOf : Result CommandRequest NoCommand → ℕ → Option (List ℕ) → Option (List ℕ) → Type 0

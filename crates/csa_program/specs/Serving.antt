@@ -56,8 +56,8 @@ IsNoServerEnd port fault before after status =
 abbrev pub MayHost : Type 1
 MayHost = ServeRequest → ImageValue → List ℕ → SessionCounts → Bool → Type 0
 
--- a server at this port ended without a word of its sessions, or after sessions that ended in some ways
-abbrev pub IsEndAt : ℕ → Option ErrorKind → Option (List ℕ) → Option (List ℕ) → ℕ → Type 0
-IsEndAt port fault before after status =
+-- a server at this port ended without a word of its sessions, or after sessions that may have ended as they are counted
+abbrev pub IsEndAt : (SessionCounts → Bool → Type 0) → ℕ → Option ErrorKind → Option (List ℕ) → Option (List ℕ) → ℕ → Type 0
+IsEndAt MayEnd port fault before after status =
     IsNoServerEnd port fault before after status
-    ⊎ ((ends : SessionCounts) × (is_deaf : Bool) × IsServerEnd port fault before after ends is_deaf status)
+    ⊎ ((ends : SessionCounts) × (is_deaf : Bool) × ∥ MayEnd ends is_deaf ∥₁ × IsServerEnd port fault before after ends is_deaf status)

@@ -23,9 +23,9 @@ control_len code = if nat_lt code 128 then 1 else 2
 abbrev pub hex_digit : ℕ → ℕ
 hex_digit number = if nat_lt number 10 then 48 + number else 87 + number
 
--- its code after a backslash (92) and an x (120), in two hexadecimal digits
+-- its code as JSON writes it: after a backslash (92) and a u (117), in four hexadecimal digits, of which the first two are 0 (48)
 abbrev pub escape_text : ℕ → List ℕ
-escape_text code = 92 ∷ 120 ∷ hex_digit (code / 16) ∷ hex_digit (code % 16) ∷ []
+escape_text code = 92 ∷ 117 ∷ 48 ∷ 48 ∷ hex_digit (code / 16) ∷ hex_digit (code % 16) ∷ []
 
 -- none of the first n bytes begins a control character
 abbrev pub IsPlain : List ℕ → ℕ → Type 0

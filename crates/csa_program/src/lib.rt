@@ -27,6 +27,7 @@ mod sockets;
 pub use crate::asking::Asks;
 pub use crate::explaining::Explains;
 pub use crate::machine::Machine;
+use crate::serve::Hosts;
 pub use crate::showing::ShownWriter;
 use command_endings::status;
 use command_line::{NoCommand, wants_warnings};
@@ -62,7 +63,7 @@ pub fn run<
     ensures ended { (asked : Result CommandRequest NoCommand)
         × H.Asks.may_ask rt.now (map S.text words.now) asked
         × IsEndOf (H.ImageDisk.may_hold rt.now) (H.ImageDisk.may_fail rt.now) H.Disk.gives (H.OutDisk.files rt.now)
-        (H.WallClock.may_show rt.now)
+        (H.WallClock.may_show rt.now) (⟦<H as Hosts>⟧.may_host rt.now)
         (I.Read.remaining input.old) (I.may_fail input.old) (O.noted output.new) asked
         result (O.Write.contents output.old) (O.Write.contents output.new) }
     ensures clean { (result ≡ ACCEPTED) ⊎ (result ≡ REFUSED) → O.noted output.new ≡ None }
@@ -88,10 +89,12 @@ const NO_MEMORY: &str = "csa: out of memory";
 /// Prints the checksum of the program's sources, below its version. The status is 0, or 3 if the line can't be written:
 /// `errors` says why, as for a command. It takes no memory.
 pub fn print_sources<O: Watched, E: Write>(sources: &str, output: &mut O, errors: &mut E) -> u8
-    ensures { IsTextEnd ((codes "sources " ++ sources.now) ++ codes "\n") (O.noted output.new) result
+    ensures ended { IsTextEnd ((codes "sources " ++ sources.now) ++ codes "\n") (O.noted output.new) result
         (O.Write.contents output.old) (O.Write.contents output.new) }
+    ensures clean { result ≡ ACCEPTED → O.noted output.new ≡ None }
 {
-    let status = put_sources(sources, output);
+    let printed = put_sources(sources, output);
+    let status = unless_unwritten(printed, output.fault());
     explain_unwritten(errors, output.fault());
     status
 }
@@ -161,7 +164,7 @@ fn run_read<
     notes: TableNotes,
 ) -> u8
     ensures { IsEndOf (H.ImageDisk.may_hold rt.now) (H.ImageDisk.may_fail rt.now) H.Disk.gives (H.OutDisk.files rt.now)
-        (H.WallClock.may_show rt.now)
+        (H.WallClock.may_show rt.now) (⟦<H as Hosts>⟧.may_host rt.now)
         (I.remaining input.old) (I.may_fail input.old) (O.noted output.new) asked.entry
         result (O.contents output.old) (O.contents output.new) }
 {
@@ -192,7 +195,7 @@ fn run_request<
     notes: TableNotes,
 ) -> u8
     ensures { IsEnd (H.ImageDisk.may_hold rt.now) (H.ImageDisk.may_fail rt.now) H.Disk.gives (H.OutDisk.files rt.now)
-        (H.WallClock.may_show rt.now)
+        (H.WallClock.may_show rt.now) (⟦<H as Hosts>⟧.may_host rt.now)
         (I.remaining input.old) (I.may_fail input.old) (O.noted output.new)
         request.entry result (O.contents output.old) (O.contents output.new) }
 {

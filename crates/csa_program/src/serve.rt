@@ -3,7 +3,7 @@
 
 ghost use denote.Param.Send.{IsSync};
 ghost use Rattle.std.specs.Prelude.{◌≡◌, ◌≢◌, ◌<◌, ◌≤◌, ◌⊎◌, [], All, List, Option, length, map};
-ghost use Rattle.std.specs.Prelude.{slice_get, Some, string_bytes, IfOk, IfSome, MatchOption, ℕ};
+ghost use Rattle.std.specs.Prelude.{slice_get, Some, string_bytes, Bool, IfOk, IfSome, MatchOption, ℕ};
 ghost use Rattle.std.specs.Io.KnownBytes.{Appends};
 ghost use Rattle.command_requests.specs.declared.statuses.TheConstants.{ACCEPTED, INPUT_OUTPUT, OUT_OF_MEMORY};
 ghost use Rattle.shelves.specs.ShelfSeats.{SeatsHanded};
@@ -45,9 +45,10 @@ use orders::OpenGate;
 use shelves::{NamedLoader, NamedNotice, NamedSeat, ShelfLoader, ShelfSeat, Shelves, ShelvesName};
 use std::alloc::{AllocError, Global};
 use std::io::{ErrorKind, Write};
-use std::marker::Brand;
+use std::marker::{Brand, PhantomData};
 use std::net::{Net, TcpListener, TcpStream};
 use std::rt::Files;
+use std::snapshot::Snapshot;
 use std::sync::{Arc, Wait};
 use std::thread;
 use std::thread::Threads;
@@ -163,7 +164,7 @@ impl<'a, H: Disk + Explains + Clock + WallClock + Sync> Feeds for Folders<'a, H>
 
 /// A machine that servers run on. It has no code, only a word for contracts: how the sessions of a server may have
 /// ended.
-trait Hosts {
+pub trait Hosts {
     // That there is a whole run, as `run_shelves` describes it, of a server that was asked for, with these counts. It
     // doesn't say that this run took place.
     ghost may_host: { Self → MayHost };
@@ -184,6 +185,39 @@ impl<'a, H: Disk + Explains + Clock + WallClock + Threads + Wait + Sync + 'a> Ho
         × (folders.setup.now.zone_bytes.items ≡ zone_bytes)) };
 }
 
+/// A name of a server's run: a type that stands for how its sessions may have ended, so that what a thread returns says
+/// of which run it is. Code that is generic over names is proved for every run. It is called with the kit's marker type
+/// `Brand`, for which the caller's proof picks a run at each call, in place of the one in the `impl` below.
+trait RunName {
+    // Whether the sessions may have ended in these ways, while accepting failed or didn't.
+    ghost may_end: { SessionCounts → Bool → Type 0 };
+}
+
+impl RunName for Brand {
+    ghost may_end = { λ ends is_deaf. ⊥ };
+}
+
+/// How many sessions of a run ended in each way, and whether accepting failed.
+#[derive(Drop)]
+struct RunEnd<B: RunName> {
+    ends: SessionCounts,
+    is_deaf: bool,
+    of: PhantomData<B>,
+    ghost hosted: { ∥ B.may_end ends is_deaf ∥₁ },
+}
+
+/// What the thread has of a run that it is to host, beside the image, of which only contracts see the value here. It
+/// owns nothing.
+#[derive(Drop)]
+struct PendingRun<'a, B: RunName, H: Hosts + WallClock> {
+    folders: &'a Folders<'a, H>,
+    image: &'a Snapshot<Verified>,
+    of: PhantomData<B>,
+    ghost named: { (ends : SessionCounts) (is_deaf : Bool)
+        → H.Hosts.may_host folders.now.disk.now folders.now.setup.now.request.now image.now.value
+        folders.now.setup.now.zone_bytes.items ends is_deaf → ∥ B.may_end ends is_deaf ∥₁ },
+}
+
 /// Serves sessions until as many were served as are asked for, or prints the first thing that is wrong.
 pub fn run<
     H: Machine + ImageDisk<Image = H::File> + Net<Listener = TcpListener, Stream = TcpStream>,
@@ -193,7 +227,7 @@ pub fn run<
 >(rt: &H, request: ServeRequest<'_>, input: &mut I, output: &mut O, errors: &mut E) -> u8
     ensures { IsServeEnd (H.ImageDisk.may_hold rt.now) (H.ImageDisk.may_fail rt.now) (H.WallClock.may_show rt.now)
         (I.remaining input.old)
-        (I.may_fail input.old) request.entry (O.noted output.new) result
+        (I.may_fail input.old) request.entry (⟦<H as Hosts>⟧.may_host rt.now) (O.noted output.new) result
         (O.contents output.old) (O.contents output.new) }
 {
     let alloc = rt.alloc();
@@ -228,7 +262,11 @@ pub fn run<
         Ok(bound) => bound,
         Err(error) => return none_received(alloc, errors, request.port, error.kind()),
     };
-    serve_at(rt, bound, image, &setup, output, errors)
+    let folders = Folders {
+        disk: rt,
+        setup: &setup,
+    };
+    serve_at(bound, image, &folders, output, errors)
 }
 
 // The largest block whose return glibc's malloc takes note of, less the room that it needs itself.
@@ -247,18 +285,38 @@ fn serve_at<
     O: Watched,
     E: Write + Send,
 >(
-    rt: &H,
     bound: BoundListener,
     image: Verified,
-    setup: &Setup<'_>,
+    folders: &Folders<'_, H>,
     output: &mut O,
     errors: &mut E,
 ) -> u8
-    requires { IsPlanBy (H.WallClock.may_show rt.now) setup.now.request.now.plan setup.now.zone_bytes.items
-        setup.now.first }
-    ensures { IsEndAt bound.port (O.noted output.new) (O.contents output.old) (O.contents output.new) result }
+    ensures { IsEndAt (⟦<H as Hosts>⟧.may_host folders.now.disk.now folders.now.setup.now.request.now image
+        folders.now.setup.now.zone_bytes.items) bound.port (O.noted output.new) (O.contents output.old)
+        (O.contents output.new) result }
 {
-    let alloc = setup.alloc;
+    serve_named::<Brand, _, _, _>(bound, image, folders, output, errors)
+}
+
+// As `serve_at`, for the run whose name is `B`.
+fn serve_named<
+    B: RunName,
+    H: Disk + Explains + Clock + WallClock + Threads + Wait + Sync,
+    O: Watched,
+    E: Write + Send,
+>(
+    bound: BoundListener,
+    image: Verified,
+    folders: &Folders<'_, H>,
+    output: &mut O,
+    errors: &mut E,
+) -> u8
+    requires named { (ends : SessionCounts) (is_deaf : Bool)
+        → ⟦<H as Hosts>⟧.may_host folders.now.disk.now folders.now.setup.now.request.now image
+        folders.now.setup.now.zone_bytes.items ends is_deaf → ∥ B.may_end ends is_deaf ∥₁ }
+    ensures { IsEndAt B.may_end bound.port (O.noted output.new) (O.contents output.old) (O.contents output.new) result }
+{
+    let alloc = folders.setup.alloc;
     keep_freed_memory(alloc);
     let Ok((queue, writer)) = LineQueue::new(alloc) else {
         return status::OUT_OF_MEMORY;
@@ -267,8 +325,14 @@ fn serve_at<
     if begun != status::ACCEPTED {
         return begun;
     }
-    match host_reported(rt, bound, image, setup, queue, writer, errors) {
-        Some((ends, is_deaf)) => tell_served(alloc, ends, is_deaf, output),
+    let shown = Snapshot::of(&image);
+    let pending: PendingRun<'_, B, H> = PendingRun {
+        folders,
+        image: &shown,
+        of: PhantomData,
+    };
+    match host_reported(pending, bound, image, queue, writer, errors) {
+        Some(end) => tell_served(alloc, end.ends, end.is_deaf, output),
         None => status::OUT_OF_MEMORY,
     }
 }
@@ -276,27 +340,29 @@ fn serve_at<
 // Serves the clients that come to the port, while a thread of its own writes what the server's threads report. Returns
 // how many sessions ended in each way, and whether accepting failed; `None` if the run gave no result: it lacked memory
 // or a thread, or lost one.
-fn host_reported<H: Disk + Explains + Clock + WallClock + Threads + Wait + Sync, E: Write + Send>(
-    rt: &H,
+fn host_reported<
+    B: RunName,
+    H: Disk + Explains + Clock + WallClock + Threads + Wait + Sync,
+    E: Write + Send,
+>(
+    pending: PendingRun<'_, B, H>,
     bound: BoundListener,
     image: Verified,
-    setup: &Setup<'_>,
     queue: LineQueue,
     writer: LineWriter,
     errors: &mut E,
-) -> Option<(SessionCounts, bool)>
-    requires { IsPlanBy (H.WallClock.may_show rt.now) setup.now.request.now.plan setup.now.zone_bytes.items
-        setup.now.first }
+) -> Option<RunEnd<B>>
+    requires served { pending.image.now.value ≡ image }
 {
+    let rt = pending.folders.disk;
     let queue = &queue;
     let ((), end) = thread::join(
         rt,
         move || writer.write_all(rt, queue, errors),
-        move || -> Option<(SessionCounts, bool)>
+        move || -> Option<RunEnd<B>>
             requires shared { IsSync H.row }
-            requires planned { IsPlanBy (H.WallClock.may_show rt.now) setup.now.request.now.plan
-                setup.now.zone_bytes.items setup.now.first }
-        { host_until_closed(rt, bound, image, setup, queue) },
+            requires served { pending.image.now.value ≡ image }
+        { host_until_closed(pending, bound, image, queue) },
     );
     end
 }
@@ -304,28 +370,31 @@ fn host_reported<H: Disk + Explains + Clock + WallClock + Threads + Wait + Sync,
 // Serves the clients that come to the port, and then closes the queue into which the server's threads report. Returns
 // how many sessions ended in each way, and whether accepting failed; `None` if the run gave no result: it lacked memory
 // or a thread, or lost one.
-fn host_until_closed<H: Disk + Explains + Clock + WallClock + Threads + Wait + Sync>(
-    rt: &H,
+fn host_until_closed<B: RunName, H: Disk + Explains + Clock + WallClock + Threads + Wait + Sync>(
+    pending: PendingRun<'_, B, H>,
     bound: BoundListener,
     image: Verified,
-    setup: &Setup<'_>,
     queue: &LineQueue,
-) -> Option<(SessionCounts, bool)>
-    requires { IsPlanBy (H.WallClock.may_show rt.now) setup.now.request.now.plan setup.now.zone_bytes.items
-        setup.now.first }
-    ensures { IfSome result (λ end. ⟦<H as Hosts>⟧.may_host rt.now setup.now.request.now image
-        setup.now.zone_bytes.items end.0 end.1) }
+) -> Option<RunEnd<B>>
+    requires served { pending.image.now.value ≡ image }
 {
     let BoundListener {
         listener,
         port: _,
         leave,
     } = bound;
-    let folders = Folders { disk: rt, setup };
-    let shared = SharedErrors::of(rt, setup.alloc, queue);
-    let end = host(&listener, leave, image, &folders, &shared);
-    queue.close(rt);
-    end
+    let folders = pending.folders;
+    let shared = SharedErrors::of(folders.disk, folders.setup.alloc, queue);
+    let end = host(&listener, leave, image, folders, &shared);
+    queue.close(folders.disk);
+    match end {
+        Some((ends, is_deaf)) => Some(RunEnd {
+            ends,
+            is_deaf,
+            of: PhantomData,
+        }),
+        None => None,
+    }
 }
 
 fn names_of(alloc: Global, feeds: &[NamedFolder<'_>]) -> Result<Vec<String>, AllocError>

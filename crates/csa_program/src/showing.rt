@@ -9,8 +9,8 @@ ghost use Rattle.csa_program.specs.Showing.{is_low, known_unless, upper_control}
 use std::io;
 use std::io::Write;
 
-/// A writer that writes control characters other than tabs and line feeds as `\x1b` if it leads to a terminal, and
-/// all else as it is: an id of a feed could otherwise change what the terminal shows, or does.
+/// A writer that writes control characters other than tabs and line feeds as `\u001b` if it leads to a terminal, as JSON
+/// does, and all else as it is: an id of a feed could otherwise change what the terminal shows, or does.
 #[derive(Drop)]
 pub struct ShownWriter<W> {
     writer: W,
@@ -73,7 +73,14 @@ fn write_escape<W: Write>(writer: &mut W, code: u8) -> io::Result<usize>
     ensures len { IfOk result (λ n. n ≡ control_len code) }
     ensures shown { IfOk result (λ _. Appends (W.contents writer.old) (W.contents writer.new) (escape_text code)) }
 {
-    writer.write_all(&[b'\\', b'x', hex_digit(code / 16), hex_digit(code % 16)])?;
+    writer.write_all(&[
+        b'\\',
+        b'u',
+        b'0',
+        b'0',
+        hex_digit(code / 16),
+        hex_digit(code % 16),
+    ])?;
     Ok(control_len(code))
 }
 

@@ -38,6 +38,9 @@ pub fn reason_of(kind: ErrorKind) -> &'static str {
         ErrorKind::FileTooLarge => "the file would be too large",
         ErrorKind::InvalidFilename => "the name is too long",
         ErrorKind::AddrInUse => "it is in use",
+        ErrorKind::AlreadyExists => {
+            "files of other runs are beside it, from .part to .part9: remove those of runs that have ended"
+        }
         _ => "an input or output error",
     }
 }

@@ -1,5 +1,5 @@
 -- What `csa profile` prints.
-use Rattle.std.specs.Prelude.{◌≡◌, ℕ, List, Option, None, Some, Result, Ok, Err, Contains, String, length, map, string_bytes}
+use Rattle.std.specs.Prelude.{◌≡◌, ◌⊎◌, ℕ, List, Option, None, Some, Result, Ok, Err, Contains, String, length, map, string_bytes}
 use Rattle.std.specs.Borrow.{Bor}
 use Rattle.std.specs.declared.alloc.Global.{Global}
 use Rattle.criteria.specs.Laws.{Rules}
@@ -82,13 +82,21 @@ IsPicturePut disk (Some path) None = Unit {0}
 IsPicturePut disk (Some path) (Some picture) = IsPutInto disk path.now (string_bytes picture)
 
 -- a picture is asked for, and may not be written into the file at its path
-abbrev pub IsPictureUnwritable : OutFiles → Option (Bor (List ℕ)) → Type 0
-IsPictureUnwritable disk None = ⊥
-IsPictureUnwritable disk (Some path) = IsUnwritableInto disk path.now
+abbrev pub IsPictureUnwritten : OutFiles → Option (Bor (List ℕ)) → Type 0
+IsPictureUnwritten disk None = ⊥
+IsPictureUnwritten disk (Some path) = IsUnwritableInto disk path.now
+
+-- a picture is asked for at a path where the file of the image may be, which is at the other path
+abbrev pub IsOverImage : OutFiles → List ℕ → Option (Bor (List ℕ)) → Type 0
+IsOverImage disk image None = ⊥
+IsOverImage disk image (Some path) = disk.may_be_one path.now image
+
+abbrev pub IsPictureUnwritable : OutFiles → List ℕ → Option (Bor (List ℕ)) → Type 0
+IsPictureUnwritable disk image picture = IsPictureUnwritten disk picture ⊎ IsOverImage disk image picture
 
 -- the question is answered, and its picture may not be written
 abbrev pub LacksPicture : OutFiles → ImageValue → ProfileRequest → Type 0
-LacksPicture disk image request = IsPictureUnwritable disk request.picture × ((profile : Profile) × AnswersRequest image request profile)
+LacksPicture disk image request = IsPictureUnwritable disk request.image.now request.picture × ((profile : Profile) × AnswersRequest image request profile)
 
 -- the text is that of an answer, whose picture, if one is asked for, is in its file
 abbrev pub IsAnswered : OutFiles → ImageValue → ProfileRequest → List ℕ → Type 0

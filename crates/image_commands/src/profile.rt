@@ -1,12 +1,12 @@
 //! `csa profile IMAGE --from STOP_ID.. --to STOP_ID.. --after .. --until .. --by .. --criterion NAME
 //! [--names | --json [--legs]] [--picture FILE [--rows N]]`.
 
-ghost use Rattle.std.specs.Prelude.{◌≡◌, IfOk, OnErr, OnOk, string_bytes};
+ghost use Rattle.std.specs.Prelude.{◌≡◌, IfOk, OnErr, OnOk, string_bytes, true};
 ghost use Rattle.std.specs.Io.KnownBytes.{Appends};
 ghost use Rattle.profile_scan.specs.SetQuery.{IsAskableBetween, question};
 ghost use Rattle.command_requests.specs.declared.statuses.TheConstants.{INPUT_OUTPUT, OUT_OF_MEMORY, REFUSED};
 ghost use Rattle.image_commands.specs.Answering.{IsPicturePut, IsPictureUnwritable, IsProfile, IsShown, IsShownBy};
-ghost use Rattle.image_commands.specs.Answering.{LacksPicture};
+ghost use Rattle.image_commands.specs.Answering.{IsOverImage, IsPictureUnwritten, LacksPicture};
 ghost use Rattle.image_files.specs.Watching.{HasFault, IsBegun};
 ghost use Rattle.image_commands.specs.Commands.{PrintsProfile};
 ghost use Rattle.command_endings.specs.Ending.{EndsUndone, IsOutcome, PrintsOnly};
@@ -24,7 +24,7 @@ use command_endings::status;
 use command_requests::{AnswerForm, ProfileRequest};
 use criteria::{Arrival, ArrivalTrips, ArrivalTripsWalk, CriterionName, ShowsFigures};
 use droppable_sources::in_place;
-use feed_messages::explain;
+use feed_messages::{explain, shown_path};
 use image_files::{OutDisk, Watched, put_text_into};
 use image_verifier::Verified;
 use journeys::{Answer, Window};
@@ -72,10 +72,19 @@ fn print_profile<H: OutDisk + AllocGlobal, O: Watched, E: Write>(
     errors: &mut E,
 ) -> u8
     ensures { IsOutcome (PrintsOnly (λ text. IsPicturePut (H.files rt.now) request.now.picture profile.now.picture
-        × (text ≡ string_bytes profile.now.text))) (IsPictureUnwritable (H.files rt.now) request.now.picture)
+        × (text ≡ string_bytes profile.now.text)))
+        (IsPictureUnwritable (H.files rt.now) request.now.image.now request.now.picture)
         (O.noted output.new) result
         (O.contents output.old) (O.contents output.new) }
 {
+    if is_over_image(rt, request) {
+        let path = shown_path(request.picture.unwrap_or(""));
+        explain(
+            errors,
+            &["csa: ", path, " can't be written: it is the image"],
+        );
+        return status::INPUT_OUTPUT;
+    }
     match put_picture(rt, request.picture, &profile.picture) {
         Ok(()) => status::write_text(output, profile.text.as_str(), status::ACCEPTED),
         Err(error) => {
@@ -85,10 +94,20 @@ fn print_profile<H: OutDisk + AllocGlobal, O: Watched, E: Write>(
     }
 }
 
+/// Whether a picture is asked for in the file of the image.
+fn is_over_image<H: OutDisk>(rt: &H, request: &ProfileRequest<'_>) -> bool
+    ensures { result ≡ true → IsOverImage (H.files rt.now) request.now.image.now request.now.picture }
+{
+    match request.picture {
+        Some(path) => request.image != "-" && rt.is_one(path, request.image),
+        None => false,
+    }
+}
+
 /// Writes a picture into the file at its path, if there are both.
 fn put_picture<H: OutDisk>(rt: &H, path: Option<&str>, picture: &Option<String>) -> io::Result<()>
     ensures put { OnOk result (IsPicturePut (H.files rt.now) path.entry picture.now) }
-    ensures failed { OnErr result (IsPictureUnwritable (H.files rt.now) path.entry) }
+    ensures failed { OnErr result (IsPictureUnwritten (H.files rt.now) path.entry) }
 {
     match path {
         None => Ok(()),

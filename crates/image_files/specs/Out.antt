@@ -17,6 +17,8 @@ pub record OutFiles : Type 1 where
   pub may_not_open : List ℕ → Type 0
   -- a file may not be moved to this path
   pub may_not_move : List ℕ → Type 0
+  -- at these two paths may be one and the same file
+  pub may_be_one : List ℕ → List ℕ → Type 0
 
 -- nothing is known
 abbrev pub any_files : OutFiles
@@ -28,4 +30,5 @@ any_files = record {
   may_not_make = λ path. Unit {0};
   may_not_open = λ path. Unit {0};
   may_not_move = λ path. Unit {0};
+  may_be_one = λ path other. Unit {0};
 }

@@ -1,5 +1,5 @@
 -- What is written of an image, and where.
-use Rattle.std.specs.Prelude.{◌≡◌, ◌⊎◌, ◌++◌, ℕ, List, Option, None, Some, String, codes, string_bytes}
+use Rattle.std.specs.Prelude.{◌≡◌, ◌<◌, ◌⊎◌, ◌++◌, ℕ, zero, suc, List, [], Option, None, Some, String, codes, decimal, string_bytes}
 use Rattle.std.specs.Io.KnownBytes.{Appends}
 use Rattle.std.specs.declared.alloc.Global.{Global}
 use Rattle.image_layout.specs.Fields.{layout_of}
@@ -8,6 +8,7 @@ use Rattle.image_layout.specs.declared.layout.TheConstants.{LAYOUT}
 use Rattle.image_layout.specs.Text.{bytes_of}
 use Rattle.image_files.specs.Out.{OutFiles}
 use Rattle.image_files.specs.declared.writing.NewFile.{NewFile}
+use Rattle.image_files.specs.declared.writing.TheConstants.{PARTS}
 use Rattle.timetable.specs.NamesValue.{NamesValue}
 use Rattle.timetable.specs.TimetableValue.{TimetableValue}
 
@@ -18,9 +19,21 @@ pub record IsWholeImage (words : List ℕ) : Type 0 where
   pub image : IsImage words timetable names
   pub layout : layout_of words ≡ LAYOUT
 
--- where a file is until it is whole, if it is to be at this path
-abbrev pub part_of : List ℕ → List ℕ
-part_of path = path ++ codes ".part"
+-- what a name ends with behind `.part`
+abbrev pub part_number : ℕ → List ℕ
+part_number zero = []
+part_number (suc n) = decimal (suc n)
+
+-- the paths at which a file may be until it is whole, if it is to be at this path
+abbrev pub part_of : List ℕ → ℕ → List ℕ
+part_of path number = (path ++ codes ".part") ++ part_number number
+
+abbrev pub IsBeside : List ℕ → List ℕ → Type 0
+IsBeside path beside = (number : ℕ) × (number < PARTS) × (beside ≡ part_of path number)
+
+-- a file may not be made at one of these paths
+abbrev pub MayNotMakeBeside : OutFiles → List ℕ → Type 0
+MayNotMakeBeside disk path = (beside : List ℕ) × IsBeside path beside × disk.may_not_make beside
 
 -- where a file is that is to be at a path
 abbrev pub path_beside : List ℕ → Option (String Global) → List ℕ
@@ -32,13 +45,13 @@ write_path_of file = path_beside file.path.now file.beside
 
 -- a file that is to be at the path is made beside it, if at the path is a plain file or nothing; what else is there is opened
 abbrev pub IsWritePath : OutFiles → List ℕ → List ℕ → Type 0
-IsWritePath disk path write_path = ((write_path ≡ part_of path) × disk.plain path) ⊎ ((write_path ≡ path) × disk.special path)
+IsWritePath disk path write_path = (IsBeside path write_path × disk.plain path) ⊎ ((write_path ≡ path) × disk.special path)
 
 -- a file that is to be at the path may not be made or written beside it, if at the path is a plain file or nothing; what else is there may not be opened or
 -- written; or a file may not be moved to the path
 abbrev pub IsUnwritable : OutFiles → List ℕ → Type 0
 IsUnwritable disk path =
-    (disk.plain path × disk.may_not_make (part_of path)) ⊎ disk.may_not_move path ⊎ (disk.special path × disk.may_not_open path)
+    (disk.plain path × MayNotMakeBeside disk path) ⊎ disk.may_not_move path ⊎ (disk.special path × disk.may_not_open path)
 
 -- what is at the path may not be opened or written
 abbrev pub IsUnwritableInto : OutFiles → List ℕ → Type 0

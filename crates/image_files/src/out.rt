@@ -8,6 +8,7 @@ ghost use Rattle.image_files.specs.declared.watching.WatchedWriter.{WatchedWrite
 use crate::watching::WatchedWriter;
 use std::fs::File;
 use std::io::Write;
+use std::os::unix::fs::MetadataExt;
 use std::rt::Files;
 use std::{fs, io};
 
@@ -37,6 +38,10 @@ pub trait OutDisk: Files {
             → (files self.now).may_not_open path.now) }
         ensures failed { IfErr result (λ _. (files self.now).may_not_open path.now) };
 
+    /// Whether there is one and the same file at two paths, which links may lead to.
+    fn is_one(&self, path: &str, other: &str) -> bool
+        ensures { result ≡ true → (files self.now).may_be_one path.now other.now };
+
     /// Moves a file from the path at which it was made or opened to another. It stays if that is the same.
     fn brought(&self, file: &WatchedWriter<Self::File>, from: &str, to: &str) -> io::Result<()>
         ensures stands { OnOk result ((files self.now).may_stand from.now to.now
@@ -63,6 +68,15 @@ impl<H: Files> OutDisk for H {
     fn opened(&self, path: &str) -> io::Result<WatchedWriter<H::File>> {
         let file = File::create(self, path)?;
         Ok(WatchedWriter::of(file))
+    }
+
+    fn is_one(&self, path: &str, other: &str) -> bool {
+        match (fs::metadata(self, path), fs::metadata(self, other)) {
+            (Ok(one), Ok(two)) => {
+                one.ino() != 0 && one.ino() == two.ino() && one.dev() == two.dev()
+            }
+            _ => false,
+        }
     }
 
     fn brought(&self, _file: &WatchedWriter<H::File>, from: &str, to: &str) -> io::Result<()> {

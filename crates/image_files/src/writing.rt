@@ -1,6 +1,6 @@
 //! Writes files: beside the path first, so that what is there stays whole.
 
-ghost use Rattle.std.specs.Prelude.{◌≡◌, ◌≢◌, Err, IfErr, IfOk, OnErr, OnOk, string_bytes};
+ghost use Rattle.std.specs.Prelude.{◌≡◌, ◌≢◌, ◌<◌, Err, IfErr, IfOk, OnErr, OnOk, string_bytes};
 ghost use Rattle.std.specs.Io.KnownBytes.{Appends};
 ghost use Rattle.image_layout.specs.Text.{bytes_of};
 ghost use Rattle.std_io.specs.IoError.{error_kind};
@@ -8,7 +8,7 @@ ghost use Rattle.std_io.specs.declared.io.kind.ErrorKind.TheVariants.{OutOfMemor
 ghost use Rattle.image_files.specs.Watching.{HasFault};
 ghost use Rattle.image_files.specs.declared.watching.WatchedWriter.{WatchedWriter as OutFile};
 ghost use Rattle.image_files.specs.Writing.{IsNew, IsPut, IsPutInto, IsUnwritable, IsWholeImage, part_of};
-ghost use Rattle.image_files.specs.Writing.{IsUnwritableInto, write_path_of};
+ghost use Rattle.image_files.specs.Writing.{IsBeside, IsUnwritableInto, MayNotMakeBeside, write_path_of};
 
 use crate::out::OutDisk;
 use crate::reading::PIECE_WORDS;
@@ -28,9 +28,9 @@ pub struct NewFile<'a, F> {
     beside: Option<String>,
 }
 
-/// Makes the file that is to be at a path, empty. If there is a plain file or nothing, that is `PATH.part`, which
-/// `settle` renames: so the file is never half written, not even if it is the one that was read. If there is anything
-/// else, such as a pipe, it is written into that.
+/// Makes the file that is to be at a path, empty. If there is a plain file or nothing, that is `PATH.part`, or one with a
+/// number behind that, which `settle` renames: so the file is never half written, not even if it is the one that was
+/// read. If there is anything else, such as a pipe, it is written into that.
 pub fn new_file<'a, H: OutDisk + AllocGlobal>(
     rt: &H,
     path: &'a str,
@@ -49,24 +49,85 @@ pub fn new_file<'a, H: OutDisk + AllocGlobal>(
             beside: None,
         });
     }
-    let beside = part_of(rt.alloc(), path)?;
-    // Removes what an interrupted run left there, or a link, which then isn't followed.
-    let _ = fs::remove_file(rt, beside.as_str());
-    let file = rt.new_file(beside.as_str())?;
+    let made = made_beside(rt, path)?;
     Ok(NewFile {
-        file,
+        file: made.file,
         path,
-        beside: Some(beside),
+        beside: Some(made.path),
     })
 }
 
-// The path beside another at which a file is until it is whole.
-fn part_of(alloc: Global, path: &str) -> Result<String, AllocError>
-    ensures { IfOk result (λ beside. string_bytes beside ≡ part_of path.now) }
+/// How many files there may be beside a path that are to be there once they are whole.
+const PARTS: u64 = 10;
+
+/// A file that was made, and where.
+#[derive(Drop)]
+struct MadeFile<F> {
+    file: F,
+    path: String,
+}
+
+// Makes a file beside a path, at the first of ten paths at which there is nothing. What there is stays as it is: another
+// run may be writing it, or this one may have been asked to read it.
+fn made_beside<H: OutDisk + AllocGlobal>(
+    rt: &H,
+    path: &str,
+) -> io::Result<MadeFile<WatchedWriter<H::File>>>
+    ensures beside { IfOk result (λ made. IsBeside path.now (string_bytes made.path)) }
+    ensures begun { IfOk result (λ made. (H.files rt.now).may_begin (string_bytes made.path)
+        (⟦<WatchedWriter<H::File> as Write>⟧.contents made.file)) }
+    ensures written { IfOk result (λ _. (file : OutFile H.File) → HasFault file.fault
+        → MayNotMakeBeside (H.files rt.now) path.now) }
+    ensures failed { IfErr result (λ error. error_kind error ≢ OutOfMemory
+        → MayNotMakeBeside (H.files rt.now) path.now) }
+{
+    for number in 1..PARTS {
+        let made = made_part(rt, path, number - 1);
+        if !is_taken(&made) {
+            return made;
+        }
+    }
+    made_part(rt, path, PARTS - 1)
+}
+
+// Whether there was something already where a file should be made.
+fn is_taken<F>(made: &io::Result<F>) -> bool {
+    match made {
+        Ok(_) => false,
+        Err(error) => error.kind() == io::ErrorKind::AlreadyExists,
+    }
+}
+
+// Makes the file of this number beside a path.
+fn made_part<H: OutDisk + AllocGlobal>(
+    rt: &H,
+    path: &str,
+    number: u64,
+) -> io::Result<MadeFile<WatchedWriter<H::File>>>
+    requires { number < PARTS }
+    ensures beside { IfOk result (λ made. IsBeside path.now (string_bytes made.path)) }
+    ensures begun { IfOk result (λ made. (H.files rt.now).may_begin (string_bytes made.path)
+        (⟦<WatchedWriter<H::File> as Write>⟧.contents made.file)) }
+    ensures written { IfOk result (λ _. (file : OutFile H.File) → HasFault file.fault
+        → MayNotMakeBeside (H.files rt.now) path.now) }
+    ensures failed { IfErr result (λ error. error_kind error ≢ OutOfMemory
+        → MayNotMakeBeside (H.files rt.now) path.now) }
+{
+    let beside = part_of(rt.alloc(), path, number)?;
+    let file = rt.new_file(beside.as_str())?;
+    Ok(MadeFile { file, path: beside })
+}
+
+// The path of this number beside another, at which a file is until it is whole.
+fn part_of(alloc: Global, path: &str, number: u64) -> Result<String, AllocError>
+    ensures { IfOk result (λ beside. string_bytes beside ≡ part_of path.now number) }
 {
     let mut beside = String::new(alloc);
     beside.push_str(path)?;
     beside.push_str(".part")?;
+    if number > 0 {
+        write!(beside, "{number}")?;
+    }
     Ok(beside)
 }
 

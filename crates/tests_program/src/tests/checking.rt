@@ -220,7 +220,7 @@ fn terminals_get_no_control_characters(rt: HostRuntime) -> io::Result<()> {
     let text = "Z\u{fc}rich\t\u{1b}[2J \u{9b}H \u{7f}\n";
     let mut held: Vec<u8> = Vec::new(rt.alloc());
     ShownWriter::of(&mut held, true).write_all(text.as_bytes())?;
-    assert!(rt; held.as_slice() == "Z\u{fc}rich\t\\x1b[2J \\x9bH \\x7f\n".as_bytes());
+    assert!(rt; held.as_slice() == "Z\u{fc}rich\t\\u001b[2J \\u009bH \\u007f\n".as_bytes());
     held.clear();
     ShownWriter::of(&mut held, false).write_all(text.as_bytes())?;
     assert!(rt; held.as_slice() == text.as_bytes());

@@ -109,27 +109,33 @@ complains 64
 
 # Help.
 run --help
-helps
+helps Usage: csa <COMMAND> | \n  verify  | \n  matrix  | \n  64  wrong command line
 run verify --help
-helps
+helps Usage: csa verify <IMAGE> | Example: csa verify examples/base.csa
 run info --help
-helps
+helps Usage: csa info [OPTIONS] <IMAGE> | Example: csa info examples/base.csa
 run journey --help
-helps
+helps Usage: csa journey --from <STOP_ID> | Example: csa journey examples/base.csa 'ride 0 0
 run profile --help
-helps
+helps Usage: csa profile [OPTIONS] --from <STOP_ID> | Example: csa profile examples/base.csa --from A
+run departures --help
+helps Usage: csa departures [OPTIONS] --to <STOP_ID> | Example: csa departures examples/base.csa --to C
 run tables --help
-helps
+helps Usage: csa tables [OPTIONS] <FOLDER> | Example: csa tables examples/base --all-faults
 run days --help
-helps
+helps Usage: csa days [OPTIONS] <FOLDER> | Example: csa days examples/base
+run stations --help
+helps Usage: csa stations [OPTIONS] <FOLDER> [TEXT] | Example: csa stations examples/base c
 run build --help
-helps
+helps Usage: csa build [OPTIONS] --first <DAY> | Example: csa build examples/base base.csa --first 20240115
 run stops --help
-helps
+helps Usage: csa stops [OPTIONS] <IMAGE> [TEXT] | Example: csa stops examples/base.csa
 run upgrade --help
-helps
+helps Usage: csa upgrade <IMAGE> <OUT> | Example: csa upgrade examples/base.csa base.csa
 run serve --help
-helps
+helps Usage: csa serve [OPTIONS] --image <IMAGE> | Example: csa serve --image examples/base.csa --port 7077
+run help verify
+helps Usage: csa verify <IMAGE> | Example: csa verify examples/base.csa
 run --version
 answers csa 1.17.0
 

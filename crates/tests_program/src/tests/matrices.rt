@@ -111,6 +111,42 @@ asks matrix - table.csv --to targets --after 08:00:00 --until 08:12:00 --by 10:0
 tells csa: targets 1 of 1, seconds left 0
 answers targets 1 sources 3
 lacks table.csv.part
+
+# A file that is beside it already stays, such as a list that is read, or a file of another run.
+rows table.csv.part C
+rows table.csv.part1 old
+asks matrix - table.csv --to table.csv.part --after 08:00:00 --until 08:12:00 --by 10:00:00 --criterion arrival
+answers targets 1 sources 3
+asks matrix - table.csv --to table.csv.part --after 08:00:00 --until 08:12:00 --by 10:00:00 --criterion arrival
+answers targets 1 sources 3
+lacks table.csv.part2
+remove table.csv.part1
+asks matrix - table.csv --to table.csv.part --after 08:00:00 --until 08:12:00 --by 10:00:00 --criterion arrival
+answers targets 1 sources 3
+lacks table.csv.part1
+rows table.csv.part1 old
+rows table.csv.part2 old
+rows table.csv.part3 old
+rows table.csv.part4 old
+rows table.csv.part5 old
+rows table.csv.part6 old
+rows table.csv.part7 old
+rows table.csv.part8 old
+rows table.csv.part9 old
+asks matrix - table.csv --to table.csv.part --after 08:00:00 --until 08:12:00 --by 10:00:00 --criterion arrival
+tells csa: table.csv can't be written: files of other runs are beside it, from .part to .part9: remove those of runs \
+that have ended
+ends 3
+remove table.csv.part
+remove table.csv.part1
+remove table.csv.part2
+remove table.csv.part3
+remove table.csv.part4
+remove table.csv.part5
+remove table.csv.part6
+remove table.csv.part7
+remove table.csv.part8
+remove table.csv.part9
 run matrix - table.csv --to targets --after 06:00:00 --until 07:00:00 --by 10:00:00 --criterion arrival
 tells csa: warning: the window from 06:00:00 to 07:00:00 is outside the image's connections, which depart from \
 08:00:00 to 08:12:00
@@ -118,8 +154,9 @@ answers targets 1 sources 3
 ";
 
 const FAULTS: &str = "
-# What can't be asked for is refused before anything is written.
+# What can't be asked for is refused before anything is written: an older table stays.
 sample
+rows no.csv old
 rows targets C | D
 asks matrix - no.csv --to targets --after 08:00:00 --until 08:12:00 --by 10:00:00 --criterion arrival
 tells csa: --to targets, line 2: \"D\": no stop of the image has this stop_id \
@@ -184,14 +221,17 @@ ends 64
 asks matrix - no.csv --to targets --after 08:00:00 --until 08:12:00 --by 10:00:00 --criterion arrival --workers 0
 complains 64
 run matrix --help
-helps
-lacks no.csv
+helps Usage: csa matrix [OPTIONS] --after <CLOCK> | Example: csa matrix examples/base.csa - --to targets
 lacks no.csv.part
 ";
 
 #[test]
 fn a_table_has_a_row_for_each_pair(rt: HostRuntime) -> Result<(), Fail> {
-    try_transcripts(&rt, &[PAIRS, EACH, SETS, FAULTS])
+    try_transcripts(&rt, &[PAIRS, EACH, SETS, FAULTS])?;
+    let table = fs::read_to_string(&rt, "no.csv")?;
+    assert!(rt; table.as_str() == "old\n");
+    fs::remove_file(&rt, "no.csv")?;
+    Ok(())
 }
 
 /// The file is the table that standard output would have.

@@ -236,6 +236,28 @@ asks profile - --from A --to C --after 07:00:00 --until 09:00:00 --by 10:00:00 -
 complains 64
 asks profile - --from A --to C --after 07:00:00 --until 09:00:00 --by 10:00:00 --criterion arrival --rows 10
 complains 64
+
+# A picture isn't written over its image, whichever path leads there.
+saves city.csa
+link linked.csa city.csa
+asks profile city.csa --from A --to C --after 07:00:00 --until 09:00:00 --by 10:00:00 --criterion arrival \
+--picture city.csa
+tells csa: city.csa can't be written: it is the image
+ends 3
+asks profile ./city.csa --from A --to C --after 07:00:00 --until 09:00:00 --by 10:00:00 --criterion arrival \
+--picture linked.csa
+tells csa: linked.csa can't be written: it is the image
+ends 3
+holds city.csa
+remove linked.csa
+remove city.csa
+
+# Journeys are drawn below each other: two of them.
+asks profile - --from A --to C --after 07:00:00 --until 09:00:00 --by 10:00:00 --criterion arrival+trips \
+--picture two.svg
+prints dep 08:00:00 arr 08:20:00 trips 2 : ride 0 0 walk 1 1 0 ride 2 2
+prints dep 08:00:00 arr 08:30:00 trips 1 : ride 0 1
+answers points 2 read 3 walk none
 ";
 
 /// The answer is drawn as well as printed. If the picture can't be written, standard error says so, and nothing is
@@ -246,6 +268,14 @@ fn an_answer_is_drawn(rt: HostRuntime) -> Result<(), Fail> {
     let drawn = fs::read(&rt, "answer.svg")?;
     assert!(rt; drawn.starts_with(b"<svg ") && drawn.ends_with(b"</svg>\n"));
     fs::remove_file(&rt, "answer.svg")?;
+    let two = fs::read_to_string(&rt, "two.svg")?;
+    fs::remove_file(&rt, "two.svg")?;
+    let first =
+        "<g transform=\"translate(0 134)\">\n<text class=\"time\" x=\"16\" y=\"5\">08:00 – 08:20</text>\n";
+    let second =
+        "<g transform=\"translate(0 182)\">\n<text class=\"time\" x=\"16\" y=\"5\">08:00 – 08:30</text>\n";
+    assert!(rt; two.as_str().contains("viewBox=\"0 0 960 278\""));
+    assert!(rt; two.as_str().contains(first) && two.as_str().contains(second));
     Ok(())
 }
 

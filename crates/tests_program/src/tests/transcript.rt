@@ -28,7 +28,7 @@
 //! | `ends STATUS` | runs it: it must write these lines and no others, and end with this status |
 //! | `answers TEXT` | `prints TEXT` and `ends 0`, or `ends 2` if the text begins with `refused` |
 //! | `complains STATUS` | runs it: it must print nothing, write some errors, and end with this status |
-//! | `helps` | runs it: it must print something, write no errors, and end with status 0 |
+//! | `helps TEXT | TEXT ..` | runs it: it must print these texts and more, write no errors, and end with status 0 |
 //! | `saves PATH` | writes the bytes of the input to a file |
 //! | `holds PATH` | the file must have the bytes of the input |
 //! | `lacks PATH` | there must be no such file |
@@ -600,6 +600,29 @@ fn expect_any<
     Ok(())
 }
 
+/// Runs the command, which must write something with all of these texts to the output, and nothing to the errors.
+fn expect_help<
+    R: Machine
+        + ImageDisk<Image = R::File>
+        + Net<Listener = TcpListener, Stream = TcpStream>
+        + Abort,
+>(rt: &R, stage: &mut Stage<'_>, texts: &str) -> Result<(), Fail> {
+    stage.all_compared()?;
+    let outcome = run_on_stage(rt, stage)?;
+    compare_any(rt, &stage.words, &outcome, true, 0);
+    expect_texts(rt, &stage.words, &outcome.output, texts)
+}
+
+fn expect_texts<R: Abort>(rt: &R, words: &[&str], output: &[u8], texts: &str) -> Result<(), Fail> {
+    let Ok(page) = str::from_utf8(output) else {
+        return Err(Fail::new("help that is text"));
+    };
+    for text in texts.split(" | ") {
+        demand(rt, words, page.contains(text), text);
+    }
+    Ok(())
+}
+
 fn expect_held<R: Machine + Abort>(rt: &R, stage: &Stage<'_>, path: &str) -> Result<(), Fail> {
     let held = fs::read(rt, path)?;
     let input = stage.input(rt.alloc())?;
@@ -680,7 +703,7 @@ fn follow<
         "answers" => expect_last(rt, stage, rest),
         "word" => answer_changed(rt, stage, rest),
         "complains" => expect_any(rt, stage, false, number(rest)?),
-        "helps" => expect_any(rt, stage, true, 0),
+        "helps" => expect_help(rt, stage, rest),
         _ => follow_files(rt, stage, kind, rest),
     }
 }

@@ -1,5 +1,5 @@
 use Rattle.csa_program.proofs.serve.host_until_closed.Goals as goal
 
--- closing the queue changes nothing of it
-pub returns : goal.returns
-returns g c = c.host-end.ensures
+-- the run is that of the image that is shown
+pub invariant_of-result : goal.invariant_of-result
+invariant_of-result g c = record { hosted = c.args.pending.named _ _ (rw c.requires.served c.in-Some.ensures) }

@@ -1,11 +1,8 @@
-use Rattle.std.proofs.Common.{◌≡◌, inr, rules}
-use Rattle.command_requests.specs.declared.statuses.TheConstants.{ACCEPTED}
-use Rattle.csa_program.proofs.ServerEnds.{port_printed}
 use Rattle.csa_program.proofs.serve.serve_at.Goals as goal
 
-pub returns-in-Some : goal.returns-in-Some
-returns-in-Some g c =
-    let begun = c.tell_port-begun in
-    let accepted : begun.result ≡ ACCEPTED = search rules in
-    let printed = port_printed c.args.bound.port begun.result _ _ _ begun.ensures accepted in
-    inr (_, _, c.tell_served.ensures c.args.bound.port _ printed)
+-- a run of this server is one of the name's
+pub serve_named-requires-clause-named : goal.serve_named-requires-clause-named
+serve_named-requires-clause-named g c κs within = λ ends is_deaf hosted. ∣ hosted ∣₁
+
+pub returns : goal.returns
+returns g c = c.serve_named.ensures

@@ -1,6 +1,6 @@
 -- The picture is in its file before the text is printed.
-use Rattle.std.proofs.Common.{◌≡◌, List, ℕ, rules, string_bytes}
-use Rattle.image_commands.specs.Answering.{IsPicturePut}
+use Rattle.std.proofs.Common.{◌≡◌, List, ℕ, inl, inr, refl, rules, string_bytes}
+use Rattle.image_commands.specs.Answering.{IsOverImage, IsPicturePut}
 use Rattle.command_endings.proofs.Outcomes.{outcome_of, unusable, written}
 use Rattle.image_commands.proofs.profile.print_profile.Goals as goal
 
@@ -17,4 +17,10 @@ returns-in-Ok g c =
 pub returns-in-Err : goal.returns-in-Err
 returns-in-Err g c =
     let done = c.report_unwritten.ensures in
-    unusable _ _ _ _ c.report_unwritten.result _ done.memory done.either (λ other. c.in-Err.ensures.failed)
+    unusable _ _ _ _ c.report_unwritten.result _ done.memory done.either (λ other. inl c.in-Err.ensures.failed)
+
+pub returns-then-is_over_image : goal.returns-then-is_over_image
+returns-then-is_over_image g c =
+    let request = c.args.request.now in
+    let over : IsOverImage (g.H.OutDisk.files c.args.rt.now) request.image.now request.picture = search rules in
+    inr (inr (inl (refl, inr over), refl))

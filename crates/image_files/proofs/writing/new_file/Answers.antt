@@ -1,4 +1,4 @@
-use Rattle.std.proofs.Common.{◌∙◌, inl, inr, rules, subst}
+use Rattle.std.proofs.Common.{inl, inr, rules}
 use Rattle.image_files.proofs.writing.new_file.Goals as goal
 
 -- a fault of the file is one of a file at its path, or beside that
@@ -10,5 +10,4 @@ returns-then-is_special-clause-written g c =
 pub returns-clause-written : goal.returns-clause-written
 returns-clause-written g c =
     let plain : (g.H.OutDisk.files c.args.rt.now).plain c.args.path.now = search rules in
-    let beside = c.as_str-2.ensures.value ∙ c.in_ok-beside.ensures in
-    λ file has. inl (plain, subst (g.H.OutDisk.files c.args.rt.now).may_not_make beside (c.in_ok-file-2.ensures.written file has))
+    λ file has. inl (plain, c.in_ok-made.ensures.written file has)
