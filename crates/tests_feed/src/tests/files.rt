@@ -4,13 +4,14 @@ ghost use Rattle.std.specs.Prelude.{◌<◌};
 
 use super::failing::{Failing, ORDER};
 use feed_files::{
-    Disk, FeedFiles, FileFault, FolderFiles, MemoryFiles, ReadFault, file_up_to, read_tables,
+    Disk, FeedFiles, FileFault, FolderFiles, MemoryFiles, NodeState, ReadFault, file_up_to,
+    read_tables,
 };
 use gtfs_tables::{FaultKind, IdHash, Table, TableFault, Tables, join};
 use std::alloc::{AllocError, Global};
 use std::fs;
 use std::hash::BuildHasher;
-use std::os::unix::fs::symlink;
+use std::os::unix::fs::{MetadataExt, symlink};
 use std::test::Fail;
 
 const AGENCY: &[u8] =
@@ -317,6 +318,44 @@ fn a_linked_folder_with_another_file_is_not_read(rt: HostRuntime) -> Result<(), 
     fs::remove_file(&rt, "linked_to/stops.txt")?;
     fs::remove_dir(&rt, "linked_to")?;
     assert!(rt; agency == Some(AGENCY.len()) && stops.is_none());
+    Ok(())
+}
+
+// The second of a folder's last change, and its state.
+fn second_and_state(
+    rt: &HostRuntime,
+    folder: &str,
+) -> Result<(i64, Option<NodeState>), Fail> {
+    let metadata = fs::metadata(rt, folder)?;
+    Ok((metadata.ctime(), rt.folder_state(folder)))
+}
+
+// Puts a file into a folder again and again, and returns whether two of the folder's states within a second differ.
+fn is_changed_within_a_second(rt: &HostRuntime, folder: &str, path: &str) -> Result<bool, Fail> {
+    fs::write(rt, path, STOPS)?;
+    let (mut second, mut state) = second_and_state(rt, folder)?;
+    for _ in 0..100_000 {
+        fs::remove_file(rt, path)?;
+        fs::write(rt, path, STOPS)?;
+        let (later, changed) = second_and_state(rt, folder)?;
+        if later == second && changed != state {
+            return Ok(true);
+        }
+        second = later;
+        state = changed;
+    }
+    Ok(false)
+}
+
+// Two changes in one second are told apart, unless they fall into one tick of the file system's clock.
+#[test]
+fn a_change_in_the_same_second_is_seen(rt: HostRuntime) -> Result<(), Fail> {
+    write_folder(&rt, "changed_again", &[("agency.txt", AGENCY)])?;
+    let is_seen = is_changed_within_a_second(&rt, "changed_again", "changed_again/stops.txt")?;
+    fs::remove_file(&rt, "changed_again/agency.txt")?;
+    fs::remove_file(&rt, "changed_again/stops.txt")?;
+    fs::remove_dir(&rt, "changed_again")?;
+    assert!(rt; is_seen);
     Ok(())
 }
 
