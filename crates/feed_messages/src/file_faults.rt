@@ -1,7 +1,7 @@
 //! The lines about the faults of one file.
 
 use crate::quotes::{is_long, lines_of, quote_at};
-use crate::suspects::suspects_of;
+use crate::suspects::{index_of, suspects_of};
 use crate::wording::{further_text, lengths_text, twice_text, value_text};
 use crate::words::explain;
 use gtfs_rows::{FaultKind, Records, Table, TableFault};
@@ -101,49 +101,16 @@ impl FileFaults {
         }
         let (file, line) = (fault.file.file_name(), records.reach().line);
         let mut text = format!(in self.alloc; "{file}, line {line}").ok()?;
-        let is_long = self
-            .describe(&mut text, records, &fault, column, earlier)
-            .unwrap_or(false);
+        let column = column.or(suspect_in(records, &fault));
+        let is_long = describe(self.alloc, &mut text, records, &fault, column, earlier).unwrap_or(
+            false,
+        );
         if is_long {
-            self.append_quote(&mut text, records, line)?;
+            append_quote(self.alloc, &mut text, records, self.file_lines)?;
         }
         let index = self.lines.len();
         self.lines.push(FaultLine { text, further: 0 }).ok()?;
         if is_long { None } else { Some(index) }
-    }
-
-    /// Appends what is wrong with a record, and returns whether a double quote may be the cause.
-    fn describe(
-        &self,
-        text: &mut String,
-        records: &Records<'_>,
-        fault: &TableFault,
-        column: Option<usize>,
-        earlier: Option<u64>,
-    ) -> Option<bool> {
-        let alloc = self.alloc;
-        if fault.kind == FaultKind::RowLength {
-            let what = lengths_text(alloc, records.last().len(), records.width()).ok()?;
-            text.push_str(what.as_str()).ok()?;
-            return Some(true);
-        }
-        let column = column.or(suspect_in(records, fault))?;
-        let name = fault.file.columns().get(column)?;
-        let value = records.get(column);
-        let what = match earlier {
-            Some(line) => twice_text(alloc, fault.file, name, value, line),
-            None => value_text(alloc, fault, name, value),
-        };
-        text.push_str(what.ok()?.as_str()).ok()?;
-        Some(earlier.is_none() && is_long(value))
-    }
-
-    /// Appends that a double quote is the cause, if one opens a field of several lines.
-    fn append_quote(&self, text: &mut String, records: &Records<'_>, line: u64) -> Option<()> {
-        if let Some(quote) = quote_at(self.alloc, records.last(), line, self.file_lines) {
-            text.push_str(quote.as_str()).ok()?;
-        }
-        Some(())
     }
 
     /// Counts a further row that names the id of a line, if there is a line about it.
@@ -187,15 +154,50 @@ impl FileFaults {
     }
 }
 
+/// Appends what is wrong with a record: how many fields it has, or else the value of this column. For a key that an
+/// earlier record has, the line of that one is given. Returns whether a double quote may be the cause.
+pub fn describe(
+    alloc: Global,
+    text: &mut String,
+    records: &Records<'_>,
+    fault: &TableFault,
+    column: Option<usize>,
+    earlier: Option<u64>,
+) -> Option<bool> {
+    if fault.kind == FaultKind::RowLength {
+        let what = lengths_text(alloc, records.last().len(), records.width()).ok()?;
+        text.push_str(what.as_str()).ok()?;
+        return Some(true);
+    }
+    let name = fault.file.columns().get(column?)?;
+    let value = records.get(column?);
+    let what = match earlier {
+        Some(line) => twice_text(alloc, fault.file, name, value, line),
+        None => value_text(alloc, fault, name, value),
+    };
+    text.push_str(what.ok()?.as_str()).ok()?;
+    Some(earlier.is_none() && is_long(value))
+}
+
+/// Appends that a double quote is the cause, if one opens a field of several lines in a record of a file of so many
+/// lines.
+pub fn append_quote(
+    alloc: Global,
+    text: &mut String,
+    records: &Records<'_>,
+    lines: u64,
+) -> Option<()> {
+    if let Some(quote) = quote_at(alloc, records.last(), records.position().line, lines) {
+        text.push_str(quote.as_str()).ok()?;
+    }
+    Some(())
+}
+
 /// The first column of a record that can be at fault, and isn't as it must be.
 fn suspect_in(records: &Records<'_>, fault: &TableFault) -> Option<usize> {
     let (names, form) = suspects_of(fault);
     for name in names {
-        let column = fault
-            .file
-            .columns()
-            .iter()
-            .position(|column| *column == *name)?;
+        let column = index_of(fault.file, name)?;
         if form.is_missed_by(records.get(column)) {
             return Some(column);
         }

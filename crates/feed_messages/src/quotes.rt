@@ -2,19 +2,11 @@
 
 use crate::files::advance;
 use csv::ByteRecord;
-use gtfs_rows::{FoundRecord, Records};
+use gtfs_rows::Records;
 use std::alloc::Global;
 
-/// What to say of a record, if a double quote in its first line opens a field of several lines.
-pub fn quote_in(alloc: Global, bytes: &[u8], found: &FoundRecord) -> Option<String> {
-    if long_field(&found.record).is_some() {
-        quote_at(alloc, &found.record, found.position.line, lines_of(bytes))
-    } else {
-        None
-    }
-}
-
-/// The same of a record that begins in a line, in a file of so many lines.
+/// What to say of a record that begins in a line, in a file of so many lines, if a double quote in its first line opens
+/// a field of several lines.
 pub fn quote_at(alloc: Global, record: &ByteRecord, line: u64, lines: u64) -> Option<String> {
     let field = long_field(record)?;
     let last = line.saturating_add(line_ends(field)).min(lines);
@@ -53,26 +45,20 @@ fn text_before<'a>(record: &'a ByteRecord, id: &[u8]) -> Option<&'a [u8]> {
     let field = long_field(record)?;
     for position in 0..field.len() {
         let (before, rest) = (field.get(..position)?, field.get(position..)?);
-        if is_at_end(before.last()) && begins_with(rest, id) {
+        if !id.is_empty()
+            && is_at_end(before.last())
+            && let Some(behind) = rest.strip_prefix(id)
+            && is_at_end(behind.first())
+        {
             return Some(before);
         }
     }
     None
 }
 
-fn begins_with(text: &[u8], id: &[u8]) -> bool {
-    match text.strip_prefix(id) {
-        Some(rest) => !id.is_empty() && is_at_end(rest.first()),
-        None => false,
-    }
-}
-
 /// Whether a field may end at this byte, or at the end of the file.
 fn is_at_end(byte: Option<&u8>) -> bool {
-    match byte {
-        Some(byte) => is_line_end(*byte) || *byte == b',',
-        None => true,
-    }
+    byte.is_none_or(|byte| is_line_end(*byte) || *byte == b',')
 }
 
 fn is_line_end(byte: u8) -> bool {

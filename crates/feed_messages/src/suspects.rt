@@ -1,7 +1,7 @@
 //! Which columns of a record can be at fault, by the kind of fault, and what a message says about their values.
 
 use gtfs_rows::values::number;
-use gtfs_rows::{Day, FaultKind, Key, Table, TableFault, Time};
+use gtfs_rows::{Day, FaultKind, Key, Records, Table, TableFault, Time};
 
 /// What the text of a field must be.
 #[derive(Clone, Copy, PartialEq, Eq)]
@@ -9,11 +9,8 @@ pub enum FieldForm {
     Time,
     TimeOrBlank,
     Date,
-    Number,
-    /// 0 or 1.
-    Weekday,
-    /// 1 or 2.
-    Exception,
+    /// A number from the first to the second.
+    Number(u32, u32),
     /// The id of a record of [`home_of`] the column.
     Id,
     /// The stop_id of a stop or a station.
@@ -29,9 +26,9 @@ impl FieldForm {
             FieldForm::Time => Time::parse(text).is_err(),
             FieldForm::TimeOrBlank => !text.is_empty() && Time::parse(text).is_err(),
             FieldForm::Date => Day::parse(text).is_err(),
-            FieldForm::Number => number(text).is_none(),
-            FieldForm::Weekday => !matches!(number(text), Some(0) | Some(1)),
-            FieldForm::Exception => !matches!(number(text), Some(1) | Some(2)),
+            FieldForm::Number(least, most) => {
+                !number(text).is_some_and(|number| least <= number && number <= most)
+            }
             FieldForm::Id | FieldForm::End | FieldForm::Other => true,
         }
     }
@@ -46,6 +43,11 @@ pub fn home_of(column: &str) -> (Table, &'static str) {
     }
 }
 
+const ANY_NUMBER: FieldForm = FieldForm::Number(0, 999_999_999);
+
+/// The columns of a transfer's two ends.
+const ENDS: &[&str] = &["from_stop_id", "to_stop_id"];
+
 /// The columns that can be at fault, in order: the first whose text isn't of this form is the one that is at fault.
 pub fn suspects_of(fault: &TableFault) -> (&'static [&'static str], FieldForm) {
     match (fault.kind, fault.file) {
@@ -55,56 +57,62 @@ pub fn suspects_of(fault: &TableFault) -> (&'static [&'static str], FieldForm) {
         (FaultKind::BadTime, _) => (&["start_time", "end_time"], FieldForm::Time),
         (FaultKind::BadDate, Table::Calendar) => (&["start_date", "end_date"], FieldForm::Date),
         (FaultKind::BadDate, _) => (&["date"], FieldForm::Date),
-        (FaultKind::BadNumber, Table::StopTimes) => (&["stop_sequence"], FieldForm::Number),
-        (FaultKind::BadNumber, Table::Calendar) => (weekdays(), FieldForm::Weekday),
-        (FaultKind::BadNumber, Table::CalendarDates) => (&["exception_type"], FieldForm::Exception),
-        (FaultKind::BadNumber, _) => (&["headway_secs"], FieldForm::Number),
-        _ => suspects_by_id(fault),
-    }
-}
-
-fn suspects_by_id(fault: &TableFault) -> (&'static [&'static str], FieldForm) {
-    match (fault.kind, fault.file) {
-        (FaultKind::IdTwice, _) => (last_of(key_of(fault)), FieldForm::Other),
+        (FaultKind::BadNumber, Table::StopTimes) => (&["stop_sequence"], ANY_NUMBER),
+        (FaultKind::BadNumber, Table::Calendar) => (
+            columns_in(fault.file, 1, 7),
+            FieldForm::Number(0, 1),
+        ),
+        (FaultKind::BadNumber, Table::CalendarDates) => {
+            (&["exception_type"], FieldForm::Number(1, 2))
+        }
+        (FaultKind::BadNumber, _) => (&["headway_secs"], ANY_NUMBER),
+        (FaultKind::UnknownId, Table::Transfers) => (ENDS, FieldForm::Id),
+        (FaultKind::NotAStop, Table::Transfers) => (ENDS, FieldForm::End),
         (FaultKind::UnknownId, Table::Stops) => (&["parent_station"], FieldForm::Other),
-        (FaultKind::UnknownId, Table::Transfers) => (
-            &["from_stop_id", "to_stop_id"],
-            FieldForm::Id,
-        ),
         (FaultKind::UnknownId, _) => (&["trip_id", "stop_id"], FieldForm::Id),
-        (FaultKind::NotAStop, Table::Transfers) => (
-            &["from_stop_id", "to_stop_id"],
-            FieldForm::End,
-        ),
-        (FaultKind::NotAStop, _) => (&["stop_id"], FieldForm::Other),
-        (FaultKind::ZonesDiffer, _) => (&["agency_timezone"], FieldForm::Other),
-        (FaultKind::SequenceTwice, _) => (&["stop_sequence"], FieldForm::Other),
-        (FaultKind::BadHeadway, _) => (&["headway_secs"], FieldForm::Other),
-        _ => (&["trip_id"], FieldForm::Other),
+        _ => (one_suspect(fault), FieldForm::Other),
     }
 }
 
-fn weekdays() -> &'static [&'static str] {
-    Table::Calendar.columns().get(1..8).unwrap_or(&[])
+/// The only column that can be at fault.
+fn one_suspect(fault: &TableFault) -> &'static [&'static str] {
+    match fault.kind {
+        FaultKind::IdTwice => match fault.file.key() {
+            Key::Column(last) | Key::Columns(_, last) => columns_in(fault.file, last, last),
+            _ => &[],
+        },
+        FaultKind::NotAStop => &["stop_id"],
+        FaultKind::ZonesDiffer => &["agency_timezone"],
+        FaultKind::SequenceTwice => &["stop_sequence"],
+        FaultKind::BadHeadway => &["headway_secs"],
+        _ => &["trip_id"],
+    }
 }
 
-fn last_of(columns: &'static [&'static str]) -> &'static [&'static str] {
-    columns
-        .get(columns.len().saturating_sub(1)..)
-        .unwrap_or(&[])
+/// The index of a column among those of its table.
+pub fn index_of(table: Table, name: &str) -> Option<usize> {
+    table.columns().iter().position(|column| *column == name)
+}
+
+/// A record's value in a column of its table.
+pub fn value_in<'a>(records: &'a Records<'_>, table: Table, name: &str) -> &'a [u8] {
+    match index_of(table, name) {
+        Some(column) => records.get(column),
+        None => &[],
+    }
+}
+
+/// The columns of a table from the first index to the last.
+fn columns_in(table: Table, first: usize, last: usize) -> &'static [&'static str] {
+    table.columns().get(first..=last).unwrap_or(&[])
 }
 
 /// The columns that may not have the same values in two records, if that is the fault.
 pub fn key_of(fault: &TableFault) -> &'static [&'static str] {
-    let columns = fault.file.columns();
     match (fault.kind, fault.file.key()) {
         (FaultKind::SequenceTwice, _) => &["trip_id", "stop_sequence"],
-        (FaultKind::IdTwice, Key::Column(position)) => columns
-            .get(position..=position)
-            .unwrap_or(&[]),
-        (FaultKind::IdTwice, Key::Columns(first, last)) => {
-            columns.get(first..=last).unwrap_or(&[])
-        }
+        (FaultKind::IdTwice, Key::Column(column)) => columns_in(fault.file, column, column),
+        (FaultKind::IdTwice, Key::Columns(first, last)) => columns_in(fault.file, first, last),
         _ => &[],
     }
 }
@@ -125,18 +133,14 @@ pub fn reason_of(fault: &TableFault, column: &str) -> &'static str {
             "isn't a time, H:MM:SS or HH:MM:SS with minutes and seconds below 60"
         }
         FaultKind::BadDate => "isn't a date of the calendar, YYYYMMDD",
-        FaultKind::BadNumber => match fault.file {
-            Table::Calendar => "is neither 0 nor 1",
-            Table::CalendarDates => "is neither 1 nor 2",
-            _ => "isn't a number of at most nine digits",
-        },
-        FaultKind::UnknownId => match home_of(column) {
-            _ if fault.file == Table::Stops => {
-                "isn't a station in stops.txt (the field may be left blank)"
-            }
-            (Table::Trips, _) => "isn't in trips.txt",
-            _ => "isn't in stops.txt",
-        },
+        FaultKind::BadNumber if fault.file == Table::Calendar => "is neither 0 nor 1",
+        FaultKind::BadNumber if fault.file == Table::CalendarDates => "is neither 1 nor 2",
+        FaultKind::BadNumber => "isn't a number of at most nine digits",
+        FaultKind::UnknownId if fault.file == Table::Stops => {
+            "isn't a station in stops.txt (the field may be left blank)"
+        }
+        FaultKind::UnknownId if column == "trip_id" => "isn't in trips.txt",
+        FaultKind::UnknownId => "isn't in stops.txt",
         FaultKind::NotAStop if fault.file == Table::Transfers => {
             "is neither a stop nor a station: its location_type in stops.txt is 2 to 4"
         }

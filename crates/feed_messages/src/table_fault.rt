@@ -1,14 +1,18 @@
 //! Which line, column and value of a feed's file is refused.
 
+use crate::file_faults::{append_quote, describe};
 use crate::files::{advance, file_bytes, record_with};
 use crate::folders::missing_file;
-use crate::quotes::{is_long, quote_before, quote_in};
-use crate::suspects::{FieldForm, home_of, key_of, suspects_of};
-use crate::wording::{further_text, lengths_text, twice_text, value_text};
+use crate::quotes::{lines_of, quote_before};
+use crate::suspects::{FieldForm, home_of, index_of, key_of, suspects_of, value_in};
+use crate::wording::further_text;
 use crate::words::{explain, quoted};
 use csv::ByteRecord;
 use gtfs_rows::values::number;
-use gtfs_rows::{FaultKind, FoundRecord, Records, Table, TableFault, cell, column, find_record};
+use gtfs_rows::{
+    FaultKind, FoundRecord, Location, Records, Table, TableFault, cell, column, find_record,
+    location,
+};
 use std::alloc::{AllocError, Global};
 use std::io::Write;
 use std::rt::Files;
@@ -20,17 +24,15 @@ pub fn explain_table<H: Files + AllocGlobal, E: Write>(
     fault: &TableFault,
     errors: &mut E,
 ) {
-    if let Some(line) = line_of(rt, folder, fault) {
+    let bytes = match fault.kind {
+        FaultKind::MissingFile | FaultKind::TooMany => Some(Vec::new(rt.alloc())),
+        _ => file_bytes(rt, folder, fault.file.file_name()),
+    };
+    if let Some(bytes) = bytes
+        && let Some(line) = message(rt, folder, fault, &bytes)
+    {
         explain(errors, &["csa: ", line.as_str()]);
     }
-}
-
-fn line_of<H: Files + AllocGlobal>(rt: &H, folder: &str, fault: &TableFault) -> Option<String> {
-    let bytes = match fault.kind {
-        FaultKind::MissingFile | FaultKind::TooMany => Vec::new(rt.alloc()),
-        _ => file_bytes(rt, folder, fault.file.file_name())?,
-    };
-    message(rt, folder, fault, &bytes)
 }
 
 /// The message about a fault of a file that has these bytes.
@@ -46,15 +48,13 @@ pub fn message<H: Files + AllocGlobal>(
         FaultKind::TooMany => too_many(alloc, fault.file),
         FaultKind::BadUtf8 => not_utf8(alloc, fault.file.file_name(), bytes),
         FaultKind::MissingColumn => missing_column(alloc, fault.file, bytes),
-        _ => {
-            let position = FaultLocation {
-                rt,
-                folder,
-                fault,
-                bytes,
-            };
-            position.line()
+        _ => FaultLocation {
+            rt,
+            folder,
+            fault,
+            bytes,
         }
+        .line(),
     }
 }
 
@@ -103,7 +103,8 @@ fn missing_column(alloc: Global, table: Table, bytes: &[u8]) -> Option<String> {
     let mut is_first = true;
     for name in table.columns().iter().take(table.required()) {
         if column(&found.header, name.as_bytes()).is_none() {
-            append_name(&mut text, is_first, name)?;
+            text.push_str(if is_first { " " } else { ", " }).ok()?;
+            text.push_str(name).ok()?;
             is_first = false;
         }
     }
@@ -111,16 +112,6 @@ fn missing_column(alloc: Global, table: Table, bytes: &[u8]) -> Option<String> {
     text.push_str(": it is ").ok()?;
     text.push_str(shown.as_str()).ok()?;
     Some(text)
-}
-
-/// Appends the name of a column, behind a comma if it isn't the first.
-fn append_name(text: &mut String, is_first: bool, name: &str) -> Option<()> {
-    if is_first {
-        text.push_str(" ").ok()?;
-    } else {
-        text.push_str(", ").ok()?;
-    }
-    text.push_str(name).ok()
 }
 
 /// A header as it is shown: its fields with commas between them.
@@ -145,60 +136,44 @@ struct FaultLocation<'a, H> {
 }
 
 impl<'a, H: Files + AllocGlobal> FaultLocation<'a, H> {
-    /// The message: the line, what is wrong there, if that can be found, and whether a double quote is the cause.
+    /// The message: the line, and what is wrong there, if that can be found.
     fn line(&self) -> Option<String> {
         let alloc = self.rt.alloc();
-        let found = find_record(alloc, self.bytes, self.fault.row).ok()??;
-        let (file, line) = (self.fault.file.file_name(), found.position.line);
-        let mut text = format!(in alloc; "{file}, line {line}").ok()?;
-        let what = match self.fault.kind {
-            FaultKind::RowLength => self.row_length(&found),
-            _ => self.wrong_value(&found),
-        };
-        if let Some(what) = what {
-            text.push_str(what.as_str()).ok()?;
+        let mut records = Records::of_table(alloc, self.fault.file, self.bytes).ok()?;
+        for _ in 0..self.fault.row {
+            advance(&mut records)?;
         }
-        Some(text)
+        let (file, line) = (self.fault.file.file_name(), records.position().line);
+        let what = self.what_is_wrong(&records).unwrap_or(String::new(alloc));
+        format!(in alloc; "{file}, line {line}{what}").ok()
     }
 
-    /// How many fields the record has, and whether that is because of a double quote.
-    fn row_length(&self, found: &FoundRecord) -> Option<String> {
+    /// What is wrong with a record: of a key that is there twice the line of the first record that has it, and of an id
+    /// that isn't found also where it is, or how many further rows name it. A double quote is named if it is the cause.
+    fn what_is_wrong(&self, records: &Records<'_>) -> Option<String> {
         let alloc = self.rt.alloc();
-        let mut text = lengths_text(alloc, found.record.len(), found.header.len()).ok()?;
-        if let Some(quote) = quote_in(alloc, self.bytes, found) {
-            text.push_str(quote.as_str()).ok()?;
+        let mut text = String::new(alloc);
+        let column = self.wrong_column(records);
+        let earlier = self.earlier_line(records);
+        if describe(alloc, &mut text, records, self.fault, column, earlier)? {
+            append_quote(alloc, &mut text, records, lines_of(self.bytes))?;
+        } else if self.fault.kind == FaultKind::UnknownId {
+            let name = self.fault.file.columns().get(column?)?;
+            self.append_cause(&mut text, name, records.get(column?))?;
         }
         Some(text)
     }
 
-    /// The column that isn't as it must be, its value, and what is wrong with it.
-    fn wrong_value(&self, found: &FoundRecord) -> Option<String> {
+    /// The column that isn't as it must be; none also if an id's file can't be read.
+    fn wrong_column(&self, records: &Records<'_>) -> Option<usize> {
         let (names, form) = suspects_of(self.fault);
         for name in names {
-            let position = column(&found.header, name.as_bytes());
-            let value = cell(&found.record, position);
-            if position.is_some() && self.is_wrong(name, form, value)? {
-                return self.what_is_wrong(found, name, value);
+            let column = index_of(self.fault.file, name)?;
+            if self.is_wrong(name, form, records.get(column))? {
+                return Some(column);
             }
         }
         None
-    }
-
-    /// The column and its value; for a key that is there twice also the line of the first record that has it; for any
-    /// other fault what is wrong, and for an id that isn't found also where it is, or how many further rows name it.
-    fn what_is_wrong(&self, found: &FoundRecord, name: &str, value: &[u8]) -> Option<String> {
-        let alloc = self.rt.alloc();
-        if let Some(line) = self.earlier_line(found) {
-            return twice_text(alloc, self.fault.file, name, value, line).ok();
-        }
-        let mut text = value_text(alloc, self.fault, name, value).ok()?;
-        if is_long(value) {
-            text.push_str(quote_in(alloc, self.bytes, found)?.as_str())
-                .ok()?;
-        } else if self.fault.kind == FaultKind::UnknownId {
-            self.append_cause(&mut text, name, value)?;
-        }
-        Some(text)
     }
 
     /// Appends to the message about an id that isn't found in which field it is hidden, or how many further rows name
@@ -215,49 +190,33 @@ impl<'a, H: Files + AllocGlobal> FaultLocation<'a, H> {
 
     /// How many rows after the faulty one name the same id, in a column whose ids are looked up as those of this one.
     fn further_rows(&self, name: &str, id: &[u8]) -> Option<u64> {
-        let mut records = Records::open(self.rt.alloc(), self.bytes);
-        advance(&mut records)?;
-        let column_indices = self.columns_like(records.last(), name)?;
+        let mut records = Records::of_table(self.rt.alloc(), self.fault.file, self.bytes).ok()?;
         let mut rows = 0u64;
-        for number in 1..u64::MAX {
+        for _ in 0..u64::MAX {
             if advance(&mut records).is_none() {
                 return Some(rows);
             }
-            if number > self.fault.row && has_any(records.last(), &column_indices, id) {
+            let is_named = suspects_of(self.fault).0.iter().any(|other| home_of(other)
+                == home_of(name)
+                && value_in(&records, self.fault.file, other) == id);
+            if is_named && records.number() > self.fault.row {
                 rows = rows.saturating_add(1);
             }
         }
         None
     }
 
-    /// The places of the columns whose ids are looked up as those of this one.
-    fn columns_like(&self, header: &ByteRecord, name: &str) -> Option<Vec<Option<usize>>> {
-        let mut column_indices = Vec::new(self.rt.alloc());
-        for other in suspects_of(self.fault).0 {
-            if home_of(other) == home_of(name) {
-                column_indices.push(column(header, other.as_bytes())).ok()?;
-            }
-        }
-        Some(column_indices)
-    }
-
     /// The line of the first record with the key of the faulty one, if that is the fault.
-    fn earlier_line(&self, found: &FoundRecord) -> Option<u64> {
-        let mut column_indices = Vec::new(self.rt.alloc());
-        for name in key_of(self.fault) {
-            column_indices
-                .push((
-                    column(&found.header, name.as_bytes()),
-                    *name == "stop_sequence",
-                ))
-                .ok()?;
-        }
-        let mut records = Records::open(self.rt.alloc(), self.bytes);
-        advance(&mut records)?;
+    fn earlier_line(&self, later: &Records<'_>) -> Option<u64> {
+        let table = self.fault.file;
+        let names = key_of(self.fault);
+        let mut records = Records::of_table(self.rt.alloc(), table, self.bytes).ok()?;
         for _ in 1..self.fault.row {
             advance(&mut records)?;
-            if !column_indices.is_empty()
-                && has_key_of(records.last(), &found.record, &column_indices)
+            if !names.is_empty()
+                && names
+                    .iter()
+                    .all(|name| is_same(&records, later, table, name))
             {
                 return Some(records.position().line);
             }
@@ -272,42 +231,21 @@ impl<'a, H: Files + AllocGlobal> FaultLocation<'a, H> {
         }
         let (table, id) = home_of(name);
         let bytes = file_bytes(self.rt, self.folder, table.file_name())?;
-        let found = record_with(self.rt.alloc(), &bytes, id, value);
-        if form == FieldForm::Id {
-            Some(found.is_none())
-        } else {
-            Some(is_inside(&found))
+        match record_with(self.rt.alloc(), &bytes, id, value) {
+            Some(stop) => Some(form == FieldForm::End && is_inside(&stop)),
+            None => Some(form == FieldForm::Id),
         }
     }
 }
 
 /// Whether a record of `stops.txt` is an entrance, a node or a boarding area.
-fn is_inside(stop: &Option<FoundRecord>) -> bool {
-    match stop {
-        Some(found) => {
-            let location = column(&found.header, b"location_type");
-            matches!(
-                number(cell(&found.record, location)),
-                Some(2) | Some(3) | Some(4)
-            )
-        }
-        None => false,
-    }
+fn is_inside(stop: &FoundRecord) -> bool {
+    let kind = cell(&stop.record, column(&stop.header, b"location_type"));
+    !matches!(location(kind), Location::Stop | Location::Station)
 }
 
-/// Whether a record has this text at one of these places.
-fn has_any(record: &ByteRecord, column_indices: &[Option<usize>], text: &[u8]) -> bool {
-    column_indices.iter().any(|position| position.is_some() && cell(record, *position) == text)
-}
-
-/// Whether a record has the values of a later one at these places; at that of a number `1` and `01.0` are the same.
-fn has_key_of(
-    record: &ByteRecord,
-    later: &ByteRecord,
-    column_indices: &[(Option<usize>, bool)],
-) -> bool {
-    column_indices.iter().all(|(position, is_number)| {
-        let (value, other) = (cell(record, *position), cell(later, *position));
-        value == other || (*is_number && number(value) == number(other))
-    })
+/// Whether two records have the same value in a column; in that of a number `1` and `01.0` are the same.
+fn is_same(record: &Records<'_>, later: &Records<'_>, table: Table, name: &str) -> bool {
+    let (value, other) = (value_in(record, table, name), value_in(later, table, name));
+    value == other || (name == "stop_sequence" && number(value) == number(other))
 }
