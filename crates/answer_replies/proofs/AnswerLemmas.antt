@@ -14,7 +14,7 @@ use Rattle.station_answers.specs.Reading.{window_between}
 use Rattle.station_answers.specs.Walks.{IsDirectTime}
 use Rattle.session_texts.specs.Replies.{line_of, profile_data}
 use Rattle.answer_replies.specs.declared.point_form.PointForm.{PointForm}
-use Rattle.answer_replies.specs.Replying.{IsAnswered, departures_data}
+use Rattle.answer_replies.specs.Replying.{IsAnswered, departures_data, subject_of}
 
 pub answered_line : {V : Type 0} (form : PointForm) (figures : V → Figures) (rules : Rules V) (image : ImageValue) (t : TimetableValue) (version : ℕ)
     (b : SetQueryValue) (departures : List (Departure V)) (walk : Option ℕ) (points : List Data) (line : List ℕ)
@@ -22,7 +22,7 @@ pub answered_line : {V : Type 0} (form : PointForm) (figures : V → Figures) (r
     → ((d : Departure V) → Contains departures d → AttainsBetween rules t b (point_of d) d.journey)
     → IsDirectTime t b walk
     → points ≡ departures_data form image figures departures → line ≡ line_of (profile_data points version walk)
-    → IsAnswered form figures rules image version b line
+    → IsAnswered figures rules (subject_of form image version) b line
 answered_line {V} form figures rules image t version b departures walk points line same answer attained direct points_are line_is = record {
   departures = departures;
   walk = walk;

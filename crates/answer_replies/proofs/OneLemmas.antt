@@ -9,16 +9,14 @@ use Rattle.timetable.specs.TimetableValue.{TimetableValue}
 use Rattle.timetable.specs.JourneyValue.{JourneyValue}
 use Rattle.timetable.specs.declared.network.Footpath.{Footpath}
 use Rattle.timetable.specs.declared.query.Query.{Query}
-use Rattle.image_layout.specs.Image.{ImageValue}
 use Rattle.profile_scan.specs.SetQuery.{IsDirectWalk, single_set_query, pair_of, secs_of}
 use Rattle.profile_scan.specs.ScanState.{IsDirectSecs}
 use Rattle.profile_scan.proofs.Single.{answer_from}
 use Rattle.journeys.specs.Answer.{point_of}
 use Rattle.journeys.specs.Extracted.{Attains, AttainsBetween}
 use Rattle.station_answers.specs.Walks.{IsDirectTime}
-use Rattle.answer_replies.specs.declared.point_form.PointForm.{PointForm}
 use Rattle.answer_replies.specs.OneStop.{IsAnsweredOne, IsAnsweredOneBy}
-use Rattle.answer_replies.specs.Replying.{IsAnswered, IsAnsweredBy}
+use Rattle.answer_replies.specs.Replying.{IsAnswered, IsAnsweredBy, Subject}
 
 -- a journey between single stops runs from the one to the other
 attains_one : {V : Type 0} (rules : Rules V) (t : TimetableValue) (q : Query) (p : Point V) (j : JourneyValue)
@@ -45,20 +43,19 @@ direct_walk_one t q (Some f) is =
 direct_one : (t : TimetableValue) (q : Query) (walk : Option ℕ) → IsDirectTime t (single_set_query q) walk → IsDirectSecs t q.target q.source walk
 direct_one t q walk is = subst (IsDirectSecs t q.target q.source) (sym is.is) (direct_walk_one t q is.walk is.is_walk)
 
-answered_one : {V : Type 0} (form : PointForm) (figures : V → Figures) (rules : Rules V) (image : ImageValue) (version : ℕ) (q : Query)
-    (reply : List ℕ) → IsAnswered form figures rules image version (single_set_query q) reply
-    → IsAnsweredOne form figures rules image version q reply
-answered_one form figures rules image version q reply is = record {
+answered_one : {V : Type 0} (figures : V → Figures) (rules : Rules V) (subject : Subject) (q : Query) (reply : List ℕ)
+    → IsAnswered figures rules subject (single_set_query q) reply → IsAnsweredOne figures rules subject q reply
+answered_one figures rules subject q reply is = record {
   departures = is.departures;
   walk = is.walk;
-  answer = answer_from rules image.timetable q (map point_of is.departures) is.answer;
-  attained = λ d has. attains_one rules image.timetable q (point_of d) d.journey (is.attained d has);
-  direct = direct_one image.timetable q is.walk is.direct;
+  answer = answer_from rules subject.image.timetable q (map point_of is.departures) is.answer;
+  attained = λ d has. attains_one rules subject.image.timetable q (point_of d) d.journey (is.attained d has);
+  direct = direct_one subject.image.timetable q is.walk is.direct;
   reply_is = is.reply_is;
 }
 
-pub answered_one_by : (form : PointForm) (criterion : CriterionName) (image : ImageValue) (version : ℕ) (q : Query) (reply : List ℕ)
-    → IsAnsweredBy form criterion image version (single_set_query q) reply → IsAnsweredOneBy form criterion image version q reply
-answered_one_by form CriterionName.Arrival image version q reply is = answered_one form _ _ image version q reply is
-answered_one_by form CriterionName.ArrivalTrips image version q reply is = answered_one form _ _ image version q reply is
-answered_one_by form CriterionName.ArrivalTripsWalk image version q reply is = answered_one form _ _ image version q reply is
+pub answered_one_by : (criterion : CriterionName) (subject : Subject) (q : Query) (reply : List ℕ)
+    → IsAnsweredBy criterion subject (single_set_query q) reply → IsAnsweredOneBy criterion subject q reply
+answered_one_by CriterionName.Arrival subject q reply is = answered_one _ _ subject q reply is
+answered_one_by CriterionName.ArrivalTrips subject q reply is = answered_one _ _ subject q reply is
+answered_one_by CriterionName.ArrivalTripsWalk subject q reply is = answered_one _ _ subject q reply is

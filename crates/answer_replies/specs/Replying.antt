@@ -29,21 +29,29 @@ abbrev pub departures_data : {V : Type 0} → PointForm → ImageValue → (V �
 departures_data PointForm.Bare image figures departures = map (bare_data figures) departures
 departures_data PointForm.WithLegs image figures departures = map (data_with_legs image figures) departures
 
+-- what a reply is over: an image, with the version that the reply names, and the form of the reply's points
+pub record Subject : Type 0 where
+  pub form : PointForm
+  pub image : ImageValue
+  pub version : ℕ
+
+abbrev pub subject_of : PointForm → ImageValue → ℕ → Subject
+subject_of form image version = record { form = form; image = image; version = version }
+
 -- a query between sets of stops is answered over the image: its points are exactly the undominated points of all journeys that count for one of the sources
 -- and one of the targets, in order, each once, and no such journey is unbeaten by them; the reply has each with a journey that attains it, and the seconds
 -- of the direct walk
-pub record IsAnswered {V : Type 0} (form : PointForm) (figures : V → Figures) (rules : Rules V) (image : ImageValue) (version : ℕ) (b : SetQueryValue)
-    (reply : List ℕ) : Type 0 where
+pub record IsAnswered {V : Type 0} (figures : V → Figures) (rules : Rules V) (subject : Subject) (b : SetQueryValue) (reply : List ℕ) : Type 0 where
   pub departures : List (Departure V)
   pub walk : Option ℕ
-  pub answer : IsAnswerBetween rules image.timetable b (map point_of departures)
+  pub answer : IsAnswerBetween rules subject.image.timetable b (map point_of departures)
   pub attained : (departure : Departure V) → Contains departures departure
-      → AttainsBetween rules image.timetable b (point_of departure) departure.journey
-  pub direct : IsDirectTime image.timetable b walk
-  pub reply_is : reply ≡ line_of (profile_data (departures_data form image figures departures) version walk)
+      → AttainsBetween rules subject.image.timetable b (point_of departure) departure.journey
+  pub direct : IsDirectTime subject.image.timetable b walk
+  pub reply_is : reply ≡ line_of (profile_data (departures_data subject.form subject.image figures departures) subject.version walk)
 
 -- the same by the criterion that is asked for
-abbrev pub IsAnsweredBy : PointForm → CriterionName → ImageValue → ℕ → SetQueryValue → List ℕ → Type 0
-IsAnsweredBy form CriterionName.Arrival image version b reply = IsAnswered form arrival_figures by_arrival image version b reply
-IsAnsweredBy form CriterionName.ArrivalTrips image version b reply = IsAnswered form trips_figures by_trips image version b reply
-IsAnsweredBy form CriterionName.ArrivalTripsWalk image version b reply = IsAnswered form walking_figures by_walking image version b reply
+abbrev pub IsAnsweredBy : CriterionName → Subject → SetQueryValue → List ℕ → Type 0
+IsAnsweredBy CriterionName.Arrival subject b reply = IsAnswered arrival_figures by_arrival subject b reply
+IsAnsweredBy CriterionName.ArrivalTrips subject b reply = IsAnswered trips_figures by_trips subject b reply
+IsAnsweredBy CriterionName.ArrivalTripsWalk subject b reply = IsAnswered walking_figures by_walking subject b reply

@@ -3,15 +3,12 @@
 ghost use Rattle.std.specs.Prelude.{ℕ, List};
 ghost use Rattle.criteria.specs.declared.name.CriterionName.{CriterionName};
 ghost use Rattle.timetable.specs.declared.query.Query.{Query};
-ghost use Rattle.image_layout.specs.Image.{ImageValue};
 ghost use Rattle.profile_scan.specs.SetQuery.{single_set_query};
-ghost use Rattle.answer_replies.specs.declared.point_form.PointForm.{PointForm};
 ghost use Rattle.answer_replies.specs.OneStop.{IsAnsweredOneBy};
-ghost use Rattle.answer_replies.specs.Replying.{IsAnsweredBy};
+ghost use Rattle.answer_replies.specs.Replying.{IsAnsweredBy, Subject};
 
 /// What answers a query between a set of one stop and a set of one other answers the query from the one to the other.
 pub fn one_stop_is_plain()
-    ensures { (form : PointForm) (criterion : CriterionName) (image : ImageValue) (version : ℕ) (q : Query)
-        (reply : List ℕ) → IsAnsweredBy form criterion image version (single_set_query q) reply
-        → IsAnsweredOneBy form criterion image version q reply }
+    ensures { (criterion : CriterionName) (subject : Subject) (q : Query) (reply : List ℕ)
+        → IsAnsweredBy criterion subject (single_set_query q) reply → IsAnsweredOneBy criterion subject q reply }
 {}

@@ -5,7 +5,7 @@ ghost use Rattle.profile_scan.specs.SetQuery.{IsAskableBetween, question};
 ghost use Rattle.session_texts.specs.Replies.{line_of, profile_data};
 ghost use Rattle.session_texts.specs.Telling.{points_of};
 ghost use Rattle.station_answers.specs.Reading.{window_between};
-ghost use Rattle.answer_replies.specs.Replying.{IsAnswered, IsAnsweredBy};
+ghost use Rattle.answer_replies.specs.Replying.{IsAnswered, IsAnsweredBy, subject_of};
 ghost use Rattle.answer_replies.specs.Replying.{bare_data, data_with_legs, departures_data};
 
 use crate::legs::journey_legs;
@@ -35,8 +35,8 @@ pub fn reply_by_name<L: ReadLog>(
     log: L,
 ) -> (Result<String, AllocError>, L)
     requires { IsAskableBetween image.now.timetable.stops (question query.now) }
-    ensures line { IfOk result.0 (λ line. IsAnsweredBy form criterion image.now version (question query.now)
-        (string_bytes line)) }
+    ensures line { IfOk result.0 (λ line. IsAnsweredBy criterion (subject_of form image.now version)
+        (question query.now) (string_bytes line)) }
     ensures whole { OnOk result.0 (L.reads result.1
         ≡ L.reads log ++ reverse (window_between image.now.timetable (question query.now))) }
     ensures part { (n : ℕ) × (L.reads result.1
@@ -70,8 +70,8 @@ fn line_by<C: ShowsFigures + Scanned, L: ReadLog>(
     log: L,
 ) -> (Result<String, AllocError>, L)
     requires { IsAskableBetween image.now.timetable.stops (question query.now) }
-    ensures line { IfOk result.0 (λ line. IsAnswered form C.figures (C.rules criterion.now) image.now version
-        (question query.now) (string_bytes line)) }
+    ensures line { IfOk result.0 (λ line. IsAnswered C.figures (C.rules criterion.now)
+        (subject_of form image.now version) (question query.now) (string_bytes line)) }
     ensures whole { OnOk result.0 (L.reads result.1
         ≡ L.reads log ++ reverse (window_between image.now.timetable (question query.now))) }
     ensures part { (n : ℕ) × (L.reads result.1

@@ -9,8 +9,8 @@ ghost use Rattle.csa_program.specs.Showing.{is_low, known_unless, upper_control}
 use std::io;
 use std::io::Write;
 
-/// A writer that writes control characters other than tabs and line feeds as `\u001b` if it leads to a terminal, as JSON
-/// does, and all else as it is: an id of a feed could otherwise change what the terminal shows, or does.
+/// A writer that writes control characters other than tabs and line feeds as `\u001b` if it leads to a terminal, as
+/// JSON does, and all else as it is: an id of a feed could otherwise change what the terminal shows, or does.
 #[derive(Drop)]
 pub struct ShownWriter<W> {
     writer: W,

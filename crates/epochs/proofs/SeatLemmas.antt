@@ -4,7 +4,7 @@ use Rattle.std.proofs.lemmas.Option.{slice_get_within, slice_get-get_or}
 use Rattle.image_layout.specs.Image.{ImageValue}
 use Rattle.version_core.specs.declared.state.Shelf.{Shelf}
 use Rattle.version_core.specs.declared.state.Worker.{Worker}
-use Rattle.version_core.specs.State.{State, newest, start}
+use Rattle.version_core.specs.State.{State, most_versions, newest, start}
 use Rattle.version_core.specs.Invariants.{KeepsInvariants, version_of}
 use Rattle.version_core.specs.Rest.{IsAtRest}
 use Rattle.std.specs.Option.{option_and_then}
@@ -45,7 +45,7 @@ same_newest a room h = elim h [
 
 pub version_within : (a room b : TableValue) (image : ImageValue) (version : ℕ) → KeepsInvariants a.state → IsAtRest a.state
     → KeepsInvariants b.state → IsAtRest b.state → MakesRoom a room → Publishes room image version b
-    → (1 < version) × (version ≤ 1000000000)
+    → (1 < version) × (version ≤ most_versions)
 version_within a room b image version kept rest after rested made h =
     let first = some_version a.state kept in let same = same_newest a room made in let p = rest.published in let next = h.next in
     let q = rested.published in let current = h.current in let most = after.room in

@@ -9,7 +9,7 @@ use Rattle.image_layout.specs.Image.{ImageValue}
 use Rattle.version_core.specs.declared.event.Event.{Event}
 use Rattle.version_core.specs.declared.event.Reply.{Reply}
 use Rattle.version_core.specs.declared.state.Shelf.{Shelf}
-use Rattle.version_core.specs.State.{State, newest, shelved}
+use Rattle.version_core.specs.State.{State, most_versions, newest, shelved}
 use Rattle.version_core.specs.Steps.{CollectStep, IsClosing, IsUnpublished, MayOpen}
 use Rattle.version_core.specs.Runs.{IsRun}
 use Rattle.version_core.specs.Invariants.{KeepsInvariants}
@@ -177,7 +177,7 @@ left_busy (suc n) v b k none here = omega arith
 
 -- where no shelf is free after all tries, workers are at each but the current one
 pub full_after : (a : TableValue) (found : Collected) (b : TableValue) → RestIsFull → KeepsInvariants a.state → IsAtRest a.state
-    → newest a.state < 1000000000 → ¬ (HasFree a.state) → ¬ (HasFree b.state) → Collects a found b
+    → newest a.state < most_versions → ¬ (HasFree a.state) → ¬ (HasFree b.state) → Collects a found b
     → AreFull a.state found.busy
 full_after a found b law kept rest left none still h = record {
   current =

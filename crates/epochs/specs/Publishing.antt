@@ -4,7 +4,7 @@ use Rattle.image_layout.specs.Image.{ImageValue}
 use Rattle.version_core.specs.declared.event.Event.{Event}
 use Rattle.version_core.specs.declared.event.Reply.{Reply}
 use Rattle.version_core.specs.declared.state.Shelf.{Shelf}
-use Rattle.version_core.specs.State.{State, newest}
+use Rattle.version_core.specs.State.{State, most_versions, newest}
 use Rattle.version_core.specs.Steps.{IsFree}
 use Rattle.version_core.specs.Runs.{Run, IsRun}
 use Rattle.shelves.specs.declared.faults.PublishFault.{PublishFault}
@@ -83,10 +83,10 @@ pub record AreFull (s : State) (counts : List ℕ) : Type 0 where
 
 -- what a publish that is refused with a fault tells of the table, and what it did before
 abbrev pub RefusesPublish : TableValue → PublishFault → TableValue → Type 0
-RefusesPublish a PublishFault.VersionsSpent b = (newest a.state ≡ 1000000000) × (b ≡ a)
+RefusesPublish a PublishFault.VersionsSpent b = (newest a.state ≡ most_versions) × (b ≡ a)
 RefusesPublish a (PublishFault.ShelvesFull counts) b =
-    (newest a.state < 1000000000) × (¬ (HasFree a.state)) × ((found : Collected) × Collects a found b × (counts ≡ found.busy)) × AreFull a.state counts
-RefusesPublish a PublishFault.OutOfMemory b = (newest a.state < 1000000000) × MakesRoom a b × HasFree b.state
+    (newest a.state < most_versions) × (¬ (HasFree a.state)) × ((found : Collected) × Collects a found b × (counts ≡ found.busy)) × AreFull a.state counts
+RefusesPublish a PublishFault.OutOfMemory b = (newest a.state < most_versions) × MakesRoom a b × HasFree b.state
 
 -- the current version, its shelf and all images are as they were
 pub record StaysCurrent (a b : TableValue) : Type 0 where

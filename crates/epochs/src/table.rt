@@ -3,7 +3,7 @@
 ghost use Rattle.std.specs.Prelude.{◌≡◌, ◌≢◌, ℕ, ◌+◌, ◌<◌, ◌≤◌, Ok, Err, ◌++◌, ◌∷◌, [], IfOk, IfErr, OnOk, OnErr};
 ghost use Rattle.std.specs.Prelude.{MatchBool, MatchResult};
 ghost use Rattle.std.specs.Arc.{arc_value};
-ghost use Rattle.version_core.specs.State.{start, newest};
+ghost use Rattle.version_core.specs.State.{most_versions, newest, start};
 ghost use Rattle.version_core.specs.Steps.{IsIdle, Holds, IsClosing};
 ghost use Rattle.version_core.specs.Invariants.{KeepsInvariants};
 ghost use Rattle.version_core.specs.Laws.{LooksAndTakesHold, DropsLetGo, RunsGrow};
@@ -333,7 +333,7 @@ impl VersionTable {
 
     // Whether a version is left.
     fn may_open(&self) -> bool
-        ensures { MatchBool result (newest self.now.state < 1000000000) (newest self.now.state ≡ 1000000000) }
+        ensures { MatchBool result (newest self.now.state < most_versions) (newest self.now.state ≡ most_versions) }
     {
         at_rest();
         let _ = self.core.current();
@@ -343,7 +343,7 @@ impl VersionTable {
     // Makes sure that a shelf is free, by a try at each closing one if none is. If none is free then either, returns
     // how many workers are at each closing one.
     fn make_room(&mut self) -> Result<(), [u8; 8]>
-        requires { newest self.old.state < 1000000000 }
+        requires { newest self.old.state < most_versions }
         ensures room { OnOk result (MakesRoom self.old self.new × HasFree self.new.state) }
         ensures full { IfErr result (λ counts. RefusesPublish self.old (PublishFault.ShelvesFull counts) self.new) }
     {
@@ -374,7 +374,7 @@ impl VersionTable {
         image: Arc<Verified, Global>,
     ) -> Result<u64, (Arc<Verified, Global>, PublishFault)>
         requires room { HasFree self.old.state }
-        requires left { newest self.old.state < 1000000000 }
+        requires left { newest self.old.state < most_versions }
         ensures published { IfOk result (λ v. Publishes self.old (arc_value image) v self.new) }
         ensures refused { IfErr result (λ e. (e.0 ≡ image) × (e.1 ≡ PublishFault.OutOfMemory) × (self.new ≡ self.old)) }
     {

@@ -88,7 +88,8 @@ abbrev pub load_refusal_number : LoadRefusal → ℕ
 load_refusal_number (LoadRefusal.Load fault) = fault_number fault
 load_refusal_number (LoadRefusal.Publish fault) = publish_fault_number fault
 
--- what the worker that waits for a load is answered
+-- what the worker that waits for a load is answered. A version always comes with a notice (`IsLoadOutcome`), so `Unnoticed` is never answered: the type of
+-- `publish` has that case
 abbrev pub notice_answer : {N : Type 0} → Option N → LoadAnswer N
 notice_answer (Some notice) = LoadAnswer.Published notice
 notice_answer None = LoadAnswer.Unnoticed

@@ -28,8 +28,8 @@ pub struct NewFile<'a, F> {
     beside: Option<String>,
 }
 
-/// Makes the file that is to be at a path, empty. If there is a plain file or nothing, that is `PATH.part`, or one with a
-/// number behind that, which `settle` renames: so the file is never half written, not even if it is the one that was
+/// Makes the file that is to be at a path, empty. If there is a plain file or nothing, that is `PATH.part`, or one with
+/// a number behind that, which `settle` renames: so the file is never half written, not even if it is the one that was
 /// read. If there is anything else, such as a pipe, it is written into that.
 pub fn new_file<'a, H: OutDisk + AllocGlobal>(
     rt: &H,
@@ -67,8 +67,8 @@ struct MadeFile<F> {
     path: String,
 }
 
-// Makes a file beside a path, at the first of ten paths at which there is nothing. What there is stays as it is: another
-// run may be writing it, or this one may have been asked to read it.
+// Makes a file beside a path, at the first of ten paths at which there is nothing. What there is stays as it is:
+// another run may be writing it, or this one may have been asked to read it.
 fn made_beside<H: OutDisk + AllocGlobal>(
     rt: &H,
     path: &str,

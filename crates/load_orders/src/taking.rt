@@ -280,7 +280,8 @@ impl<'a, R: Wait, N: Drop, T: Versions<Notice = N>, P: OrderRule<N>> Orders
 
     /// Puts an order as `order` does, and waits for its version. `LoadRefused` has the number that the loader answered.
     /// `LoaderGone` may also mean that the order was put and no answer came. `OutOfMemory` means that there was no
-    /// memory to wait, and nothing was put; or none for a notice of the version that was published.
+    /// memory to wait, and nothing was put; or none for a notice of the version that was published, which no shelves of
+    /// this program answer.
     fn order_wait(&mut self, feed: &str) -> Result<(u64, N), OrderFault>
         ensures asked { self.new.asked ≡ self.old.asked ++ waited_value feed.now (version_alone result) ∷ [] }
         ensures notice { IfOk result (λ r. T.words.version r.1 ≡ r.0) }

@@ -13,7 +13,7 @@ use Rattle.journeys.specs.Questions.{Asks, IsNamed, IsRefused, NamesNone}
 use Rattle.journeys.specs.declared.question.Window.{Window}
 use Rattle.station_answers.specs.Asking.{IsFirstFault}
 use Rattle.station_answers.specs.Naming.{AsksBetween, IsFaultBetween, SomeUnknown}
-use Rattle.answer_replies.specs.Replying.{IsAnsweredBy}
+use Rattle.answer_replies.specs.Replying.{IsAnsweredBy, Subject, subject_of}
 use Rattle.answer_replies.specs.Valuing.{by_arrival}
 use Rattle.answer_replies.specs.OneStop.{IsAnsweredOneBy}
 use Rattle.session.specs.OneStop.{AnswersOne, IsTooLongOne, OneAsk, TellsOfOne}
@@ -23,8 +23,8 @@ use Rattle.session.specs.declared.reply_form.ReplyForm.{ReplyForm}
 
 -- the law of replies
 abbrev pub OneIsAnswered : Type 0
-OneIsAnswered = (form : _) (criterion : _) (image : ImageValue) (version : ℕ) (q : Query) (reply : List ℕ)
-    → IsAnsweredBy form criterion image version (single_set_query q) reply → IsAnsweredOneBy form criterion image version q reply
+OneIsAnswered = (criterion : _) (subject : Subject) (q : Query) (reply : List ℕ)
+    → IsAnsweredBy criterion subject (single_set_query q) reply → IsAnsweredOneBy criterion subject q reply
 
 only : {A B : Type 0} (R : A → B → Type 0) (x : A) (ys : List B) → AllZip R (x ∷ []) ys → (y : B) × (ys ≡ y ∷ []) × R x y
 only R x [] zip = absurd zip
@@ -100,8 +100,9 @@ module _ (form : ReplyForm) (image : ImageValue) (version : ℕ) (one : OneAsk) 
   answers_of_one law answers =
       let o = asks_of_one answers.query answers.asked in
       let can_be = askable_one answers.query o.query o.is answers.can_be in
-      let by = subst (λ (x : SetQueryValue). IsAnsweredBy form.points one.ask.criterion image version x reply.text) o.is answers.answered in
-      let answered = law form.points one.ask.criterion image version o.query reply.text by in
+      let subject = subject_of form.points image version in
+      let by = subst (λ (x : SetQueryValue). IsAnsweredBy one.ask.criterion subject x reply.text) o.is answers.answered in
+      let answered = law one.ask.criterion subject o.query reply.text by in
       record { query = o.query; can_be = can_be; asked = o.asked; short = answers.short; answered = answered }
 
   pub tells_of_one : OneIsAnswered → TellsOfOne form image version one reply

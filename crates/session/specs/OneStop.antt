@@ -7,6 +7,7 @@ use Rattle.image_layout.specs.Image.{ImageValue}
 use Rattle.journeys.specs.Questions.{Asks, IsRefused}
 use Rattle.session_texts.specs.Requests.{AskValue}
 use Rattle.answer_replies.specs.OneStop.{IsAnsweredOneBy}
+use Rattle.answer_replies.specs.Replying.{subject_of}
 use Rattle.session.specs.Forms.{IsLonger}
 use Rattle.session.specs.Lines.{query_fault_line}
 use Rattle.session.specs.Replies.{ReplyValue, plain}
@@ -41,7 +42,7 @@ pub record AnswersOne (form : ReplyForm) (image : ImageValue) (version : ℕ) (o
   pub can_be : IsAskable image.timetable.stops query
   pub asked : Asks image.names one.from one.to (window_of one.ask) query
   pub short : ¬ (IsLonger form.longest (one.ask.by - one.ask.after))
-  pub answered : IsAnsweredOneBy form.points one.ask.criterion image version query reply.text
+  pub answered : IsAnsweredOneBy one.ask.criterion (subject_of form.points image version) query reply.text
 
 -- what the reply tells of the request between sets, it tells of the plain query
 pub record TellsOfOne (form : ReplyForm) (image : ImageValue) (version : ℕ) (one : OneAsk) (reply : ReplyValue) : Type 0 where

@@ -7,7 +7,7 @@ use Rattle.journeys.specs.declared.question.Window.{Window}
 use Rattle.station_answers.specs.Naming.{AsksBetween, IsFaultBetween}
 use Rattle.station_answers.specs.Reading.{window_between}
 use Rattle.session_texts.specs.Requests.{AskValue}
-use Rattle.answer_replies.specs.Replying.{IsAnsweredBy}
+use Rattle.answer_replies.specs.Replying.{IsAnsweredBy, subject_of}
 use Rattle.session.specs.Forms.{IsLonger}
 use Rattle.session.specs.Lines.{memory_line, query_fault_line}
 use Rattle.session.specs.Replies.{ReplyValue, plain}
@@ -37,7 +37,7 @@ pub record AnswersQuery (form : ReplyForm) (image : ImageValue) (version : ℕ) 
   pub can_be : IsAskableBetween image.timetable.stops query
   pub asked : AsksBetween image.names ask.from ask.to (window_of ask) query
   pub short : ¬ (IsLonger form.longest (ask.by - ask.after))
-  pub answered : IsAnsweredBy form.points ask.criterion image version query reply.text
+  pub answered : IsAnsweredBy ask.criterion (subject_of form.points image version) query reply.text
   pub reads : reply.read ≡ reverse (window_between image.timetable query)
 
 -- the reply to a request for a profile over this image. The image is one that was accepted: of a legal timetable and names that fit it

@@ -29,7 +29,8 @@ looks_events (View.Working v, c) m' n h = subst
     )
 looks_events (_, c) m' n h = absurd h
 
-takes_found_so : (v : WorkerView) (c : List (ℕ × Option Edition)) (version k n : ℕ) (b : Bool) (m' : SeatAndSlots) → TakesFound v c version k n b m'
+takes_found_so : (v : WorkerView) (c : List (ℕ × Option Edition)) (version k n : ℕ) (b : Bool) (m' : SeatAndSlots)
+    → TakesFound (v, c) (version, k) n b m'
     → ((held : ℕ) × IsWorkers Event.Take (Reply.Holds held) (View.Working v) m'.0) ⊎ IsWorkers Event.Take Reply.Late (View.Working v) m'.0
 takes_found_so v c version k n true m' h =
     inl (version, subst (λ (m : SeatAndSlots). IsWorkers Event.Take (Reply.Holds version) (View.Working v) m.0) (sym h.2) (v.number, refl, refl, h.3))
@@ -70,7 +71,7 @@ pub closes_events : ClosesAreEvents
 closes_events (View.Loading l, c) m' k h = subst (λ (m : SeatAndSlots). IsEvent (View.Loading l) (Event.Close k) Reply.Closing m.0) (sym h.3) h.4.0
 closes_events (_, c) m' k h = absurd h
 
-collects_found_so : (l : LoaderView) (m' : SeatAndSlots) (k version n : ℕ) (b : Bool) → CollectsFound l k version n b m'
+collects_found_so : (l : LoaderView) (m' : SeatAndSlots) (k version n : ℕ) (b : Bool) → CollectsFound l k n b m'
     → IsEvent (View.Loading l) (Event.Collect k) Reply.Freed m'.0 ⊎ IsEvent (View.Loading l) (Event.Collect k) (Reply.Busy (n % 256)) m'.0
 collects_found_so l m' k version n true h = inl (subst (λ (m : SeatAndSlots). IsEvent (View.Loading l) (Event.Collect k) Reply.Freed m.0) (sym h.2) h.3.0)
 collects_found_so l m' k version n false h = inr (subst (λ (m : SeatAndSlots). IsEvent (View.Loading l) (Event.Collect k) (Reply.Busy (n % 256)) m.0) (sym h.1)
@@ -92,14 +93,15 @@ abbrev Passed : ℕ → View → Type 0
 Passed version u = OfWorker u (λ v. (v.last ≡ version) × (v.passed ≡ true))
 
 late_found : (v : WorkerView) (c : List (ℕ × Option Edition)) (version k n : ℕ) (b : Bool) (m' : SeatAndSlots)
-    → TakesFound v c version k n b m' → IsLate k m'.0 → OfWorker m'.0 (λ x. (x.last ≡ v.last) × (x.passed ≡ true))
+    → TakesFound (v, c) (version, k) n b m' → IsLate k m'.0 → OfWorker m'.0 (λ x. (x.last ≡ v.last) × (x.passed ≡ true))
 late_found v c version k n true m' h late = absurd (let z = subst (λ (m : SeatAndSlots). IsLate k m.0) h.2 late in cc)
 late_found v c version k n false m' h late = subst (λ (m : SeatAndSlots). OfWorker m.0 (λ x. (x.last ≡ v.last) × (x.passed ≡ true))) (sym h.1) (refl, refl)
 
 late_so : (u : View) (c : List (ℕ × Option Edition)) (m1 m2 : SeatAndSlots) (n word : ℕ) → Looks (u, c) n m1 → Takes m1 word m2
     → IsLate (n % 8) m2.0 → Passed (n / 8) m2.0
 late_so (View.Working v) c m1 m2 n word look take late =
-    let t : TakesFound (looked_at v n look.0) c (n / 8) (n % 8) word (is_open word (n / 8)) m2 = subst (λ (m : SeatAndSlots). Takes m word m2) look.1 take in
+    let t : TakesFound (looked_at v n look.0, c) (n / 8, n % 8) word (is_open word (n / 8)) m2 =
+    subst (λ (m : SeatAndSlots). Takes m word m2) look.1 take in
     late_found (looked_at v n look.0) c (n / 8) (n % 8) word (is_open word (n / 8)) m2 t late
 late_so _ c m1 m2 n word look take late = absurd look
 

@@ -16,7 +16,7 @@ use Rattle.version_core.specs.declared.event.Event.{Event}
 use Rattle.version_core.specs.declared.event.Reply.{Reply}
 use Rattle.version_core.specs.declared.state.Shelf.{Shelf}
 use Rattle.version_core.specs.declared.state.Worker.{Worker}
-use Rattle.version_core.specs.State.{State, newest, opened, published, shelved}
+use Rattle.version_core.specs.State.{State, most_versions, newest, opened, published, shelved}
 use Rattle.version_core.specs.Steps.{IsFree, IsOpen, IsClosing, IsOutdated, MayOpen, Step}
 use Rattle.version_core.specs.Invariants.{KeepsInvariants, is_at}
 use Rattle.version_core.proofs.Keeps.{none_waits, held_known}
@@ -30,14 +30,14 @@ use Rattle.shelf_steps.specs.declared.views.View.{View}
 use Rattle.shelf_steps.specs.EventHistory.{EventHistory, LeadsToItsState, IsLonger, extended, all_of, IsKnownBeginning, Happened, image_of}
 use Rattle.version_core.specs.Shown.{WordsShow, shelf_word}
 use Rattle.shelf_steps.specs.Seats.{WorkerFits, LoaderFits}
-use Rattle.shelf_steps.specs.Slots.{SlotsFit, SlotFits, down_from, nothings}
+use Rattle.shelf_steps.specs.Slots.{SlotsFit, SlotFits, held_by, down_from, nothings}
 use Rattle.shelf_steps.specs.Rule.{KeepsRule}
 use Rattle.shelf_steps.specs.Plays.{SeatAndSlots, newest_of, with_open, with_current, with_closing, with_free}
 use Rattle.shelf_steps.specs.Plays.{with_hand, AllHave, IsLastEvent, Opens, Publishes, Closes, CollectsFound, Collects}
 use Rattle.shelf_steps.specs.Plays.{Gathers, PutsBack, MayOpenOn, MayPublish, MayClose, MayCollect, MayGather}
 use Rattle.shelf_steps.specs.Plays.{MayPutBack}
 use Rattle.shelf_steps.specs.Events.{known_of}
-use Rattle.shelf_steps.specs.Steps.{Adds, OpensAdd, PublishesAdd, ClosesAdd, CollectsAdd, GatheringsAdd, PuttingsAdd}
+use Rattle.shelf_steps.specs.Steps.{Adds, added, word_change, OpensAdd, PublishesAdd, ClosesAdd, CollectsAdd, GatheringsAdd, PuttingsAdd}
 use Rattle.shelf_steps.proofs.Works.{allows}
 use Rattle.shelf_steps.proofs.Courses.{kept_of, joined_same, no_join, nothing_snoc, loaders_event}
 use Rattle.shelf_steps.proofs.Courses.{begins_longer, happened, goes_on, goes_same, image_later, loader_next, prefix_same, other_fits}
@@ -127,12 +127,12 @@ got_snoc (x ∷ xs) a b (suc i) e = elim (got_snoc xs a b i e) [ inl q ↦ inl q
 pub image_last : (images : List ImageValue) (x : ImageValue) (v : ℕ) → v ≡ suc (length images) → image_of (images ++ x ∷ []) v ≡ Some x
 image_last images x v e = subst (λ n. image_of (images ++ x ∷ []) n ≡ Some x) (sym e) (slice_get-last images x)
 
-open_word : (n count version : ℕ) → n ≡ count → count ≤ 16 → version ≤ 1000000000
-    → (n + (256 + 65536 * version)) % 18446744073709551616 ≡ count + 256 + 65536 * version
+open_word : (n count version : ℕ) → n ≡ count → count ≤ 16 → version ≤ most_versions
+    → added (256 + 65536 * version) n ≡ count + 256 + 65536 * version
 open_word n count version is few small = omega arith
 
-close_word : (n count version : ℕ) → n ≡ count + 256 + 65536 * version → count ≤ 16 → version ≤ 1000000000
-    → (n + 256) % 18446744073709551616 ≡ count + 512 + 65536 * version
+close_word : (n count version : ℕ) → n ≡ count + 256 + 65536 * version → count ≤ 16 → version ≤ most_versions
+    → added 256 n ≡ count + 512 + 65536 * version
 close_word n count version is few small = omega arith
 
 -- nobody holds a shelf that is free
@@ -141,11 +141,11 @@ none_hold s k v u kept free h = let z : None ≡ Some v = sym (version_at s.shel
 
 opens_as : (slots id k version : ℕ) (l : LoaderView) (image : ImageValue) (f : ℕ → Option Edition) → slots ≡ 128 → k < 8
     → slice_get l.shelves k ≡ Some Shelf.Free → l.hand ≡ Some k → l.current ≡ newest_of l → version ≡ newest_of l + 1
-    → version ≤ 1000000000 → AllHave version image k f
+    → version ≤ most_versions → AllHave version image k f
     → Adds slots id (
       View.Loading l,
       down_from f (16 * k) 16 [],
-    ) (k + 1) (λ n. (n + (256 + 65536 * version)) % 18446744073709551616) (Event.Open (newest_of l)) (λ _. Reply.Opened version k)
+    ) (word_change (k + 1) (added (256 + 65536 * version)) (Event.Open (newest_of l)) (λ _. Reply.Opened version k))
     (Opens (step slots (k + 1) (256 + 65536 * version) 0 none) (View.Loading l, down_from f (16 * k) 16 []))
 opens_as slots id k version l image f many small free hand current next few all table r full at fits =
     let s = r.history.state in let n = get_or table.words (k + 1) 0 in let top = newest_of l in
@@ -168,9 +168,9 @@ opens_as slots id k version l image f many small free hand current next few all 
     let eight = kept.shelves.eight in
     let counted = few_counted s k kept small in
     let found = r.words.each k Shelf.Free is_free in
-    let word : (n + (256 + 65536 * version)) % 18446744073709551616 ≡ shelf_word (Shelf.Open (newest s + 1)) (get_or s.counts k 0) =
+    let word : added (256 + 65536 * version) n ≡ shelf_word (Shelf.Open (newest s + 1)) (get_or s.counts k 0) =
     open_word n (get_or s.counts k 0) version found counted few ∙ ap (λ m. get_or s.counts k 0 + 256 + 65536 * m) (next ∙ ap (λ m. m + 1) is_newest) in
-    let here : (u : ℕ) → u < 16 → SlotFits images s.workers None (Shelf.Open (newest s + 1)) k u
+    let here : (u : ℕ) → u < 16 → SlotFits (held_by images s.workers None) (Shelf.Open (newest s + 1)) k u
     (get_elem? (homes_after table.homes (down_from f (16 * k) 16 []) (give_block 16)) (16 * k + u)) =
     λ u less. let h = all (16 * k + u) (omega arith) (omega arith) in (
       (λ q. cc),
@@ -190,9 +190,9 @@ opens_as slots id k version l image f many small free hand current next few all 
     (λ i. set (knows.shows.shelves i) k (Shelf.Open (is_newest i + 1))) in
     let after =
     loader_ruled table r id l l' at refl e reply t images refl goes' more refl refl refl (omega arith)
-    (set table.words (k + 1) ((n + (256 + 65536 * version)) % 18446744073709551616))
+    (set table.words (k + 1) (added (256 + 65536 * version) n))
     (homes_after table.homes (down_from f (16 * k) 16 []) (give_block 16)) is_step refl fits'
-    (words_shelved table.words k ((n + (256 + 65536 * version)) % 18446744073709551616)
+    (words_shelved table.words k (added (256 + 65536 * version) n)
     (Shelf.Open (newest s + 1)) s t r.words small eight refl refl refl refl word)
     (slots_block table.homes (homes_after table.homes (down_from f (16 * k) 16 []) (give_block 16)) s.shelves
     t.shelves s.workers r.history.images images l.hand None k (Shelf.Open (newest s + 1))
@@ -227,15 +227,15 @@ opens_add slots id k version l c many small may =
     subst (λ (x : List (ℕ × Option Edition)). Adds slots id (
       View.Loading l,
       x,
-    ) (k + 1) (λ n. (n + (256 + 65536 * version)) % 18446744073709551616) (Event.Open (newest_of l)) (λ _. Reply.Opened version k)
+    ) (word_change (k + 1) (added (256 + 65536 * version)) (Event.Open (newest_of l)) (λ _. Reply.Opened version k))
     (Opens (step slots (k + 1) (256 + 65536 * version) 0 none) (View.Loading l, x))) (sym block.2)
     (opens_as slots id k version l block.0 block.1 many small may.0 may.1 may.2 may.3 may.4 block.3)
 
 pub openings : (slots id k version : ℕ) (me : SeatAndSlots) → slots ≡ 128 → k < 8 → MayOpenOn k version me.0 me.1
-    → Allows KeepsRule slots id me (k + 1) (λ n. (n + (256 + 65536 * version)) % 18446744073709551616)
+    → Allows KeepsRule slots id me (k + 1) (added (256 + 65536 * version))
     (Opens (step slots (k + 1) (256 + 65536 * version) 0 none) me)
 openings slots id k version (View.Loading l, c) many small may =
-    allows slots id (View.Loading l, c) (k + 1) (λ n. (n + (256 + 65536 * version)) % 18446744073709551616) (Event.Open (newest_of l))
+    allows slots id (View.Loading l, c) (k + 1) (added (256 + 65536 * version)) (Event.Open (newest_of l))
     (λ _. Reply.Opened version k) (Opens (step slots (k + 1) (256 + 65536 * version) 0 none) (View.Loading l, c))
     (opens_add slots id k version l c many small may)
 openings slots id k version (_, c) many small may = absurd may
@@ -313,8 +313,8 @@ closes_add slots id k l c small may table r full at fits =
     (λ i. set (knows.shows.shelves i) k (Shelf.Closing version)) in
     let after =
     noted_ruled table r id l l' at refl e reply t refl is_step refl refl refl refl (omega arith) (set table.words (k + 1)
-    ((n + 256) % 18446744073709551616)) table.homes refl fits'
-    (words_shelved table.words k ((n + 256) % 18446744073709551616) (Shelf.Closing version) s t r.words small eight refl refl refl refl word)
+    (added 256 n)) table.homes refl fits'
+    (words_shelved table.words k (added 256 n) (Shelf.Closing version) s t r.words small eight refl refl refl refl word)
     (slots_block table.homes table.homes s.shelves t.shelves s.workers r.history.images r.history.images l.hand l.hand k (Shelf.Closing version)
     (slice_get-set_same s.shelves k (Shelf.Closing version) (omega arith)) (λ j ne. slice_get-set_other s.shelves k j (Shelf.Closing version) ne)
     (λ i h. refl) (prefix_same r.history.images) (λ j ne q. q) (λ j ne q. q)
@@ -330,10 +330,10 @@ closes_add slots id k l c small may table r full at fits =
     )
 
 pub closings : (slots id k : ℕ) (me : SeatAndSlots) → k < 8 → MayClose k me.0
-    → Allows KeepsRule slots id me (k + 1) (λ n. (n + 256) % 18446744073709551616)
+    → Allows KeepsRule slots id me (k + 1) (added 256)
     (Closes (step slots (k + 1) 256 0 none) me)
 closings slots id k (View.Loading l, c) small may =
-    allows slots id (View.Loading l, c) (k + 1) (λ n. (n + 256) % 18446744073709551616) (Event.Close k) (λ _. Reply.Closing)
+    allows slots id (View.Loading l, c) (k + 1) (added 256) (Event.Close k) (λ _. Reply.Closing)
     (Closes (step slots (k + 1) 256 0 none) (View.Loading l, c)) (closes_add slots id k l c small may)
 closings slots id k (_, c) small may = absurd may
 
@@ -389,7 +389,7 @@ collects_found : (id k version : ℕ) (l : LoaderView) (table : Table (Option Ed
     × (after : KeepsRule (stepped table (k + 1) (either b 0 (get_or table.words (k + 1) 0)) id [] w a))
     × IsLonger r.history (Event.Collect k) (cond b Reply.Freed (Reply.Busy (get_or table.words (k + 1) 0 % 256))) after.history
     × (known_of w ≡ all_of after.history)
-    × CollectsFound l k version (get_or table.words (k + 1) 0) b (w, carried_after [] a)
+    × CollectsFound l k (get_or table.words (k + 1) 0) b (w, carried_after [] a)
 collects_found id k version l table r at many small shelf hand true found =
     let s = r.history.state in let kept : KeepsInvariants s = kept_of r.history r.goes in
     let knows = loader_knows table r id l at in
@@ -465,8 +465,8 @@ collects_add slots id k version l c many small may =
     subst (λ (x : List (ℕ × Option Edition)). Adds slots id (
       View.Loading l,
       x,
-    ) (k + 1) (λ n. either (n == 512 + 65536 * version) 0 n) (Event.Collect k)
-    (λ n. cond (n == 512 + 65536 * version) Reply.Freed (Reply.Busy (n % 256)))
+    ) (word_change (k + 1) (λ n. either (n == 512 + 65536 * version) 0 n) (Event.Collect k)
+    (λ n. cond (n == 512 + 65536 * version) Reply.Freed (Reply.Busy (n % 256))))
     (Collects (step slots (k + 1) (512 + 65536 * version) 0 none) (View.Loading l, x))) (sym may.2)
     (λ table r full at fits.
     let n = get_or table.words (k + 1) 0 in
@@ -544,11 +544,11 @@ spare_tries : (slots id k : ℕ) (l : LoaderView) (c was : List (ℕ × Option E
     → ((table : Table (Option Edition) View) (r : KeepsRule table) → length table.homes ≡ slots
     → get_elem? table.views id ≡ some (View.Loading l) → IsFree r.history.state k
     → Valid table.homes was a × SlotsFit (homes_after table.homes was a) r.history.state.shelves r.history.state.workers r.history.images (hand k))
-    → Adds slots id (View.Loading l, c) (k + 1) (λ n. either (n == 512) 0 n) (Event.Collect k) (λ _. Reply.NotNow)
+    → Adds slots id (View.Loading l, c) (word_change (k + 1) (λ n. either (n == 512) 0 n) (Event.Collect k) (λ _. Reply.NotNow))
     (λ n m'. (j : ℕ) × (k + 1 ≡ j + 1) × SparedOn l hand after j m')
 spare_tries slots id k l c was hand after a is small free moves moved =
-    subst (λ (x : List (ℕ × Option Edition)). Adds slots id (View.Loading l, x) (k + 1) (λ n. either (n == 512) 0 n) (Event.Collect k)
-    (λ _. Reply.NotNow) (λ n m'. (j : ℕ) × (k + 1 ≡ j + 1) × SparedOn l hand after j m')) (sym is)
+    subst (λ (x : List (ℕ × Option Edition)). Adds slots id (View.Loading l, x) (word_change (k + 1) (λ n. either (n == 512) 0 n) (Event.Collect k)
+    (λ _. Reply.NotNow)) (λ n m'. (j : ℕ) × (k + 1 ≡ j + 1) × SparedOn l hand after j m')) (sym is)
     (λ table r full at fits.
     let m = moved table r full at (shelf_is table r id l at k Shelf.Free free) in
     let z = tries_free id k l was (hand k) a table r at small free m.1 (get_or table.words (k + 1) 0 == 512) refl in

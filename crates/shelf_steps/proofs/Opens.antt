@@ -23,7 +23,7 @@ use Rattle.shelf_steps.specs.declared.views.View.{View}
 use Rattle.shelf_steps.specs.EventHistory.{EventHistory, LeadsToItsState, HasDoneNothing}
 use Rattle.version_core.specs.Shown.{shelf_word}
 use Rattle.shelf_steps.specs.Seats.{WorkerFits, SeatsFit, SeatFits}
-use Rattle.shelf_steps.specs.Slots.{SlotsFit, SlotFits}
+use Rattle.shelf_steps.specs.Slots.{SlotsFit, SlotFits, held_by}
 use Rattle.shelf_steps.specs.Rule.{KeepsRule, notices_of, first_loader, first_words, FirstSlot, FirstSlots}
 use Rattle.shelf_steps.specs.Steps.{StartIsRuled, HandingsAddNothing}
 use Rattle.shelf_steps.specs.Plays.{MayHandOut, one_more, newcomer, keeps_loading, new_worker_view}
@@ -61,7 +61,7 @@ first_at image items f zero w x at less =
     let q = f.1 (16 * zero + w) (omega arith) in
     let h = q.2.0 (omega arith) in
     let same : Shelf.Open 1 ≡ x = cc in
-    subst (λ (y : Shelf). SlotFits (image ∷ []) start.workers None y zero w (get_elem? (map some items) (16 * zero + w))) same (
+    subst (λ (y : Shelf). SlotFits (held_by (image ∷ []) start.workers None) y zero w (get_elem? (map some items) (16 * zero + w))) same (
       (λ e. cc),
       inl (
         q.0,
@@ -73,7 +73,7 @@ first_at image items f zero w x at less =
 first_at image items f (suc k) w x at less =
     let low : k < 7 = slice_get_within (replicate 7 Shelf.Free) k x at in
     let q = f.1 (16 * suc k + w) (omega arith) in
-    subst (λ (y : Shelf). SlotFits (image ∷ []) start.workers None y (suc k) w (get_elem? (map some items) (16 * suc k + w)))
+    subst (λ (y : Shelf). SlotFits (held_by (image ∷ []) start.workers None) y (suc k) w (get_elem? (map some items) (16 * suc k + w)))
     (sym (slice_get-replicate-is 7 k Shelf.Free x at))
     (inl ((λ e. cc), at_map some items (16 * suc k + w) q.0 q.1 ∙ ap (λ (y : Option Edition). some (some y)) (q.2.1 (omega arith))))
 

@@ -13,10 +13,11 @@ looked_here _ c n m' h = absurd h
 
 took : (a : WorkerView) (c : List (ℕ × Option Edition)) (n word : ℕ) (m1 m2 : SeatAndSlots) (b : Bool)
     → (look : Looks (View.Working a, c) n m1) → Takes m1 word m2 → is_open word (n / 8) ≡ b
-    → TakesFound (looked_at a n look.0) c (n / 8) (n % 8) word b m2
+    → TakesFound (looked_at a n look.0, c) (n / 8, n % 8) word b m2
 took a c n word m1 m2 b look take is =
-    let t : TakesFound (looked_at a n look.0) c (n / 8) (n % 8) word (is_open word (n / 8)) m2 = subst (λ (m : SeatAndSlots). Takes m word m2) look.1 take in
-    subst (λ x. TakesFound (looked_at a n look.0) c (n / 8) (n % 8) word x m2) is t
+    let t : TakesFound (looked_at a n look.0, c) (n / 8, n % 8) word (is_open word (n / 8)) m2 =
+    subst (λ (m : SeatAndSlots). Takes m word m2) look.1 take in
+    subst (λ x. TakesFound (looked_at a n look.0, c) (n / 8, n % 8) word x m2) is t
 
 pub well_so : (u : View) (c : List (ℕ × Option Edition)) (number n word : ℕ) (m1 m2 : SeatAndSlots)
     → OfWorker u (λ a. (a.now ≡ Worker.Idle) × (a.number ≡ number)) → c ≡ []

@@ -85,7 +85,7 @@ held_have table l i k v w r loads at now =
 
 slot_of : (table : Shelved) (l : LoaderView) (k w v : ℕ) (r : KeepsRule table) → IsLoader table l
     → version_on l.shelves k ≡ Some v → w < 16
-    → IsFilled r.history.images r.history.state.workers k w v (get_elem? table.homes (16 * k + w))
+    → IsFilled r.history.images (slice_get r.history.state.workers w) k v (get_elem? table.homes (16 * k + w))
 slot_of table l k w v r at is less =
     let y = held_on l.shelves k v is in
     (slot_filled r.history.images r.history.state.workers r.loader.hand y.0 k w v (get_elem? table.homes (16 * k + w)) y.2

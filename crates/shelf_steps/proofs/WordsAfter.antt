@@ -11,13 +11,14 @@ use native.Mathlib.Decide.{ℕ_discrete}
 use Rattle.reasoning.proofs.ListLemmas.{at_below}
 use Rattle.version_core.specs.declared.event.Event.{Event}
 use Rattle.version_core.specs.declared.state.Shelf.{Shelf}
-use Rattle.version_core.specs.State.{State}
+use Rattle.version_core.specs.State.{State, most_versions}
 use Rattle.version_core.specs.Steps.{IsOpen}
 use Rattle.version_core.specs.Invariants.{KeepsInvariants, is_at, version_on}
 use Rattle.version_core.proofs.Shelves.{version_at}
 use Rattle.version_core.specs.Shown.{WordsShow, shelf_word}
 use Rattle.shelf_steps.specs.EventHistory.{EventHistory, LeadsToItsState, FoundAt, all_of}
 use Rattle.shelf_steps.specs.Plays.{is_open}
+use Rattle.shelf_steps.specs.Steps.{word_values}
 use Rattle.shelf_steps.proofs.Courses.{kept_of}
 
 -- the word that `CUR` was found to be
@@ -57,8 +58,8 @@ word_up Shelf.Free count = refl
 word_up _ count = omega arith
 
 word_small : (x : Shelf) (count : ℕ) → count < 256
-    → ((v : ℕ) → (x ≡ Shelf.Open v) ⊎ (x ≡ Shelf.Closing v) → v ≤ 1000000000)
-    → shelf_word x count + 1 < 18446744073709551616
+    → ((v : ℕ) → (x ≡ Shelf.Open v) ⊎ (x ≡ Shelf.Closing v) → v ≤ most_versions)
+    → shelf_word x count + 1 < word_values
 word_small Shelf.Free count small bound = omega arith
 word_small (Shelf.Open v) count small bound = let b = bound v (inl refl) in omega arith
 word_small (Shelf.Closing v) count small bound = let b = bound v (inr refl) in omega arith
@@ -67,7 +68,7 @@ pub few_counted : (s : State) (k : ℕ) → KeepsInvariants s → k < 8 → get_
 few_counted s k kept small = let c = kept.counts.each k small in let l = kept.workers.sixteen in omega (arith, count_by-le-length (is_at k) s.workers)
 
 pub version_bound : (s : State) (k : ℕ) (x : Shelf) → KeepsInvariants s → slice_get s.shelves k ≡ Some x → (v : ℕ)
-    → (x ≡ Shelf.Open v) ⊎ (x ≡ Shelf.Closing v) → v ≤ 1000000000
+    → (x ≡ Shelf.Open v) ⊎ (x ≡ Shelf.Closing v) → v ≤ most_versions
 version_bound s k x kept at v is = let r = kept.room in
     let on : version_on s.shelves k ≡ Some v =
     elim is [
@@ -80,7 +81,7 @@ version_bound s k x kept at v is = let r = kept.room in
 -- a shelf with its word, to which one may be added
 pub found_shelf : (words : List ℕ) (s : State) (k : ℕ) → KeepsInvariants s → WordsShow words s → k < 8
     → (x : Shelf) × (slice_get s.shelves k ≡ Some x) × (get_or words (k + 1) 0 ≡ shelf_word x (get_or s.counts k 0))
-    × (get_or words (k + 1) 0 + 1 < 18446744073709551616)
+    × (get_or words (k + 1) 0 + 1 < word_values)
 found_shelf words s k kept w small =
     let l = kept.shelves.eight in let x = at_below s.shelves k (omega arith) in let few = few_counted s k kept small in
     let is = w.each k x.0 x.1 in let top = word_small x.0 (get_or s.counts k 0) (omega arith) (version_bound s k x.0 kept x.1) in
@@ -93,15 +94,15 @@ found_at words c goes shown k e d added small =
     let x = found_shelf words c.state k (kept_of c goes) shown small in
     record { before = c; goes = goes; events = added; shelf = x.0; stands = x.1; is = x.2 }
 
-one_more : (n : ℕ) → n + 1 < 18446744073709551616 → (n + 1) % 18446744073709551616 ≡ n + 1
+one_more : (n : ℕ) → n + 1 < word_values → (n + 1) % word_values ≡ n + 1
 one_more n small = omega arith
 
-one_less : (n z : ℕ) → n ≡ z + 1 → n < 18446744073709551616 → (n + (18446744073709551616 - 1)) % 18446744073709551616 ≡ z
+one_less : (n z : ℕ) → n ≡ z + 1 → n < word_values → (n + (word_values - 1)) % word_values ≡ z
 one_less n z e small = omega arith
 
 -- the word of a shelf whose count rises
 pub word_rises : (words : List ℕ) (s : State) (k : ℕ) → KeepsInvariants s → WordsShow words s → k < 8 → (y : Shelf) → slice_get s.shelves k ≡ Some y
-    → (get_or words (k + 1) 0 + 1) % 18446744073709551616 ≡ shelf_word y (get_or s.counts k 0 + 1)
+    → (get_or words (k + 1) 0 + 1) % word_values ≡ shelf_word y (get_or s.counts k 0 + 1)
 word_rises words s k kept w small y at =
     let x = found_shelf words s k kept w small in
     one_more (get_or words (k + 1) 0) x.3 ∙ (ap (λ n. n + 1) (w.each k y at) ∙ word_up y (get_or s.counts k 0))
@@ -109,7 +110,7 @@ word_rises words s k kept w small y at =
 -- and of one whose count falls
 pub word_falls : (words : List ℕ) (s : State) (k : ℕ) → KeepsInvariants s → WordsShow words s → k < 8 → 1 ≤ get_or s.counts k 0
     → (y : Shelf) → slice_get s.shelves k ≡ Some y
-    → (get_or words (k + 1) 0 + (18446744073709551616 - 1)) % 18446744073709551616 ≡ shelf_word y (get_or s.counts k 0 - 1)
+    → (get_or words (k + 1) 0 + (word_values - 1)) % word_values ≡ shelf_word y (get_or s.counts k 0 - 1)
 word_falls words s k kept w small some_one y at =
     let x = found_shelf words s k kept w small in let count = get_or s.counts k 0 in
     let back : count - 1 + 1 ≡ count = omega arith in

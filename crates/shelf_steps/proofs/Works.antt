@@ -24,12 +24,12 @@ use Rattle.shelf_steps.specs.declared.views.View.{View}
 use Rattle.shelf_steps.specs.EventHistory.{EventHistory, LeadsToItsState, IsLonger, extended, all_of, IsKnownBeginning, Happened, IsEdition}
 use Rattle.version_core.specs.Shown.{WordsShow, WorkerShows, shelf_word}
 use Rattle.shelf_steps.specs.Seats.{WorkerFits, LoaderFits, SeatsFit, HasEdition}
-use Rattle.shelf_steps.specs.Slots.{SlotsFit, SlotFits, Slot}
+use Rattle.shelf_steps.specs.Slots.{SlotsFit, SlotFits, Slot, held_by}
 use Rattle.shelf_steps.specs.Rule.{KeepsRule}
 use Rattle.shelf_steps.specs.Plays.{SeatAndSlots, looked_at, is_open, holding, come_late, gone, Looks, TakesFound, TakesAs}
 use Rattle.shelf_steps.specs.Plays.{Takes, Leaves, GivesBack, IsIdle, HasLooked, IsLate, HoldsOut, ShowsIn}
 use Rattle.shelf_steps.specs.Events.{known_of}
-use Rattle.shelf_steps.specs.Steps.{Adds, LooksAdd, TakesAdd, LeavesAdd, GivingsAdd}
+use Rattle.shelf_steps.specs.Steps.{Adds, added, word_change, word_values, LooksAdd, TakesAdd, LeavesAdd, GivingsAdd}
 use Rattle.shelf_steps.proofs.Courses.{kept_of, joined_same, no_note, no_join, nothing_snoc, workers_event}
 use Rattle.shelf_steps.proofs.Courses.{begins_longer, happened, goes_same, loader_apart, prefix_same, other_fits, worker_next}
 use Rattle.shelf_steps.proofs.Frames.{there, worker_moves}
@@ -104,7 +104,7 @@ module _ (table : Table (Option Edition) View) (r : KeepsRule table) (id : ℕ) 
 
 -- what the kit asks of an operation on a word, where the history grows by its event
 pub allows : (slots id : ℕ) (me : SeatAndSlots) (i : ℕ) (f : ℕ → ℕ) (e : Event) (reply : ℕ → Reply) (tells : ℕ → SeatAndSlots → Type 0)
-    → Adds slots id me i f e reply tells → Allows KeepsRule slots id me i f tells
+    → Adds slots id me (word_change i f e reply) tells → Allows KeepsRule slots id me i f tells
 allows slots id me i f e reply tells adds table r full at small = let z = adds table r full at small in (z.0, z.1, z.2, z.3, z.6)
 
 pub looks_add : LooksAdd
@@ -187,9 +187,9 @@ takes_found : (id k : ℕ) (v : WorkerView) (version : ℕ) (c : List (ℕ
     → get_elem? table.views id ≡ some (View.Working v) → v.now ≡ Worker.Looked version k
     → (b : Bool) → MatchBool b (IsOpen r.history.state k version) (¬ (IsOpen r.history.state k version))
     → (w : View) × (a : Act (Option Edition)) × Valid table.homes c a
-    × (after : KeepsRule (stepped table (k + 1) ((get_or table.words (k + 1) 0 + 1) % 18446744073709551616) id c w a))
+    × (after : KeepsRule (stepped table (k + 1) (added 1 (get_or table.words (k + 1) 0)) id c w a))
     × IsLonger r.history (Event.Take v.number) (cond b (Reply.Holds version) Reply.Late) after.history × (known_of w ≡ all_of after.history)
-    × TakesFound v c version k (get_or table.words (k + 1) 0) b (w, carried_after c a)
+    × TakesFound (v, c) (version, k) (get_or table.words (k + 1) 0) b (w, carried_after c a)
 takes_found id k v version c table r at now true stands =
     let s = r.history.state in let w = v.number in let n = get_or table.words (k + 1) 0 in
     let kept : KeepsInvariants s = kept_of r.history r.goes in let l = looker id k v version table r at now in
@@ -213,9 +213,9 @@ takes_found id k v version c table r at now true stands =
     let shows : WorkerShows w v'.now v'.seen d.state = record { now = slice_get-set_same s.workers w (Worker.Holding k version) within; seen = f.shows.seen } in
     let fits : WorkerFits d v' = worker_next r.history d e v v' f refl refl refl (refl, refl) shows f.last f.passed is_its in
     let after =
-    next_ruled table r id v v' at refl e reply t refl is_step refl refl refl refl rest (set table.words (k + 1) ((n + 1) % 18446744073709551616))
+    next_ruled table r id v v' at refl e reply t refl is_step refl refl refl refl rest (set table.words (k + 1) (added 1 n))
     (homes_after table.homes c (takes (16 * k + w) (Some edition))) refl fits
-    (words_counted table.words k ((n + 1) % 18446744073709551616) (get_or s.counts k 0 + 1) t.workers s kept r.words z.1
+    (words_counted table.words k (added 1 n) (get_or s.counts k 0 + 1) t.workers s kept r.words z.1
     (word_rises table.words s k kept r.words z.1))
     (slots_one table.homes s.shelves s.workers r.history.images r.loader.hand k w (Worker.Looked version k) (Worker.Holding k version)
     (Shelf.Open version) none has (λ j x ne q. cc) (λ j x ne q. ne (cc)) stands z.0 (there table.homes (16 * k + w) _ filled)
@@ -255,8 +255,8 @@ takes_found id k v version c table r at now false shut =
     (λ p. let a = f.last.1 in let b = f.shows.seen in let q = late.1 in omega arith) refl in
     let after =
     next_ruled table r id v v' at refl e reply t refl is_step refl refl refl refl rest
-    (set table.words (k + 1) ((n + 1) % 18446744073709551616)) table.homes refl fits
-    (words_counted table.words k ((n + 1) % 18446744073709551616) (get_or s.counts k 0 + 1) t.workers s kept r.words z.1
+    (set table.words (k + 1) (added 1 n)) table.homes refl fits
+    (words_counted table.words k (added 1 n) (get_or s.counts k 0 + 1) t.workers s kept r.words z.1
     (word_rises table.words s k kept r.words z.1))
     (slots_worker table.homes s.shelves s.workers r.history.images r.loader.hand w (Worker.Looked version k)
     (Worker.Late k) has (λ j x q. cc) (λ j x q. cc) r.slots) refl in (
@@ -284,9 +284,9 @@ takes_add slots id k version v c now table r full at fits =
     let t = takes_found id k v version c table r at now (is_open n version) (word_tells table.words s k version kept r.words z.1) in
     (t.0, t.1, t.2, t.3, t.4, t.5, subst (λ (x : Worker). TakesAs v c x n (t.0, carried_after c t.1)) (sym now) t.6)
 
-pub takings : (slots id k : ℕ) (me : SeatAndSlots) → HasLooked k me.0 → Allows KeepsRule slots id me (k + 1) (λ n. (n + 1) % 18446744073709551616) (Takes me)
+pub takings : (slots id k : ℕ) (me : SeatAndSlots) → HasLooked k me.0 → Allows KeepsRule slots id me (k + 1) (added 1) (Takes me)
 takings slots id k (View.Working v, c) has =
-    allows slots id (View.Working v, c) (k + 1) (λ n. (n + 1) % 18446744073709551616) (Event.Take v.number)
+    allows slots id (View.Working v, c) (k + 1) (added 1) (Event.Take v.number)
     (λ n. cond (is_open n has.0) (Reply.Holds has.0) Reply.Late) (Takes (View.Working v, c)) (takes_add slots id k has.0 v c has.1)
 takings slots id k (_, c) has = absurd has
 
@@ -294,10 +294,10 @@ takings slots id k (_, c) has = absurd has
 leaves_with : (id k : ℕ) (v : WorkerView) (table : Table (Option Edition) View) (r : KeepsRule table)
     (at : get_elem? table.views id ≡ some (View.Working v)) (stays : StaysAt r.history.state v.number k) (c : List (ℕ
     × Option Edition)) (a : Act (Option Edition))
-    → get_or table.words (k + 1) 0 < 18446744073709551616
+    → get_or table.words (k + 1) 0 < word_values
     → SlotsFit (homes_after table.homes c a) r.history.state.shelves (set r.history.state.workers v.number Worker.Idle) r.history.images r.loader.hand
     → (known : KnownHistory) × (after : KeepsRule (stepped table (k + 1)
-    ((get_or table.words (k + 1) 0 + (18446744073709551616 - 1)) % 18446744073709551616) id c
+    (added (word_values - 1) (get_or table.words (k + 1) 0)) id c
     (View.Working (gone v known)) a))
     × IsLonger r.history (Event.Drop v.number) Reply.Dropped after.history × (known ≡ all_of after.history)
     × Happened v.known (Event.Drop v.number) Reply.Dropped known
@@ -320,8 +320,8 @@ leaves_with id k v table r at stays c a small slots =
     let fits : WorkerFits d v' = worker_next r.history d e v v' f refl refl refl (refl, refl) shows f.last f.passed refl in
     let after =
     next_ruled table r id v v' at refl e reply t refl is_step refl refl refl refl rest
-    (set table.words (k + 1) ((n + (18446744073709551616 - 1)) % 18446744073709551616)) (homes_after table.homes c a) refl fits
-    (words_counted table.words k ((n + (18446744073709551616 - 1)) % 18446744073709551616) (get_or s.counts k 0 - 1) t.workers s kept r.words z.1
+    (set table.words (k + 1) (added (word_values - 1) n)) (homes_after table.homes c a) refl fits
+    (words_counted table.words k (added (word_values - 1) n) (get_or s.counts k 0 - 1) t.workers s kept r.words z.1
     (word_falls table.words s k kept r.words z.1 z.2)) slots refl in (
       all_of d,
       after.0,
@@ -342,9 +342,9 @@ leaves_add slots id k v c late table r full at small =
     (View.Working (gone v t.0), keeps, tt, t.1, t.2, t.3, (t.0, refl, t.4, t.5))
 
 pub leavings : (slots id k : ℕ) (me : SeatAndSlots) → IsLate k me.0
-    → Allows KeepsRule slots id me (k + 1) (λ n. (n + (18446744073709551616 - 1)) % 18446744073709551616) (λ _. Leaves me)
+    → Allows KeepsRule slots id me (k + 1) (added (word_values - 1)) (λ _. Leaves me)
 leavings slots id k (View.Working v, c) late =
-    allows slots id (View.Working v, c) (k + 1) (λ n. (n + (18446744073709551616 - 1)) % 18446744073709551616) (Event.Drop v.number)
+    allows slots id (View.Working v, c) (k + 1) (added (word_values - 1)) (Event.Drop v.number)
     (λ _. Reply.Dropped) (λ _. Leaves (View.Working v, c)) (leaves_add slots id k v c late)
 leavings slots id k (_, c) late = absurd late
 
@@ -362,8 +362,8 @@ held_shelf s w k version kept here = held_on s.shelves k version (held_known s w
 -- a slot at home with the edition of the shelf's version, if its worker doesn't hold the shelf
 fills : (y : Shelf) (images : List ImageValue) (before ws : List Worker) (hand : Option ℕ) (k w version : ℕ) (slot : Slot)
     (edition : Option Edition) → version_of y ≡ Some version → IsEdition images version edition
-    → ((x : ℕ) → slice_get ws w ≢ Some (Worker.Holding k x)) → SlotFits images before hand y k w slot
-    → SlotFits images ws hand y k w (some (some edition))
+    → ((x : ℕ) → slice_get ws w ≢ Some (Worker.Holding k x)) → SlotFits (held_by images before hand) y k w slot
+    → SlotFits (held_by images ws hand) y k w (some (some edition))
 fills y images before ws hand k w version slot edition e its away was =
     filled_fits images ws hand y k w version (some (some edition)) e (slot_filled images before hand y k w version slot e was).0
     (inl (edition, refl, its, away version))
@@ -388,14 +388,14 @@ gives_add slots id k version v many now table r full at small =
     (View.Working (gone v t.0), gives, tt, t.1, t.2, t.3, (t.0, refl, t.4, t.5))
 
 pub givings : (slots id k : ℕ) (me : SeatAndSlots) → slots ≡ 128 → HoldsOut k me.0 me.1
-    → Allows KeepsRule slots id me (k + 1) (λ n. (n + (18446744073709551616 - 1)) % 18446744073709551616) (λ _. GivesBack me)
+    → Allows KeepsRule slots id me (k + 1) (added (word_values - 1)) (λ _. GivesBack me)
 givings slots id k (View.Working v, c) many h =
     subst (λ (x : List (ℕ × Option Edition)). Allows KeepsRule slots id (
       View.Working v,
       x,
-    ) (k + 1) (λ n. (n + (18446744073709551616 - 1)) % 18446744073709551616) (λ _. GivesBack (View.Working v, x)))
+    ) (k + 1) (added (word_values - 1)) (λ _. GivesBack (View.Working v, x)))
     (sym h.2)
     (allows slots id (View.Working v, (16 * k + v.number, v.edition) ∷ []) (k + 1)
-    (λ n. (n + (18446744073709551616 - 1)) % 18446744073709551616) (Event.Drop v.number) (λ _. Reply.Dropped)
+    (added (word_values - 1)) (Event.Drop v.number) (λ _. Reply.Dropped)
     (λ _. GivesBack (View.Working v, (16 * k + v.number, v.edition) ∷ [])) (gives_add slots id k h.0 v many h.1))
 givings slots id k (_, c) many h = absurd h

@@ -13,7 +13,8 @@ use Rattle.shelf_steps.specs.declared.views.LoaderView.{LoaderView}
 use Rattle.shelf_steps.specs.declared.views.View.{View}
 use Rattle.shelf_steps.specs.EventHistory.{EventHistory, LeadsToItsState, IsKnownBeginning, IsEdition, NeverFreedSince, notes_in, joined_by}
 use Rattle.version_core.specs.Shown.{WordsShow, WorkerShows, LoaderShows, shelf_word}
-use Rattle.shelf_steps.specs.Slots.{IsSpare}
+use Rattle.shelf_steps.specs.Plays.{closing_word}
+use Rattle.shelf_steps.specs.Slots.{IsSpare, slot_at}
 use Rattle.shelf_steps.specs.Rule.{KeepsRule, notices_of}
 
 abbrev pub Shelved : Type 0
@@ -67,14 +68,14 @@ HeldHaveEditions =
 abbrev pub SlotsOutAreHeld : Type 0
 SlotsOutAreHeld =
     (table : Shelved) (l : LoaderView) (k w v : ℕ) → KeepsRule table → IsLoader table l → version_on l.shelves k ≡ Some v
-    → w < 16 → get_elem? table.homes (16 * k + w) ≡ some none
+    → w < 16 → get_elem? table.homes (slot_at k w) ≡ some none
     → (i : ℕ) × (u : WorkerView) × (get_elem? table.views i ≡ some (View.Working u)) × (u.number ≡ w) × (u.now ≡ Worker.Holding k v)
 
 -- a slot of an open or closing shelf that is at home has the edition of the shelf's version
 abbrev pub SlotsAtHomeAreFilled : Type 0
 SlotsAtHomeAreFilled =
     (table : Shelved) (l : LoaderView) (k w v : ℕ) (x : Option Edition) → KeepsRule table → IsLoader table l
-    → version_on l.shelves k ≡ Some v → w < 16 → get_elem? table.homes (16 * k + w) ≡ some (some x)
+    → version_on l.shelves k ≡ Some v → w < 16 → get_elem? table.homes (slot_at k w) ≡ some (some x)
     → IsEdition l.known.images v x
 
 -- the slot of a worker that holds a version is out: it isn't at home, where a step could take it, and the loader has no slot of that shelf in its
@@ -83,20 +84,20 @@ abbrev pub HoldersSlotsAreOut : Type 0
 HoldersSlotsAreOut =
     (table : Shelved) (l : LoaderView) (i k v : ℕ) (w : WorkerView) → KeepsRule table → IsLoader table l
     → get_elem? table.views i ≡ some (View.Working w) → w.now ≡ Worker.Holding k v
-    → (get_elem? table.homes (16 * k + w.number) ≡ some none) × (l.hand ≢ Some k)
+    → (get_elem? table.homes (slot_at k w.number) ≡ some none) × (l.hand ≢ Some k)
 
 -- the slots of a free shelf are the loader's: out with it, or at home and empty
 abbrev pub FreeSlotsAreTheLoaders : Type 0
 FreeSlotsAreTheLoaders =
     (table : Shelved) (l : LoaderView) (k w : ℕ) → KeepsRule table → IsLoader table l
-    → slice_get l.shelves k ≡ Some Shelf.Free → w < 16 → IsSpare l.hand k (get_elem? table.homes (16 * k + w))
+    → slice_get l.shelves k ≡ Some Shelf.Free → w < 16 → IsSpare l.hand k (get_elem? table.homes (slot_at k w))
 
 -- the word of a shelf that a worker holds isn't one at which a collection frees the shelf
 abbrev pub HeldShelvesAreInUse : Type 0
 HeldShelvesAreInUse =
     (table : Shelved) (l : LoaderView) (i k v version : ℕ) (w : WorkerView) → KeepsRule table → IsLoader table l
     → get_elem? table.views i ≡ some (View.Working w) → w.now ≡ Worker.Holding k v
-    → slice_index table.words (k + 1) ≢ 512 + 65536 * version
+    → slice_index table.words (k + 1) ≢ closing_word version
 
 -- no event after those that the worker's seat knows has freed the shelf that it holds
 abbrev pub HeldShelvesStay : Type 0

@@ -10,33 +10,35 @@ use Rattle.shelf_steps.specs.declared.views.View.{View}
 use Rattle.shelf_steps.specs.EventHistory.{Happened}
 use Rattle.shelf_steps.specs.Plays.{OfLoader, newest_of}
 
--- the loader is at rest, `shelf` is free, `version` is the next one, and `before` is the shelf of the current version
-pub record MayLoad (shelf version before : ℕ) (l : LoaderView) : Type 0 where
+-- the loader is at rest, `shelf` is free, `version` is the next one, and `former` is the shelf of the current version
+pub record MayLoad (shelf version former : ℕ) (l : LoaderView) : Type 0 where
   pub free : slice_get l.shelves shelf ≡ Some Shelf.Free
   pub empty : l.hand ≡ None
   pub current : l.current ≡ newest_of l
   pub next : version ≡ newest_of l + 1
-  pub before_is : before ≡ l.current_shelf
-  pub before_open : slice_get l.shelves before ≡ Some (Shelf.Open l.current)
+  pub former_is : former ≡ l.current_shelf
+  pub former_open : slice_get l.shelves former ≡ Some (Shelf.Open l.current)
 
--- the slots were gathered, the shelf opened with the image, its version made current, and the shelf before closed
-pub record LoadsShelf (a : LoaderView) (image : ImageValue) (version shelf before : ℕ) (b : LoaderView) : Type 0 where
+-- the slots were gathered, the shelf opened with the image, its version made current, and the former shelf closed
+pub record LoadsShelf (a : LoaderView) (image : ImageValue) (version shelf : ℕ) (b : LoaderView) : Type 0 where
+  pub former : ℕ
+  pub former_is : former ≡ a.current_shelf
   pub gathered : KnownHistory
   pub opened : KnownHistory
   pub published : KnownHistory
   pub gather : Happened a.known (Event.Collect shelf) Reply.NotNow gathered
   pub opening : Happened gathered (Event.Open (newest_of a)) (Reply.Opened version shelf) opened
   pub publish : Happened opened Event.Publish (Reply.Published version) published
-  pub close : Happened published (Event.Close before) Reply.Closing b.known
+  pub close : Happened published (Event.Close former) Reply.Closing b.known
   pub images : b.known.images ≡ a.known.images ++ image ∷ []
   pub current : (b.current ≡ version) × (b.current_shelf ≡ shelf)
-  pub shelves : b.shelves ≡ slice_set (slice_set a.shelves shelf (Shelf.Open version)) before (Shelf.Closing a.current)
+  pub shelves : b.shelves ≡ slice_set (slice_set a.shelves shelf (Shelf.Open version)) former (Shelf.Closing a.current)
   pub handed : b.handed ≡ a.handed
   pub notes : b.notes ≡ a.notes
   pub hand : b.hand ≡ None
 
-abbrev pub Loads : ℕ → ℕ → ℕ → ImageValue → View → View → Type 0
-Loads shelf version before image u u' = OfLoader u (λ a. OfLoader u' (λ b. LoadsShelf a image version shelf before b))
+abbrev pub Loads : ℕ → ℕ → ImageValue → View → View → Type 0
+Loads shelf version image u u' = OfLoader u (λ a. OfLoader u' (λ b. LoadsShelf a image version shelf b))
 
 -- the closing shelf is free, with its slots at home and empty (Freed), or its count was above 0 (FoundBusy)
 pub record FreesShelf (a : LoaderView) (shelf : ℕ) (b : LoaderView) : Type 0 where

@@ -9,6 +9,7 @@ use Rattle.shelf_steps.specs.declared.views.WorkerView.{WorkerView}
 use Rattle.shelf_steps.specs.declared.views.View.{View}
 use Rattle.shelf_steps.specs.EventHistory.{Happened, IsEdition}
 use Rattle.shelf_steps.specs.Plays.{OfWorker, SeatAndSlots, ShowsIn}
+use Rattle.shelf_steps.specs.Slots.{slot_at}
 
 -- a look finds the version n: no older than any that was seen, and greater than the one last looked at if the take of that came late
 pub record LooksOnce (a : WorkerView) (n shelf : ℕ) (looked : KnownHistory) : Type 0 where
@@ -77,7 +78,7 @@ IsIdleAs number m = OfWorker m.0 (λ a. (a.now ≡ Worker.Idle) × (a.number ≡
 -- the worker holds the shelf, and the edition was taken from its slot
 abbrev pub IsHoldingAs : ℕ → ℕ → Edition → SeatAndSlots → Type 0
 IsHoldingAs number shelf e m = OfWorker m.0 (λ a. (a.now ≡ Worker.Holding shelf e.version) × (a.number ≡ number)
-    × (a.edition ≡ Some e)) × (m.1 ≡ (16 * shelf + number, None) ∷ [])
+    × (a.edition ≡ Some e)) × (m.1 ≡ (slot_at shelf number, None) ∷ [])
 
 -- one drop, and the worker is idle
 pub record ReleasesShelf (a b : WorkerView) : Type 0 where

@@ -8,7 +8,7 @@ use Rattle.std.specs.Prelude.{slice_get, slice_set}
 use Rattle.std.specs.Arc.{arc_value}
 use Rattle.atomic_table.specs.Table.{Me, Step}
 use Rattle.atomic_table.specs.Seated.{TableId}
-use Rattle.version_core.specs.State.{State}
+use Rattle.version_core.specs.State.{State, most_versions}
 use Rattle.version_core.specs.Shown.{WorkerShows}
 use Rattle.version_core.specs.declared.event.Event.{Event}
 use Rattle.version_core.specs.declared.event.Reply.{Reply}
@@ -20,7 +20,7 @@ use Rattle.shelf_steps.specs.declared.views.WorkerView.{WorkerView}
 use Rattle.shelf_steps.specs.declared.views.LoaderView.{LoaderView}
 use Rattle.shelf_steps.specs.declared.views.View.{View}
 use Rattle.shelf_steps.specs.EventHistory.{LeadsToItsState, leading_to, Happened, FoundAt, IsEdition}
-use Rattle.shelf_steps.specs.Slots.{down_from, nothings}
+use Rattle.shelf_steps.specs.Slots.{down_from, nothings, slot_at}
 
 -- the view is a worker's, and P holds of it
 abbrev pub OfWorker : View → (WorkerView → Type 0) → Type 0
@@ -70,19 +70,19 @@ Looks m n m' = OfWorker m.0 (λ v.
 
 -- a take that found the word n: if the shelf was open with the version that was looked at (true), the worker holds it, with its edition in the slot;
 -- otherwise (false) the worker is late
-abbrev pub TakesFound : WorkerView → List (ℕ × Option Edition) → ℕ → ℕ → ℕ → Bool → SeatAndSlots → Type 0
-TakesFound v c version k n true m' =
-    (e : Edition) × (known : KnownHistory) × (m' ≡ (View.Working (holding v k version e known), (16 * k + v.number, Some e) ∷ c))
+abbrev pub TakesFound : WorkerView × List (ℕ × Option Edition) → ℕ × ℕ → ℕ → Bool → SeatAndSlots → Type 0
+TakesFound (v, c) (version, k) n true m' =
+    (e : Edition) × (known : KnownHistory) × (m' ≡ (View.Working (holding v k version e known), (slot_at k v.number, Some e) ∷ c))
     × Happened v.known (Event.Take v.number) (Reply.Holds version) known × IsEdition known.images version (Some e) × ShowsIn (holding v k version e known)
     × FoundAt known (Event.Take v.number) k n
-TakesFound v c version k n false m' =
+TakesFound (v, c) (version, k) n false m' =
     (known : KnownHistory) × (m' ≡ (View.Working (come_late v k known), c)) × Happened v.known (Event.Take v.number) Reply.Late known × ShowsIn
     (come_late v k known)
     × FoundAt known (Event.Take v.number) k n
 
 -- the same of a worker that has looked; no other takes a shelf
 abbrev pub TakesAs : WorkerView → List (ℕ × Option Edition) → Worker → ℕ → SeatAndSlots → Type 0
-TakesAs v c (Worker.Looked version k) n m' = TakesFound v c version k n (is_open n version) m'
+TakesAs v c (Worker.Looked version k) n m' = TakesFound (v, c) (version, k) n (is_open n version) m'
 TakesAs v c _ n m' = ⊥
 
 -- the step `Taking`, which found the word n on the shelf that the worker saw
@@ -113,7 +113,7 @@ IsLate k u = OfWorker u (λ v. v.now ≡ Worker.Late k)
 
 -- the worker holds the shelf, and has its slot of it out, with the edition in it
 abbrev pub HoldsOut : ℕ → View → List (ℕ × Option Edition) → Type 0
-HoldsOut k u c = OfWorker u (λ v. (version : ℕ) × (v.now ≡ Worker.Holding k version) × (c ≡ (16 * k + v.number, v.edition) ∷ []))
+HoldsOut k u c = OfWorker u (λ v. (version : ℕ) × (v.now ≡ Worker.Holding k version) × (c ≡ (slot_at k v.number, v.edition) ∷ []))
 
 -- the view is the loader's, and P holds of it
 abbrev pub OfLoader : View → (LoaderView → Type 0) → Type 0
@@ -191,22 +191,29 @@ ClosesOn k m m' = OfLoader m.0 (λ l.
 abbrev pub Closes : Step (Option Edition) → SeatAndSlots → ℕ → SeatAndSlots → Type 0
 Closes st m n m' = (k : ℕ) × (st.word ≡ k + 1) × ClosesOn k m m'
 
+-- the words of a shelf with this version at which no worker is: once it is open, and once it is closing
+abbrev pub open_word : ℕ → ℕ
+open_word version = 256 + 65536 * version
+
+abbrev pub closing_word : ℕ → ℕ
+closing_word version = 512 + 65536 * version
+
 -- a collection that found the word n: the shelf is free and its slots are out with the loader (true), or its count was above 0 (false)
-abbrev pub CollectsFound : LoaderView → ℕ → ℕ → ℕ → Bool → SeatAndSlots → Type 0
-CollectsFound l k version n true m' =
+abbrev pub CollectsFound : LoaderView → ℕ → ℕ → Bool → SeatAndSlots → Type 0
+CollectsFound l k n true m' =
     (f : ℕ → Option Edition) × (known : KnownHistory) × (m' ≡ (View.Loading (with_free l k known), down_from f (16 * k) 16 []))
     × IsLastEvent l (Event.Collect k) Reply.Freed known × FoundAt known (Event.Collect k) k n
-CollectsFound l k version n false m' =
+CollectsFound l k n false m' =
     (known : KnownHistory) × (m' ≡ (View.Loading (with_hand l None known), [])) × IsLastEvent l (Event.Collect k) (Reply.Busy (n % 256)) known × (0 < n % 256)
     × FoundAt known (Event.Collect k) k n
 
 -- the shelf is free if the word n says that it was closing with the version and that its count was 0
 abbrev pub CollectsOn : ℕ → ℕ → ℕ → SeatAndSlots → SeatAndSlots → Type 0
-CollectsOn k version n m m' = OfLoader m.0 (λ l. CollectsFound l k version n (n == 512 + 65536 * version) m')
+CollectsOn k version n m m' = OfLoader m.0 (λ l. CollectsFound l k n (n == closing_word version) m')
 
 -- the step `Collecting`, on the word of a shelf, which expects exactly that word
 abbrev pub Collects : Step (Option Edition) → SeatAndSlots → ℕ → SeatAndSlots → Type 0
-Collects st m n m' = (k version : ℕ) × (st.word ≡ k + 1) × (st.first ≡ 512 + 65536 * version) × CollectsOn k version n m m'
+Collects st m n m' = (k version : ℕ) × (st.word ≡ k + 1) × (st.first ≡ closing_word version) × CollectsOn k version n m m'
 
 -- the empty slots of a free shelf go out with the loader
 abbrev pub GathersOn : ℕ → SeatAndSlots → SeatAndSlots → Type 0
@@ -231,7 +238,7 @@ PutsBack st m n m' = (k : ℕ) × (st.word ≡ k + 1) × PutsBackOn k m m'
 -- the next version and its image, and no version is open and unpublished
 abbrev pub MayOpenOn : ℕ → ℕ → View → List (ℕ × Option Edition) → Type 0
 MayOpenOn k version u c = OfLoader u (λ l.
-    (slice_get l.shelves k ≡ Some Shelf.Free) × (l.hand ≡ Some k) × (l.current ≡ newest_of l) × (version ≡ newest_of l + 1) × (version ≤ 1000000000)
+    (slice_get l.shelves k ≡ Some Shelf.Free) × (l.hand ≡ Some k) × (l.current ≡ newest_of l) × (version ≡ newest_of l + 1) × (version ≤ most_versions)
     × ((image : ImageValue) × (f : ℕ → Option Edition) × IsBlock f k c × AllHave version image k f))
 
 -- to publish: the shelf is open with the version, which is above the current one

@@ -1,5 +1,6 @@
 //! The steps of the loader, each one atomic operation on a word and one event.
 ghost use Rattle.std.specs.Prelude.{◌≡◌, ◌<◌, ◌≤◌};
+ghost use Rattle.version_core.specs.State.{most_versions};
 ghost use Rattle.shelf_steps.specs.Plays.{OpensOn, PublishesOn, ClosesOn, CollectsOn, GathersOn, PutsBackOn};
 ghost use Rattle.shelf_steps.specs.Plays.{MayOpenOn, MayPublish, MayClose, MayCollect, MayGather, MayPutBack};
 
@@ -9,7 +10,7 @@ use crate::table_seats::{ShelfTable, TableSeat};
 /// Opens a free shelf with the next version, and puts its filled slots back.
 pub fn open(shelves: &ShelfTable, loader: &mut TableSeat, shelf: usize, version: u64)
     requires table { loader.old.table ≡ shelves.now }
-    requires numbers { (shelf < 8) × (version ≤ 1000000000) }
+    requires numbers { (shelf < 8) × (version ≤ most_versions) }
     requires ready { MayOpenOn shelf version loader.old.me.0 loader.old.me.1 }
     ensures table { loader.new.table ≡ loader.old.table }
     ensures open { OpensOn shelf loader.old.me loader.new.me }
@@ -23,7 +24,7 @@ pub fn open(shelves: &ShelfTable, loader: &mut TableSeat, shelf: usize, version:
 /// Makes the version, which is open on this shelf, the current one.
 pub fn publish(shelves: &ShelfTable, loader: &mut TableSeat, version: u64, shelf: usize)
     requires table { loader.old.table ≡ shelves.now }
-    requires numbers { (shelf < 8) × (version ≤ 1000000000) }
+    requires numbers { (shelf < 8) × (version ≤ most_versions) }
     requires ready { MayPublish version shelf loader.old.me.0 }
     ensures table { loader.new.table ≡ loader.old.table }
     ensures publish { PublishesOn version shelf loader.old.me loader.new.me }
@@ -52,7 +53,7 @@ pub fn close(shelves: &ShelfTable, loader: &mut TableSeat, shelf: usize)
 /// are out with the loader.
 pub fn collect(shelves: &ShelfTable, loader: &mut TableSeat, shelf: usize, version: u64) -> u64
     requires table { loader.old.table ≡ shelves.now }
-    requires numbers { (shelf < 8) × (version ≤ 1000000000) }
+    requires numbers { (shelf < 8) × (version ≤ most_versions) }
     requires ready { MayCollect shelf version loader.old.me.0 loader.old.me.1 }
     ensures table { loader.new.table ≡ loader.old.table }
     ensures collect { CollectsOn shelf version result loader.old.me loader.new.me }

@@ -2,6 +2,7 @@
 ghost use Rattle.std.specs.Prelude.{◌≡◌, ◌==◌, ℕ, ◌<◌, ◌≤◌, [], IfNone, IfSome, OnOk, OnErr};
 ghost use Rattle.std.specs.Arc.{arc_value};
 ghost use Rattle.image_layout.specs.Image.{ImageValue};
+ghost use Rattle.version_core.specs.State.{most_versions};
 ghost use Rattle.shelf_steps.specs.Plays.{OfLoader, MayCollect};
 ghost use Rattle.shelf_steps.specs.Blocks.{EachHas};
 ghost use Rattle.shelf_steps.specs.Loading.{MayLoad, Loads, Frees, FindsBusy};
@@ -14,7 +15,7 @@ use image_verifier::Verified;
 use std::alloc::{AllocError, Global};
 use std::sync::Arc;
 
-/// Loads the image as the next version, which is current, on the free shelf `shelf`; the shelf `before` is closing. If
+/// Loads the image as the next version, which is current, on the free shelf `shelf`; the shelf `former` is closing. If
 /// memory is refused, no step was made.
 pub fn load(
     shelves: &ShelfTable,
@@ -22,20 +23,20 @@ pub fn load(
     alloc: Global,
     shelf: usize,
     version: u64,
-    before: usize,
+    former: usize,
     image: &Arc<Verified, Global>,
 ) -> Result<(), AllocError>
     requires table { loader.old.table ≡ shelves.now }
-    requires numbers { (shelf < 8) × (version ≤ 1000000000) × (before < 8) }
-    requires ready { OfLoader loader.old.me.0 (λ l. MayLoad shelf version before l) }
+    requires numbers { (shelf < 8) × (version ≤ most_versions) × (former < 8) }
+    requires ready { OfLoader loader.old.me.0 (λ l. MayLoad shelf version former l) }
     requires empty { loader.old.me.1 ≡ [] }
     ensures table { loader.new.table ≡ loader.old.table }
-    ensures load { OnOk result (Loads shelf version before (arc_value image.now) loader.old.me.0 loader.new.me.0) }
+    ensures load { OnOk result (Loads shelf version (arc_value image.now) loader.old.me.0 loader.new.me.0) }
     ensures empty { loader.new.me.1 ≡ [] }
     ensures refused { OnErr result (loader.new ≡ loader.old) }
 {
     let editions = editions_of(alloc, version, image)?;
-    load_editions(shelves, loader, shelf, version, before, editions);
+    load_editions(shelves, loader, shelf, version, former, editions);
     Ok(())
 }
 
@@ -45,24 +46,24 @@ fn load_editions(
     loader: &mut TableSeat,
     shelf: usize,
     version: u64,
-    before: usize,
+    former: usize,
     editions: Vec<Edition>,
 )
     requires table { loader.old.table ≡ shelves.now }
-    requires numbers { (shelf < 8) × (version ≤ 1000000000) × (before < 8) }
-    requires ready { OfLoader loader.old.me.0 (λ l. MayLoad shelf version before l) }
+    requires numbers { (shelf < 8) × (version ≤ most_versions) × (former < 8) }
+    requires ready { OfLoader loader.old.me.0 (λ l. MayLoad shelf version former l) }
     requires empty { loader.old.me.1 ≡ [] }
     requires editions { (image : ImageValue) × EachHas version image 16 editions.items }
     ensures table { loader.new.table ≡ loader.old.table }
     ensures load { (image : ImageValue) → EachHas version image 16 editions.items
-        → Loads shelf version before image loader.old.me.0 loader.new.me.0 }
+        → Loads shelf version image loader.old.me.0 loader.new.me.0 }
     ensures empty { loader.new.me.1 ≡ [] }
 {
     gather(shelves, loader, shelf);
     fill_block(shelves, loader, shelf, editions);
     open(shelves, loader, shelf, version);
     publish(shelves, loader, version, shelf);
-    close(shelves, loader, before);
+    close(shelves, loader, former);
 }
 
 /// Tries a closing shelf. `None` says that it is free, and its slots are empty and at home; otherwise the result is how
@@ -74,7 +75,7 @@ pub fn try_shelf(
     version: u64,
 ) -> Option<u8>
     requires table { loader.old.table ≡ shelves.now }
-    requires numbers { (shelf < 8) × (version ≤ 1000000000) }
+    requires numbers { (shelf < 8) × (version ≤ most_versions) }
     requires closing { MayCollect shelf version loader.old.me.0 loader.old.me.1 }
     ensures table { loader.new.table ≡ loader.old.table }
     ensures freed { IfNone result (Frees shelf loader.old.me.0 loader.new.me.0) }

@@ -18,16 +18,16 @@ use Rattle.shelves.specs.ShelfLoads.{Rests, CollectsBySteps, MakesRoomBySteps, P
 use Rattle.shelves.proofs.GrowthLemmas.{growths_join, happened_grows}
 use Rattle.shelves.proofs.Tries.{of_loaders, only_join, one_try, Tries, no_tries, tries_below, freed_is_free, tries_find}
 
-loads_end : (shelf version before : ℕ) (image : ImageValue) (u u' : View) → Loads shelf version before image u u'
+loads_end : (shelf version : ℕ) (image : ImageValue) (u u' : View) → Loads shelf version image u u'
     → EndsPublish (known_of u) version (known_of u')
-loads_end shelf version before image u u' = of_loaders (λ a b. LoadsShelf a image version shelf before b)
+loads_end shelf version image u u' = of_loaders (λ a b. LoadsShelf a image version shelf b)
     (λ v v'. EndsPublish (known_of v) version (known_of v')) u u' (λ a b h. record {
       ready = h.gathered;
       opened = h.opened;
       current = h.published;
       edition = newest_of a;
       shelf = shelf;
-      closed = before;
+      closed = h.former;
       since = happened_grows a.known h.gathered _ _ h.gather;
       only = one_try (λ k. Unit {0}) shelf a.known Reply.NotNow h.gathered tt h.gather;
       opening = h.opening;
@@ -37,10 +37,10 @@ loads_end shelf version before image u u' = of_loaders (λ a b. LoadsShelf a ima
     })
 
 -- the image that is put behind the others is that of the next version
-pub loads_published : (current current_shelf : ℕ) (shelves : List Shelf) (image : ImageValue) (shelf version before : ℕ) (u u' : View)
-    → OfLoader u (λ l. Rests current current_shelf shelves l) → version ≡ current + 1 → Loads shelf version before image u u'
+pub loads_published : (current current_shelf : ℕ) (shelves : List Shelf) (image : ImageValue) (shelf version : ℕ) (u u' : View)
+    → OfLoader u (λ l. Rests current current_shelf shelves l) → version ≡ current + 1 → Loads shelf version image u u'
     → IsPublished (known_of u') version image
-loads_published current current_shelf shelves image shelf version before u u' rest next loads = of_loaders (λ a b. LoadsShelf a image version shelf before b)
+loads_published current current_shelf shelves image shelf version u u' rest next loads = of_loaders (λ a b. LoadsShelf a image version shelf b)
     (λ v v'. OfLoader v (λ l. Rests current current_shelf shelves l) → IsPublished (known_of v') version image) u u' (λ a b h rest.
     let n1 = rest.newest in let n2 = rest.current_is in let counts : version ≡ suc (length a.known.images) = omega arith in
     ap (λ n. image_of b.known.images n) counts
@@ -60,7 +60,7 @@ makes_room u u' h = elim h [ inl x ↦ no_tries (λ k. Unit {0}) u u' x.1 | inr 
 pub publishes_end : (u room u' : View) (image : ImageValue) (version : ℕ) → MakesRoomBySteps u room → PublishesBySteps room image version u'
     → EndsPublish (known_of u) version (known_of u')
 publishes_end u room u' image version made loads =
-    let tried = makes_room u room made in let h = loads_end loads.0 version loads.1 image room u' loads.3 in
+    let tried = makes_room u room made in let h = loads_end loads.0 version image room u' loads.2 in
     record {
       ready = h.ready;
       opened = h.opened;

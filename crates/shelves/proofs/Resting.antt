@@ -10,7 +10,7 @@ use Rattle.image_layout.specs.Image.{ImageValue}
 use Rattle.version_core.specs.declared.event.Event.{Event}
 use Rattle.version_core.specs.declared.event.Reply.{Reply}
 use Rattle.version_core.specs.declared.state.Shelf.{Shelf}
-use Rattle.version_core.specs.State.{State, start}
+use Rattle.version_core.specs.State.{State, most_versions, start}
 use Rattle.version_core.specs.Steps.{Step}
 use Rattle.version_core.specs.Runs.{Run}
 use Rattle.version_core.specs.Actors.{actor, NoneOf}
@@ -124,10 +124,10 @@ led_freed a b k led f =
     (λ t u same step. ap (λ (x : State). x.shelves) step.3 ∙ ap (λ (xs : List Shelf). set xs k Shelf.Free) same) in
     led_on b.shelves freed refl f.put_back (λ t u same step. ap (λ (x : State). x.shelves) step.1 ∙ (same ∙ sym f.shelves))
 
-led_loaded : (a b : LoaderView) (image : ImageValue) (version shelf before : ℕ) → LeadsToShelves a.known a.shelves
-    → slice_get (set a.shelves shelf (Shelf.Open version)) before ≡ Some (Shelf.Open a.current)
-    → LoadsShelf a image version shelf before b → LeadsToShelves b.known b.shelves
-led_loaded a b image version shelf before led there h =
+led_loaded : (a b : LoaderView) (image : ImageValue) (version shelf : ℕ) → LeadsToShelves a.known a.shelves
+    → (h : LoadsShelf a image version shelf b) → slice_get (set a.shelves shelf (Shelf.Open version)) h.former ≡ Some (Shelf.Open a.current)
+    → LeadsToShelves b.known b.shelves
+led_loaded a b image version shelf led h there =
     let first : List Shelf = set a.shelves shelf (Shelf.Open version) in
     let gathered = led_on a.shelves led refl h.gather (λ t u same step. ap (λ (x : State). x.shelves) step.1 ∙ same) in
     let opened = led_on first gathered refl h.opening (λ t u same step. ap (λ (x : State). x.shelves) step.3
@@ -135,9 +135,9 @@ led_loaded a b image version shelf before led there h =
     let published = led_on first opened refl h.publish (λ t u same step. ap (λ (x : State). x.shelves) step.2 ∙ same) in
     led_on b.shelves published refl h.close (λ t u same step.
     let both : Some (Shelf.Open step.0) ≡ Some (Shelf.Open a.current) =
-    sym (ap (λ (xs : List Shelf). slice_get xs before) (sym same) ∙ step.1.0) ∙ there in let one : step.0 ≡ a.current = cc in
-    ap (λ (x : State). x.shelves) step.2 ∙ (ap (λ n. set t.shelves before (Shelf.Closing n)) one
-    ∙ (ap (λ (xs : List Shelf). set xs before (Shelf.Closing a.current)) same ∙ sym h.shelves)))
+    sym (ap (λ (xs : List Shelf). slice_get xs h.former) (sym same) ∙ step.1.0) ∙ there in let one : step.0 ≡ a.current = cc in
+    ap (λ (x : State). x.shelves) step.2 ∙ (ap (λ n. set t.shelves h.former (Shelf.Closing n)) one
+    ∙ (ap (λ (xs : List Shelf). set xs h.former (Shelf.Closing a.current)) same ∙ sym h.shelves)))
 
 pub busy_known : (k count : ℕ) (u u' : View) → KnowsShelves u → FindsBusy k count u u' → KnowsShelves u'
 busy_known k count u u' led h = of_loaders (λ a b. FindsShelfBusy a k count b) (λ v v'. KnowsShelves v → KnowsShelves v') u u'
@@ -146,12 +146,13 @@ busy_known k count u u' led h = of_loaders (λ a b. FindsShelfBusy a k count b) 
 -- a load of the next version
 rests_loaded : (a b : LoaderView) (current current_shelf : ℕ) (shelves : List Shelf) (image : ImageValue)
     (shelf version : ℕ) → Rests current current_shelf shelves a → slice_get a.shelves shelf ≡ Some Shelf.Free
-    → version ≡ current + 1 → version ≤ 1000000000 → LoadsShelf a image version shelf current_shelf b
+    → version ≡ current + 1 → version ≤ most_versions → LoadsShelf a image version shelf b
     → Rests version shelf (set (set shelves shelf (Shelf.Open version)) current_shelf (Shelf.Closing current)) b
 rests_loaded a b current current_shelf shelves image shelf version rest free next few loaded =
     let free' : slice_get shelves shelf ≡ Some Shelf.Free = ap (λ (xs : List Shelf). slice_get xs shelf) (sym rest.shelves_are) ∙ free in
     let within = slice_get_within shelves shelf _ free' in
     let eight = rest.small.1 in
+    let former = loaded.former_is ∙ rest.current_shelf_is in
     let first : List Shelf = set shelves shelf (Shelf.Open version) in
     let long : length first ≡ 8 = length-set shelves shelf (Shelf.Open version) ∙ eight in
     let other : shelf ≢ current_shelf = λ e. let z : Some Shelf.Free ≡ Some (Shelf.Open current) =
@@ -163,7 +164,7 @@ rests_loaded a b current current_shelf shelves image shelf version rest free nex
       newest = loaded.current.0 ∙ (let z : version ≡ newest_of b = omega arith in z);
       current_is = loaded.current.0;
       current_shelf_is = loaded.current.1;
-      shelves_are = loaded.shelves ∙ (λ i. set (set (rest.shelves_are i) shelf (Shelf.Open version)) current_shelf (Shelf.Closing (rest.current_is i)));
+      shelves_are = loaded.shelves ∙ (λ i. set (set (rest.shelves_are i) shelf (Shelf.Open version)) (former i) (Shelf.Closing (rest.current_is i)));
       few = ((let f = rest.few.0 in omega arith), few);
       small = ((omega arith), length-set first current_shelf (Shelf.Closing current) ∙ long);
       stands = slice_get-set_other first current_shelf shelf (Shelf.Closing current) other ∙ slice_get-set_same shelves shelf (Shelf.Open version) within;
@@ -188,11 +189,11 @@ abbrev pub Remembers : ℕ → ℕ → List Shelf → View → Type 0
 Remembers current current_shelf shelves u = OfLoader u (λ l. Rests current current_shelf shelves l) × KnowsShelves u
 
 pub remembers_loaded : (current current_shelf : ℕ) (shelves : List Shelf) (image : ImageValue) (shelf version : ℕ) (u u' : View)
-    → Remembers current current_shelf shelves u → shelf_of u shelf ≡ Some Shelf.Free → version ≡ current + 1 → version ≤ 1000000000
-    → Loads shelf version current_shelf image u u'
+    → Remembers current current_shelf shelves u → shelf_of u shelf ≡ Some Shelf.Free → version ≡ current + 1 → version ≤ most_versions
+    → Loads shelf version image u u'
     → Remembers version shelf (set (set shelves shelf (Shelf.Open version)) current_shelf (Shelf.Closing current)) u'
 remembers_loaded current current_shelf shelves image shelf version u u' known free next few loads =
-    of_loaders (λ a b. LoadsShelf a image version shelf current_shelf b) (λ v v'. Remembers current current_shelf shelves v → shelf_of v shelf ≡ Some Shelf.Free
+    of_loaders (λ a b. LoadsShelf a image version shelf b) (λ v v'. Remembers current current_shelf shelves v → shelf_of v shelf ≡ Some Shelf.Free
     → Remembers version shelf (set (set shelves shelf (Shelf.Open version)) current_shelf (Shelf.Closing current)) v') u u' (λ a b loaded known free.
     let rest = known.0 in
     let stands : slice_get a.shelves current_shelf ≡ Some (Shelf.Open a.current) =
@@ -200,8 +201,9 @@ remembers_loaded current current_shelf shelves image shelf version u u' known fr
     let other : current_shelf ≢ shelf = λ e. let z : Some (Shelf.Open a.current) ≡ Some Shelf.Free =
     sym stands ∙ (ap (λ n. slice_get a.shelves n) e ∙ free) in cc in (
       rests_loaded a b current current_shelf shelves image shelf version rest free next few loaded,
-      led_loaded a b image version shelf current_shelf known.1
-          (slice_get-set_other a.shelves shelf current_shelf (Shelf.Open version) other ∙ stands) loaded,
+      led_loaded a b image version shelf known.1 loaded
+          (subst (λ k. slice_get (set a.shelves shelf (Shelf.Open version)) k ≡ Some (Shelf.Open a.current)) (sym (loaded.former_is ∙ rest.current_shelf_is))
+          (slice_get-set_other a.shelves shelf current_shelf (Shelf.Open version) other ∙ stands)),
     )) loads known free
 
 -- a closing shelf that was freed leaves the rest as it was
@@ -244,25 +246,25 @@ tries_stay zero n u u' freed busy f b less t = t
 tries_stay (suc k) n u u' freed busy f b less t = (
   t.0,
   tries_stay k n u t.0 freed busy f b (omega arith) t.1,
-  subst (λ x. TriedShelf k (shelf_of t.0 k) t.0 x (get_or (set busy n b) k 0) u') (sym (get_or-set_other freed n k f false (λ e. omega arith)))
-      (subst (λ x. TriedShelf k (shelf_of t.0 k) t.0 (get_or freed k false) x u') (sym (get_or-set_other busy n k b 0 (λ e. omega arith))) t.2),
+  subst (λ x. TriedShelf k (shelf_of t.0 k) t.0 (x, get_or (set busy n b) k 0) u') (sym (get_or-set_other freed n k f false (λ e. omega arith)))
+      (subst (λ x. TriedShelf k (shelf_of t.0 k) t.0 (get_or freed k false, x) u') (sym (get_or-set_other busy n k b 0 (λ e. omega arith))) t.2),
 )
 
 pub one_more_try : (k : ℕ) (u mid u' : View) (freed : List Bool) (busy : List ℕ) (f : Bool) (b : ℕ) → k < length freed
-    → k < length busy → TriesBelow k u freed busy mid → TriedShelf k (shelf_of mid k) mid f b u'
+    → k < length busy → TriesBelow k u freed busy mid → TriedShelf k (shelf_of mid k) mid (f, b) u'
     → TriesBelow (k + 1) u (set freed k f) (set busy k b) u'
 one_more_try k u mid u' freed busy f b l1 l2 t new =
     let e : suc k ≡ k + 1 = omega arith in
     subst (λ n. TriesBelow n u (set freed k f) (set busy k b) u') e (
       mid,
       tries_stay k k u mid freed busy f b (omega arith) t,
-      subst (λ x. TriedShelf k (shelf_of mid k) mid x (get_or (set busy k b) k 0) u')
+      subst (λ x. TriedShelf k (shelf_of mid k) mid (x, get_or (set busy k b) k 0) u')
           (sym (get_or-set_same freed k f false l1))
-          (subst (λ x. TriedShelf k (shelf_of mid k) mid f x u') (sym (get_or-set_same busy k b 0 l2)) new),
+          (subst (λ x. TriedShelf k (shelf_of mid k) mid (f, x) u') (sym (get_or-set_same busy k b 0 l2)) new),
     )
 
 -- a try at a shelf that doesn't free it finds it in use, if it is closing, and nobody there, if it is open
-found_at : (k : ℕ) (s : Option Shelf) (u : View) (f : Bool) (b : ℕ) (u' : View) → TriedShelf k s u f b u'
+found_at : (k : ℕ) (s : Option Shelf) (u : View) (f : Bool) (b : ℕ) (u' : View) → TriedShelf k s u (f, b) u'
     → ((v : ℕ) → s ≡ Some (Shelf.Closing v) → (f ≡ true) ⊎ (0 < b)) × ((v : ℕ) → s ≡ Some (Shelf.Open v) → b ≡ 0)
 found_at k (Some (Shelf.Closing v)) u true b u' t = ((λ x e. inl refl), (λ x e. absurd (cc)))
 found_at k (Some (Shelf.Closing v)) u false b u' t =
@@ -295,7 +297,7 @@ each_closing current current_shelf shelves (View.Loading l) u' found known t =
     }
 each_closing current current_shelf shelves _ u' found known t = absurd known.0
 
-pub unspent : (current current_shelf : ℕ) (shelves : List Shelf) (u : View) → Remembers current current_shelf shelves u → current < 1000000000 → IsUnspent u
+pub unspent : (current current_shelf : ℕ) (shelves : List Shelf) (u : View) → Remembers current current_shelf shelves u → current < most_versions → IsUnspent u
 unspent current current_shelf shelves (View.Loading l) known less = let e = known.0.current_is in omega arith
 unspent current current_shelf shelves _ known less = absurd known.0
 

@@ -90,7 +90,7 @@ tries_join P u v w a b = record {
 
 -- one try at a shelf
 tried : (P : ℕ → Type 0) (k : ℕ) (s : Option Shelf) (u : View) (f : Bool) (b : ℕ) (u' : View)
-    → ((f ≡ true) ⊎ (0 < b) → P k) → TriedShelf k s u f b u' → Tries P u u'
+    → ((f ≡ true) ⊎ (0 < b) → P k) → TriedShelf k s u (f, b) u' → Tries P u u'
 tried P k (Some (Shelf.Closing v)) u true b u' at t = of_loaders (λ x y. FreesShelf x k y) (λ x y. Tries P x y) u u' (λ x y h. record {
   grows = growths_join x.known h.freed y.known (happened_grows x.known h.freed _ _ h.collect) (happened_grows h.freed y.known _ _ h.put_back);
   only = only_join P x.known h.freed y.known (one_try P k x.known Reply.Freed h.freed (at (inl refl)) h.collect)
@@ -119,7 +119,7 @@ pub record TriedOnce (k : ℕ) (u : View) (f : Bool) (b : ℕ) (u' : View) : Typ
   pub first : View
   pub last : View
   pub before : Tries (λ j. j ≢ k) u first
-  pub here : TriedShelf k (shelf_of first k) first f b last
+  pub here : TriedShelf k (shelf_of first k) first (f, b) last
   pub after : Tries (λ j. j ≢ k) last u'
 
 pub tried_once : (n : ℕ) (u : View) (freed : List Bool) (busy : List ℕ) (u' : View) → TriesBelow n u freed busy u' → (k : ℕ) → k < n
@@ -144,7 +144,7 @@ tried_once (suc n) u freed busy u' t k less = dite (ℕ_discrete k n)
     })
 
 -- where workers were found, the try counted them
-busy_try : (k : ℕ) (s : Option Shelf) (u : View) (f : Bool) (b : ℕ) (u' : View) → 0 < b → TriedShelf k s u f b u'
+busy_try : (k : ℕ) (s : Option Shelf) (u : View) (f : Bool) (b : ℕ) (u' : View) → 0 < b → TriedShelf k s u (f, b) u'
     → Happened (known_of u) (Event.Collect k) (Reply.Busy b) (known_of u')
 busy_try k (Some (Shelf.Closing v)) u true b u' some t = absurd (let z = t.0 in omega arith)
 busy_try k (Some (Shelf.Closing v)) u false b u' some t = of_loaders (λ x y. FindsShelfBusy x k b y)
@@ -159,7 +159,7 @@ record FreesOnce (k : ℕ) (u : View) (b : ℕ) (u' : View) : Type 0 where
   pub free : shelf_of u' k ≡ Some Shelf.Free
   pub empty : b ≡ 0
 
-free_try : (k : ℕ) (s : Option Shelf) (u : View) (f : Bool) (b : ℕ) (u' : View) → f ≡ true → shelf_of u k ≡ s → TriedShelf k s u f b u' → FreesOnce k u b u'
+free_try : (k : ℕ) (s : Option Shelf) (u : View) (f : Bool) (b : ℕ) (u' : View) → f ≡ true → shelf_of u k ≡ s → TriedShelf k s u (f, b) u' → FreesOnce k u b u'
 free_try k (Some (Shelf.Closing v)) u true b u' is at t = of_loaders (λ x y. FreesShelf x k y)
     (λ x y. shelf_of x k ≡ Some (Shelf.Closing v) → FreesOnce k x b y) u u' (λ x y h closing. record {
       freed = h.freed;

@@ -1,5 +1,5 @@
 -- What is pinned at shelves without a lock is left alone, and their seats know beginnings of one history.
-use Rattle.std.specs.Prelude.{◌≡◌, ◌≢◌, ℕ, ◌+◌, ◌*◌, [], ◌∷◌, Some, slice_index}
+use Rattle.std.specs.Prelude.{◌≡◌, ◌≢◌, ℕ, ◌+◌, [], ◌∷◌, Some, slice_index}
 use mathlib.Core.Option.{some, none}
 use lib.ListN.{get_elem?}
 use Rattle.image_layout.specs.Image.{ImageValue}
@@ -7,7 +7,9 @@ use Rattle.version_core.specs.Invariants.{version_on}
 use Rattle.shelf_steps.specs.declared.views.View.{View}
 use Rattle.shelf_steps.specs.EventHistory.{NeverFreedSince, all_of, image_of}
 use Rattle.shelf_steps.specs.Events.{known_of}
+use Rattle.shelf_steps.specs.Plays.{closing_word}
 use Rattle.shelf_steps.specs.Rule.{KeepsRule}
+use Rattle.shelf_steps.specs.Slots.{slot_at}
 use Rattle.shelf_steps.specs.Laws.{Shelved}
 use Rattle.shelves.specs.SeatHistory.{Grows, IsPublished}
 use Rattle.shelves.specs.ShelfSeats.{ShelfSeatValue, ShowsWhatItKnows}
@@ -19,10 +21,10 @@ pub record IsLeftAlone (seat : ShelfSeatValue) (version : ℕ) (image : ImageVal
   pub shelf : ℕ
   pub stands : version_on r.loader.shelves shelf ≡ Some version
   pub published : image_of r.loader.known.images version ≡ Some image
-  pub slot : seat.slots ≡ (16 * shelf + seat.number) ∷ []
-  pub out : get_elem? table.homes (16 * shelf + seat.number) ≡ some none
+  pub slot : seat.slots ≡ slot_at shelf seat.number ∷ []
+  pub out : get_elem? table.homes (slot_at shelf seat.number) ≡ some none
   pub not_loaders : r.loader.hand ≢ Some shelf
-  pub in_use : (v : ℕ) → slice_index table.words (shelf + 1) ≢ 512 + 65536 * v
+  pub in_use : (v : ℕ) → slice_index table.words (shelf + 1) ≢ closing_word v
   pub never_freed : NeverFreedSince shelf (known_of seat.view) r.history
 
 -- while this seat shows that it holds a version, that version is left alone, at each moment between two steps of any seats

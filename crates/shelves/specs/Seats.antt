@@ -2,6 +2,7 @@
 use Rattle.std.specs.Prelude.{◌≡◌, ◌≢◌, ℕ, ◌+◌, ◌<◌, ◌≤◌, max, true, slice_get, slice_index, List, [], ◌∷◌, ◌++◌, Option, Some, None, Result, Ok, Err}
 use Rattle.std.specs.declared.snapshot.Snapshot.{Snapshot}
 use Rattle.image_layout.specs.Image.{ImageValue}
+use Rattle.version_core.specs.State.{most_versions}
 use Rattle.shelves.specs.declared.collected.Collected.{Collected}
 use Rattle.shelves.specs.declared.faults.PinFault.{PinFault}
 use Rattle.shelves.specs.declared.faults.PublishFault.{PublishFault}
@@ -53,7 +54,7 @@ ShowsJoin a version b = b ≡ record a { seen = max a.seen version }
 
 -- a loader's seat shows its answers so far: from one list to the next, by a publish of this image as this version
 abbrev pub ShowsPublish : List LoaderAnswer → ImageValue → ℕ → List LoaderAnswer → Type 0
-ShowsPublish a image version b = (1 < version) × (version ≤ 1000000000)
+ShowsPublish a image version b = (1 < version) × (version ≤ most_versions)
     × ((shown : Snapshot ImageValue) × (shown.value ≡ image) × (b ≡ a ++ LoaderAnswer.Published version shown ∷ []))
 
 -- workers are at every shelf but one, the current one

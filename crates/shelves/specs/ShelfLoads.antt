@@ -2,7 +2,7 @@
 use Rattle.std.specs.Prelude.{◌≡◌, ◌≢◌, ℕ, zero, suc, ◌+◌, ◌<◌, ◌≤◌, ◌⊎◌, Bool, true, false, List, [], length, slice_get, slice_index_or, Option, Some, None}
 use Rattle.atomic_table.specs.Seated.{TableId}
 use Rattle.version_core.specs.declared.state.Shelf.{Shelf}
-use Rattle.version_core.specs.State.{State, start}
+use Rattle.version_core.specs.State.{State, most_versions, start}
 use Rattle.version_core.specs.Runs.{Run}
 use Rattle.shelf_steps.specs.declared.views.KnownHistory.{KnownHistory}
 use Rattle.shelf_steps.specs.declared.views.LoaderView.{LoaderView}
@@ -32,11 +32,11 @@ pub record Rests (current current_shelf : ℕ) (shelves : List Shelf) (l : Loade
   pub current_is : l.current ≡ current
   pub current_shelf_is : l.current_shelf ≡ current_shelf
   pub shelves_are : l.shelves ≡ shelves
-  pub few : (0 < current) × (current ≤ 1000000000)
+  pub few : (0 < current) × (current ≤ most_versions)
   pub small : (current_shelf < 8) × (length shelves ≡ 8)
   pub stands : slice_get shelves current_shelf ≡ Some (Shelf.Open current)
   pub one_open : (k v : ℕ) → slice_get shelves k ≡ Some (Shelf.Open v) → k ≡ current_shelf
-  pub closing : (k v : ℕ) → slice_get shelves k ≡ Some (Shelf.Closing v) → v ≤ 1000000000
+  pub closing : (k v : ℕ) → slice_get shelves k ≡ Some (Shelf.Closing v) → v ≤ most_versions
 
 -- what is known leads to a state, and each state to which it leads has these shelves
 pub record LeadsToShelves (known : KnownHistory) (shelves : List Shelf) : Type 0 where
@@ -51,11 +51,11 @@ KnowsShelves u = OfLoader u (λ l. LeadsToShelves l.known l.shelves)
 abbrev pub RestsHere : ℕ → ℕ → List Shelf → SeatAndSlots → Type 0
 RestsHere current current_shelf shelves m = OfLoader m.0 (λ l. Rests current current_shelf shelves l) × (m.1 ≡ []) × KnowsShelves m.0
 
--- a try at the shelf, if it is closing, and what it found
-abbrev pub TriedShelf : ℕ → Option Shelf → View → Bool → ℕ → View → Type 0
-TriedShelf k (Some (Shelf.Closing v)) u true busy u' = (busy ≡ 0) × Frees k u u'
-TriedShelf k (Some (Shelf.Closing v)) u false busy u' = FindsBusy k busy u u'
-TriedShelf k _ u freed busy u' = (freed ≡ false) × (busy ≡ 0) × (u' ≡ u)
+-- a try at the shelf, if it is closing, and what it found: whether it was freed, and how many workers were late at it or held it
+abbrev pub TriedShelf : ℕ → Option Shelf → View → Bool × ℕ → View → Type 0
+TriedShelf k (Some (Shelf.Closing v)) u (true, busy) u' = (busy ≡ 0) × Frees k u u'
+TriedShelf k (Some (Shelf.Closing v)) u (false, busy) u' = FindsBusy k busy u u'
+TriedShelf k _ u (freed, busy) u' = (freed ≡ false) × (busy ≡ 0) × (u' ≡ u)
 
 abbrev pub shelf_of : View → ℕ → Option Shelf
 shelf_of (View.Loading l) k = slice_get l.shelves k
@@ -65,7 +65,7 @@ shelf_of _ k = None
 abbrev pub TriesBelow : ℕ → View → List Bool → List ℕ → View → Type 0
 TriesBelow zero u freed busy u' = u' ≡ u
 TriesBelow (suc k) u freed busy u' = (mid : View) × TriesBelow k u freed busy mid
-    × TriedShelf k (shelf_of mid k) mid (slice_index_or freed k false) (slice_index_or busy k 0) u'
+    × TriedShelf k (shelf_of mid k) mid (slice_index_or freed k false, slice_index_or busy k 0) u'
 
 -- a try at each of the eight shelves that is closing, by the loader's view and by the history that it knows
 abbrev pub CollectsBySteps : View → Collected → View → Type 0
@@ -86,7 +86,7 @@ MakesRoomBySteps u u' = (HasFree u × (u' ≡ u)) ⊎ ((¬ (HasFree u)) × ((fou
 
 -- the image is the next version, on the least free shelf
 abbrev pub PublishesBySteps : View → ImageValue → ℕ → View → Type 0
-PublishesBySteps u image version u' = (shelf before : ℕ) × IsLeastFree u shelf × Loads shelf version before image u u'
+PublishesBySteps u image version u' = (shelf : ℕ) × IsLeastFree u shelf × Loads shelf version image u u'
 
 -- the same, and then one notice of the version goes out
 abbrev pub PublishesWithNotice : View → ImageValue → ℕ → View → Type 0
@@ -99,17 +99,17 @@ AreFull u counts = OfLoader u (λ l. (l.current_shelf < 8) × (slice_index_or co
 
 -- a version number is left
 abbrev pub IsUnspent : View → Type 0
-IsUnspent u = OfLoader u (λ l. l.current < 1000000000)
+IsUnspent u = OfLoader u (λ l. l.current < most_versions)
 
 -- a publish is refused with VersionsSpent only if the last version is current, and with another fault only if it isn't
 abbrev pub IsSpentAt : ℕ → PublishFault → Type 0
-IsSpentAt current PublishFault.VersionsSpent = current ≡ 1000000000
-IsSpentAt current _ = current < 1000000000
+IsSpentAt current PublishFault.VersionsSpent = current ≡ most_versions
+IsSpentAt current _ = current < most_versions
 
 -- no version number is left; or the counts of workers at each shelf but the current one are those that the tries of this call found; or there was no
 -- memory, before a shelf was opened
 abbrev pub RefusesBySteps : View → PublishFault → View → Type 0
-RefusesBySteps u PublishFault.VersionsSpent u' = OfLoader u (λ l. l.current ≡ 1000000000) × (u' ≡ u)
+RefusesBySteps u PublishFault.VersionsSpent u' = OfLoader u (λ l. l.current ≡ most_versions) × (u' ≡ u)
 RefusesBySteps u PublishFault.OutOfMemory u' = IsUnspent u × MakesRoomBySteps u u' × HasFree u'
 RefusesBySteps u (PublishFault.ShelvesFull counts) u' =
     IsUnspent u × (¬ (HasFree u)) × ((found : Collected) × CollectsBySteps u found u' × (counts ≡ found.busy))

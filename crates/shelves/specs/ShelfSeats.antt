@@ -8,6 +8,7 @@ use Rattle.shelf_steps.specs.declared.views.View.{View}
 use Rattle.version_core.specs.declared.state.Worker.{Worker}
 use Rattle.shelf_steps.specs.declared.views.WorkerView.{WorkerView}
 use Rattle.shelf_steps.specs.Plays.{SeatAndSlots, OfWorker, newcomer, joins_notice}
+use Rattle.shelf_steps.specs.Slots.{slot_at}
 use Rattle.shelf_steps.specs.Pinning.{Pins, Moves, Releases, IsIdleAs, IsHoldingAs}
 use Rattle.shelves.specs.declared.faults.PinFault.{PinFault}
 use Rattle.shelves.specs.Seats.{SeatValue, ShowsPin, ShowsRelease, ShowsJoin}
@@ -50,7 +51,7 @@ pub record HoldsByView (a : ShelfSeatValue) (version : ℕ) (image : ImageValue)
   pub number : worker.number ≡ a.number
   pub now : worker.now ≡ Worker.Holding shelf version
   pub edition : (e : Edition) × (worker.edition ≡ Some e) × (e.version ≡ version) × (arc_value e.image ≡ image)
-  pub slot : a.slots ≡ (16 * shelf + a.number) ∷ []
+  pub slot : a.slots ≡ slot_at shelf a.number ∷ []
 
 -- the seat shows what it knows: its worker holds what the seat shows as held; if that is nothing, the worker is idle, and no slot is out with the
 -- seat

@@ -1,6 +1,7 @@
 -- What contracts say of workers' seats, of notices and of the loader's seat, at any shelves.
-use Rattle.std.specs.Prelude.{ℕ, List}
+use Rattle.std.specs.Prelude.{◌≡◌, ℕ, List}
 use Rattle.shelf_steps.specs.declared.views.KnownHistory.{KnownHistory}
+use Rattle.shelves.specs.SeatHistory.{Grows}
 use Rattle.shelves.specs.Seats.{SeatValue}
 use Rattle.shelves.specs.declared.answers.LoaderAnswer.{LoaderAnswer}
 
@@ -16,3 +17,14 @@ pub record LoaderWords (T L : Type 0) : Type 1 where
   pub answers : L → List LoaderAnswer  -- what it was answered so far
   pub current : L → ℕ  -- the current version, as it knows it
   pub known : L → KnownHistory  -- what it knows of the one history of its shelves: a beginning of it, which only grows
+
+-- what each call leaves of a worker's seat: it may be used at these shelves, has its number, and knows all that it knew
+pub record StillFits {T S N : Type 0} (words : SeatWords T S N) (shelves : T) (a b : S) : Type 0 where
+  pub fits : words.fits shelves b
+  pub number : words.number b ≡ words.number a
+  pub grows : Grows (words.known a) (words.known b)
+
+-- what each call leaves of the loader's seat: it may be used at these shelves, and knows all that it knew
+pub record LoaderStillFits {T L : Type 0} (words : LoaderWords T L) (shelves : T) (a b : L) : Type 0 where
+  pub fits : words.fits shelves b
+  pub grows : Grows (words.known a) (words.known b)

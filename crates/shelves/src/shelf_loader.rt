@@ -5,6 +5,7 @@ ghost use Rattle.std.specs.Prelude.{MatchOption, MatchResult};
 ghost use Rattle.std.specs.Arc.{arc_value};
 ghost use Rattle.image_layout.specs.Image.{ImageValue};
 ghost use Rattle.version_core.specs.declared.state.Shelf.{Shelf};
+ghost use Rattle.version_core.specs.State.{most_versions};
 ghost use Rattle.shelf_steps.specs.Handed.{handed};
 ghost use Rattle.shelf_steps.specs.Loading.{Loads};
 ghost use Rattle.shelf_steps.specs.Plays.{gives_notice};
@@ -141,7 +142,7 @@ impl ShelfLoader {
     ) -> Result<u64, PublishFault>
         requires { self.old.table ≡ table.now }
         ensures table { (self.new.table ≡ self.old.table) × (self.new.answers ≡ self.old.answers) }
-        ensures next { IfOk result (λ v. IsNext self.old v self.new × (1 < v) × (v ≤ 1000000000)) }
+        ensures next { IfOk result (λ v. IsNext self.old v self.new × (1 < v) × (v ≤ most_versions)) }
         ensures published { IfOk result (λ v. (room : View) × MakesRoomBySteps self.old.view room
             × PublishesBySteps room (arc_value image.now) v self.new.view) }
         ensures known { IfOk result (λ v. IsPublished (known_of self.new.view) v (arc_value image.now)) }
@@ -165,7 +166,7 @@ impl ShelfLoader {
     // many workers are at each closing one.
     fn make_room(&mut self, table: &ShelfTable) -> Result<usize, [u8; 8]>
         requires table { self.old.table ≡ table.now }
-        requires left { self.old.current < 1000000000 }
+        requires left { self.old.current < most_versions }
         ensures table { (self.new.table ≡ self.old.table) × (self.new.current ≡ self.old.current)
             × (self.new.answers ≡ self.old.answers) }
         ensures room { IfOk result (λ k. (k < 8) × IsLeastFree self.new.view k
@@ -215,29 +216,28 @@ impl ShelfLoader {
         image: &Arc<Verified, Global>,
     ) -> Result<u64, AllocError>
         requires table { self.old.table ≡ table.now }
-        requires left { self.old.current < 1000000000 }
+        requires left { self.old.current < most_versions }
         requires free { (shelf < 8) × (shelf_of self.old.view shelf ≡ Some Shelf.Free) }
         ensures table { (self.new.table ≡ self.old.table) × (self.new.answers ≡ self.old.answers) }
-        ensures next { IfOk result (λ v. IsNext self.old v self.new × (1 < v) × (v ≤ 1000000000)) }
-        ensures loads { IfOk result (λ version. (before : ℕ)
-            × Loads shelf version before (arc_value image.now) self.old.view self.new.view) }
+        ensures next { IfOk result (λ v. IsNext self.old v self.new × (1 < v) × (v ≤ most_versions)) }
+        ensures loads { IfOk result (λ version. Loads shelf version (arc_value image.now) self.old.view self.new.view) }
         ensures known { IfOk result (λ v. IsPublished (known_of self.new.view) v (arc_value image.now)) }
         ensures refused { OnErr result (self.new ≡ self.old) }
     {
         let version = self.current + 1;
-        let before = self.current_shelf;
+        let former = self.current_shelf;
         match load(
             table,
             &mut self.table_seat,
             alloc,
             shelf,
             version,
-            before,
+            former,
             image,
         ) {
             Ok(()) => {
                 self.shelves[shelf] = Shelf::Open { version };
-                self.shelves[before] = Shelf::Closing {
+                self.shelves[former] = Shelf::Closing {
                     version: self.current,
                 };
                 self.current = version;
@@ -272,7 +272,7 @@ impl ShelfLoader {
         requires { (self.old.table ≡ table.now) × (shelf < 8) }
         ensures table { (self.new.table ≡ self.old.table) × (self.new.current ≡ self.old.current)
             × (self.new.answers ≡ self.old.answers) }
-        ensures tried { TriedShelf shelf (shelf_of self.old.view shelf) self.old.view result.0 result.1 self.new.view }
+        ensures tried { TriedShelf shelf (shelf_of self.old.view shelf) self.old.view result self.new.view }
     {
         let Shelf::Closing { version } = self.shelves[shelf] else {
             return (false, 0);

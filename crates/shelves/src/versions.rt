@@ -4,10 +4,10 @@ ghost use Rattle.std.specs.Prelude.{◌≡◌, ◌+◌, None, Some, MatchOption,
 ghost use Rattle.std.specs.Arc.{arc_value};
 ghost use Rattle.shelves.specs.Seats.{ShowsPin, ShowsRelease, ShowsJoin, ShowsPublish, ShowsRefusal, ShowsCollection};
 ghost use Rattle.shelves.specs.Seats.{KnowsItsSeats};
-ghost use Rattle.shelves.specs.SeatHistory.{Grows, HoldsAsKnown, EndsPin, EndsRelease, IsPublished, EndsPublish};
+ghost use Rattle.shelves.specs.SeatHistory.{HoldsAsKnown, EndsPin, EndsRelease, IsPublished, EndsPublish};
 ghost use Rattle.shelves.specs.SeatHistory.{FindsByTries, EachClosingIsTried, IsFullByTries, EndsRefused};
 ghost use Rattle.shelves.specs.ShelfLoads.{IsSpentAt};
-ghost use Rattle.shelves.specs.Words.{LoaderWords, SeatWords};
+ghost use Rattle.shelves.specs.Words.{LoaderStillFits, LoaderWords, SeatWords, StillFits};
 
 use crate::collected::Collected;
 use crate::faults::{PinFault, PublishFault};
@@ -31,12 +31,10 @@ pub trait Versions {
     /// `newest`.
     fn pin(&self, seat: &mut Self::Seat) -> Result<(), PinFault>
         requires { words.fits self.now seat.old }
-        ensures fits { words.fits self.now seat.new }
-        ensures number { words.number seat.new ≡ words.number seat.old }
+        ensures still { StillFits words self.now seat.old seat.new }
         ensures pin { ShowsPin (words.shown seat.old) result (words.shown seat.new) }
         ensures refused { IfErr result KnowsItsSeats }
         ensures known { HoldsAsKnown (words.known seat.new) (words.number seat.new) (words.shown seat.new).held }
-        ensures grows { Grows (words.known seat.old) (words.known seat.new) }
         ensures ends { EndsPin (words.known seat.old) (words.number seat.old) result (words.shown seat.new).held
             (words.known seat.new) };
 
@@ -50,19 +48,16 @@ pub trait Versions {
     /// Releases the version that the seat holds; refused with `NotPinned` if it holds none.
     fn release(&self, seat: &mut Self::Seat) -> Result<(), PinFault>
         requires { words.fits self.now seat.old }
-        ensures fits { words.fits self.now seat.new }
-        ensures number { words.number seat.new ≡ words.number seat.old }
+        ensures still { StillFits words self.now seat.old seat.new }
         ensures release { ShowsRelease (words.shown seat.old) result (words.shown seat.new) }
         ensures refused { IfErr result KnowsItsSeats }
-        ensures grows { Grows (words.known seat.old) (words.known seat.new) }
         ensures ends { EndsRelease (words.known seat.old) (words.number seat.old) result (words.known seat.new) };
 
     /// Takes in the notice: from now on the seat has seen its version. Nothing else changes, and the seat learns
     /// nothing of the history.
     fn join(&self, seat: &mut Self::Seat, notice: Self::Notice)
         requires { words.fits self.now seat.old }
-        ensures fits { words.fits self.now seat.new }
-        ensures number { words.number seat.new ≡ words.number seat.old }
+        ensures still { StillFits words self.now seat.old seat.new }
         ensures join { ShowsJoin (words.shown seat.old) (words.version notice) (words.shown seat.new) }
         ensures same { words.known seat.new ≡ words.known seat.old };
 
@@ -87,7 +82,7 @@ pub trait Loads: Versions {
         image: Arc<Verified, Global>,
     ) -> Result<(u64, Option<Self::Notice>), (Arc<Verified, Global>, PublishFault)>
         requires { words.fits self.now loader.old }
-        ensures loads { words.fits self.now loader.new }
+        ensures still { LoaderStillFits words self.now loader.old loader.new }
         ensures back { IfErr result (λ e. e.0 ≡ image) }
         ensures current { MatchResult result (λ r. words.current loader.new ≡ r.0) (λ _. words.current loader.new
             ≡ words.current loader.old) }
@@ -100,16 +95,14 @@ pub trait Loads: Versions {
         ensures refused { IfErr result (λ _. EndsRefused (words.known loader.old) (words.known loader.new)) }
         ensures notice { IfOk result (λ r. MatchOption r.1 ⊥ (λ n. Self.Versions.words.version n ≡ r.0)) }
         ensures published { IfOk result (λ r. IsPublished (words.known loader.new) r.0 (arc_value image)) }
-        ensures grows { Grows (words.known loader.old) (words.known loader.new) }
         ensures ends { IfOk result (λ r. EndsPublish (words.known loader.old) r.0 (words.known loader.new)) };
 
     /// Tries each closing shelf once, and frees it if no worker is there.
     fn collect(&self, loader: &mut Self::Loader) -> Collected
         requires { words.fits self.now loader.old }
-        ensures loads { words.fits self.now loader.new }
+        ensures still { LoaderStillFits words self.now loader.old loader.new }
         ensures current { words.current loader.new ≡ words.current loader.old }
         ensures loader { ShowsCollection (words.answers loader.old) result (words.answers loader.new) }
-        ensures grows { Grows (words.known loader.old) (words.known loader.new) }
         ensures tries { FindsByTries (words.known loader.old) result (words.known loader.new) }
         ensures all { EachClosingIsTried (words.known loader.old) result };
 }

@@ -9,6 +9,7 @@ use Rattle.std.specs.Option.{option_and_then}
 use Rattle.std.proofs.lemmas.Option.{slice_get_within}
 use Rattle.reasoning.proofs.ListLemmas.{slice_get-set_same, slice_get-set_other}
 use Rattle.image_layout.specs.Image.{ImageValue}
+use Rattle.version_core.specs.State.{most_versions}
 use Rattle.version_core.specs.declared.state.Shelf.{Shelf}
 use Rattle.version_core.specs.declared.state.Worker.{Worker}
 use Rattle.version_core.specs.Invariants.{version_on, version_of}
@@ -74,7 +75,7 @@ taken version k true = Worker.Holding k version
 taken version k false = Worker.Late k
 
 found_so : (v : WorkerView) (c : List (ℕ × Option Edition)) (version k n : ℕ) (b : Bool) (m' : SeatAndSlots) → k < 8 → c ≡ []
-    → TakesFound v c version k n b m' → DoesSo (taken version k b) m'
+    → TakesFound (v, c) (version, k) n b m' → DoesSo (taken version k b) m'
 found_so v c version k n true m' small empty t =
     subst (λ (m : SeatAndSlots). DoesSo (Worker.Holding k version) m) (sym t.2) (
       refl,
@@ -89,8 +90,8 @@ after_take (View.Loading l) c version k n b m' h take is = absurd h
 after_take (View.Noting x') c version k n b m' h take is = absurd h
 after_take View.Spent c version k n b m' h take is = absurd h
 after_take (View.Working v) c version k n b m' h take is =
-    let t : TakesFound v c version k n (is_open n version) m' = subst (λ (w : Worker). Rattle.shelf_steps.specs.Plays.TakesAs v c w n m') h.0 take in
-    found_so v c version k n b m' h.1.0 h.1.1 (subst (λ x. TakesFound v c version k n x m') is t)
+    let t : TakesFound (v, c) (version, k) n (is_open n version) m' = subst (λ (w : Worker). Rattle.shelf_steps.specs.Plays.TakesAs v c w n m') h.0 take in
+    found_so v c version k n b m' h.1.0 h.1.1 (subst (λ x. TakesFound (v, c) (version, k) n x m') is t)
 
 pub held_so : (m m' : SeatAndSlots) (version k n : ℕ) → DoesSo (Worker.Looked version k) m → Takes m n m'
     → is_open n version ≡ true → DoesSo (Worker.Holding k version) m'
@@ -130,7 +131,7 @@ known_after shelves k x top top' within up known new j v is = dite (ℕ_discrete
 filled_of : (k current newest : ℕ) (shelves : List Shelf) (image : ImageValue) (f : ℕ
     → Option Edition) (u : View) (c : List (ℕ × Option Edition)) (m1 m2 : SeatAndSlots)
     → RemembersSo current newest shelves (u, c) → slice_get shelves k ≡ Some Shelf.Free
-    → current ≡ newest → newest < 1000000000 → AllHave (newest + 1) image k f → GathersOn k (u, c) m1
+    → current ≡ newest → newest < most_versions → AllHave (newest + 1) image k f → GathersOn k (u, c) m1
     → m2 ≡ (m1.0, down_from f (16 * k) 16 []) → MayOpenOn k (newest + 1) m2.0 m2.1
 filled_of k current newest shelves image f (View.Working v) c m1 m2 h free same left all g filled = absurd h.0
 filled_of k current newest shelves image f (View.Noting x') c m1 m2 h free same left all g filled = absurd h.0
@@ -149,14 +150,14 @@ filled_of k current newest shelves image f (View.Loading l) c m1 m2 h free same 
 
 pub may_open_so : (k current newest : ℕ) (shelves : List Shelf) (image : ImageValue) (f : ℕ
     → Option Edition) (m m1 m2 : SeatAndSlots) → RemembersSo current newest shelves m → slice_get shelves k ≡ Some Shelf.Free
-    → current ≡ newest → newest < 1000000000 → AllHave (newest + 1) image k f → GathersOn k m m1
+    → current ≡ newest → newest < most_versions → AllHave (newest + 1) image k f → GathersOn k m m1
     → m2 ≡ (m1.0, down_from f (16 * k) 16 []) → MayOpenOn k (newest + 1) m2.0 m2.1
 may_open_so k current newest shelves image f m m1 m2 h free same left all g filled =
     filled_of k current newest shelves image f m.0 m.1 m1 m2 h free same left all g filled
 
 open_of : (k current newest : ℕ) (shelves : List Shelf) (f : ℕ
     → Option Edition) (u : View) (c : List (ℕ × Option Edition)) (m1 m2 m3 : SeatAndSlots)
-    → RemembersSo current newest shelves (u, c) → k < 8 → newest < 1000000000
+    → RemembersSo current newest shelves (u, c) → k < 8 → newest < most_versions
     → GathersOn k (u, c) m1 → m2 ≡ (m1.0, down_from f (16 * k) 16 []) → OpensOn k m2 m3
     → RemembersSo current (newest + 1) (set shelves k (Shelf.Open (newest + 1))) m3
 open_of k current newest shelves f (View.Working v) c m1 m2 m3 h small left g filled o = absurd h.0
@@ -183,14 +184,14 @@ open_of k current newest shelves f (View.Loading l) c m1 m2 m3 h small left g fi
     )
 
 pub opened_so : (k current newest : ℕ) (shelves : List Shelf) (f : ℕ → Option Edition) (m m1 m2 m3 : SeatAndSlots)
-    → RemembersSo current newest shelves m → k < 8 → newest < 1000000000
+    → RemembersSo current newest shelves m → k < 8 → newest < most_versions
     → GathersOn k m m1 → m2 ≡ (m1.0, down_from f (16 * k) 16 []) → OpensOn k m2 m3
     → RemembersSo current (newest + 1) (set shelves k (Shelf.Open (newest + 1))) m3
 opened_so k current newest shelves f m m1 m2 m3 h small left g filled o = open_of k current newest shelves f m.0 m.1 m1 m2 m3 h small left g filled o
 
 publish_of : (k version current newest : ℕ) (shelves : List Shelf) (u : View) (c : List (ℕ × Option Edition))
     → RemembersSo current newest shelves (u, c) → slice_get shelves k ≡ Some (Shelf.Open version) → current < version
-    → (version ≤ 1000000000) × MayPublish version k u × ((m' : SeatAndSlots) → PublishesOn version k (u, c) m' → RemembersSo version newest shelves m')
+    → (version ≤ most_versions) × MayPublish version k u × ((m' : SeatAndSlots) → PublishesOn version k (u, c) m' → RemembersSo version newest shelves m')
 publish_of k version current newest shelves (View.Working v) c h is later = absurd h.0
 publish_of k version current newest shelves (View.Noting x') c h is later = absurd h.0
 publish_of k version current newest shelves View.Spent c h is later = absurd h.0
@@ -216,7 +217,7 @@ publish_of k version current newest shelves (View.Loading l) c h is later =
 
 pub published_so : (k version current newest : ℕ) (shelves : List Shelf) (m : SeatAndSlots)
     → RemembersSo current newest shelves m → slice_get shelves k ≡ Some (Shelf.Open version) → current < version
-    → (version ≤ 1000000000) × MayPublish version k m.0 × ((m' : SeatAndSlots) → PublishesOn version k m m' → RemembersSo version newest shelves m')
+    → (version ≤ most_versions) × MayPublish version k m.0 × ((m' : SeatAndSlots) → PublishesOn version k m m' → RemembersSo version newest shelves m')
 published_so k version current newest shelves m h is later = publish_of k version current newest shelves m.0 m.1 h is later
 
 close_of : (k version current newest : ℕ) (shelves : List Shelf) (u : View) (c : List (ℕ × Option Edition))
@@ -255,7 +256,7 @@ closed_so k version current newest shelves m h is older = close_of k version cur
 
 collect_of : (k version current newest : ℕ) (shelves : List Shelf) (u : View) (c : List (ℕ × Option Edition))
     → RemembersSo current newest shelves (u, c) → slice_get shelves k ≡ Some (Shelf.Closing version)
-    → (version ≤ 1000000000) × MayCollect k version u c
+    → (version ≤ most_versions) × MayCollect k version u c
 collect_of k version current newest shelves (View.Working v) c h is = absurd h.0
 collect_of k version current newest shelves (View.Noting x') c h is = absurd h.0
 collect_of k version current newest shelves View.Spent c h is = absurd h.0
@@ -265,7 +266,7 @@ collect_of k version current newest shelves (View.Loading l) c h is =
 
 pub may_collect_so : (k version current newest : ℕ) (shelves : List Shelf) (m : SeatAndSlots)
     → RemembersSo current newest shelves m → slice_get shelves k ≡ Some (Shelf.Closing version)
-    → (version ≤ 1000000000) × MayCollect k version m.0 m.1
+    → (version ≤ most_versions) × MayCollect k version m.0 m.1
 may_collect_so k version current newest shelves m h is = collect_of k version current newest shelves m.0 m.1 h is
 
 pub freed_so : (k current newest : ℕ) (shelves : List Shelf) (u u' : View) (x : Shelf)

@@ -3,6 +3,7 @@ use Rattle.std.specs.Prelude.{◌≡◌, ℕ, ◌+◌, ◌*◌, ◌<◌, ◌≤�
 use Rattle.version_core.specs.declared.state.Shelf.{Shelf}
 use Rattle.version_core.specs.declared.state.Worker.{Worker}
 use Rattle.version_core.specs.Invariants.{version_on}
+use Rattle.version_core.specs.State.{most_versions}
 use Rattle.shelf_steps.specs.declared.edition.Edition.{Edition}
 use Rattle.shelf_steps.specs.declared.views.WorkerView.{WorkerView}
 use Rattle.shelf_steps.specs.declared.views.LoaderView.{LoaderView}
@@ -25,7 +26,7 @@ pub record RemembersBy (current newest : ℕ) (shelves : List Shelf) (hand : Opt
   pub newest_is : top ≡ newest
   pub shelves_are : standing ≡ shelves
   pub eight : length shelves ≡ 8
-  pub small : newest ≤ 1000000000
+  pub small : newest ≤ most_versions
   pub known : (k v : ℕ) → version_on shelves k ≡ Some v → v ≤ newest
 
 abbrev pub Remembers : ℕ → ℕ → List Shelf → LoaderView → Type 0

@@ -7,7 +7,7 @@ use Rattle.version_core.specs.declared.state.Shelf.{Shelf}
 use Rattle.version_core.specs.declared.state.Worker.{Worker}
 use Rattle.version_core.specs.declared.event.Event.{Event}
 use Rattle.version_core.specs.declared.event.Reply.{Reply}
-use Rattle.version_core.specs.State.{State, start, newest, looked, arrived, departed, opened, published, shelved, noted, joined}
+use Rattle.version_core.specs.State.{State, most_versions, start, newest, looked, arrived, departed, opened, published, shelved, noted, joined}
 use Rattle.version_core.specs.Steps.{IsIdle, HasLooked, Holds, StaysAt, IsFree, IsOpen, IsClosing, IsUnpublished, IsOutdated, MayOpen, Step, LookStep}
 use Rattle.version_core.specs.Steps.{TakeStep, DropStep, OpenStep, PublishStep, CloseStep, CollectStep, AskStep, NoteStep, JoinStep, IsSettled}
 use Rattle.version_core.specs.Invariants.{KeepsInvariants, Fits, is_at, version_on}
@@ -106,8 +106,8 @@ none_waits s kept rest k v new = none_unpublished s.current s.current_shelf (new
 pub newest_is_current : (s : State) → KeepsInvariants s → ((k v : ℕ) → ¬ (IsUnpublished s k v)) → newest s ≡ s.current
 newest_is_current s kept none = elim kept.shelves.newest_open [ inl a ↦ a | inr b ↦ absurd (none b.1.0 (newest s) (b.1.1, (let q = b.0 in omega arith))) ]
 
-pub may_open_where : (s : State) (few : Bool) → KeepsInvariants s → newest s ≡ s.current → (few ≡ true → newest s < 1000000000)
-    → (few ≡ false → ¬ (newest s < 1000000000)) → MatchBool few (MayOpen s) (¬ (MayOpen s))
+pub may_open_where : (s : State) (few : Bool) → KeepsInvariants s → newest s ≡ s.current → (few ≡ true → newest s < most_versions)
+    → (few ≡ false → ¬ (newest s < most_versions)) → MatchBool few (MayOpen s) (¬ (MayOpen s))
 may_open_where s true kept rest fewer more = (none_waits s kept rest, fewer refl)
 may_open_where s false kept rest fewer more = λ may. more refl may.1
 

@@ -8,7 +8,7 @@ use Rattle.reasoning.proofs.ListLemmas.{slice_get-replicate-is, slice_get-set_sa
 use Rattle.version_core.specs.declared.state.Shelf.{Shelf}
 use Rattle.version_core.specs.declared.event.Event.{Event}
 use Rattle.version_core.specs.declared.event.Reply.{Reply}
-use Rattle.version_core.specs.State.{State, start, newest, opened, published, shelved}
+use Rattle.version_core.specs.State.{State, most_versions, start, newest, opened, published, shelved}
 use Rattle.version_core.specs.Steps.{IsFree, IsOpen, IsClosing, MayOpen, Step, LookStep, TakeStep, DropStep, PublishStep, CloseStep, CollectStep, AskStep}
 use Rattle.version_core.specs.Steps.{NoteStep, JoinStep}
 use Rattle.version_core.specs.Runs.{Run}
@@ -160,9 +160,9 @@ loads_rest s t e v k second third kept rest h =
     let last : t ≡ loaded s k e = h.2.2.2 ∙ close.1 in
     (first.2, publish.0 ∙ ap (λ n. Reply.Published n) (sym first.2), close.0, last, subst IsAtRest (sym last) (loaded_rests s k e kept rest first.1))
 
-pub rest_is_spent : (s : State) → KeepsInvariants s → IsAtRest s → ¬ (MayOpen s) → newest s ≡ 1000000000
+pub rest_is_spent : (s : State) → KeepsInvariants s → IsAtRest s → ¬ (MayOpen s) → newest s ≡ most_versions
 rest_is_spent s kept rest not =
-    dite (ℕ_discrete (newest s) 1000000000) (λ e. e) (λ e. let most = kept.room in absurd (not (none_waits s kept rest.published, (omega arith))))
+    dite (ℕ_discrete (newest s) most_versions) (λ e. e) (λ e. let most = kept.room in absurd (not (none_waits s kept rest.published, (omega arith))))
 
 closing_here : (s : State) (k : ℕ) (shelf : Shelf) → KeepsInvariants s → IsAtRest s → slice_get s.shelves k ≡ Some shelf
     → ¬ (IsFree s k) → k ≢ s.current_shelf → (v : ℕ) × IsClosing s k v

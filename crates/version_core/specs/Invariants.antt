@@ -3,7 +3,7 @@ use Rattle.std.specs.Prelude.{◌≡◌, ℕ, ◌+◌, ◌<◌, ◌≤◌, Bool,
 use Rattle.std.specs.Option.{option_and_then}
 use Rattle.version_core.specs.declared.state.Shelf.{Shelf}
 use Rattle.version_core.specs.declared.state.Worker.{Worker}
-use Rattle.version_core.specs.State.{State, newest}
+use Rattle.version_core.specs.State.{State, most_versions, newest}
 
 -- the version of a shelf, open or closing
 abbrev pub version_of : Shelf → Option ℕ
@@ -62,7 +62,7 @@ RiseWithin low (v ∷ vs) high = (low ≤ v) × RiseWithin v vs high
 -- what holds in every state: at most 1,000,000,000 versions; shelves, counts and workers that fit one another; and notices whose versions never fall,
 -- none of them above the current one
 pub record KeepsInvariants (s : State) : Type 0 where
-  pub room : newest s ≤ 1000000000
+  pub room : newest s ≤ most_versions
   pub shelves : ShelvesFit s.current s.current_shelf (newest s) s.shelves
   pub counts : CountsFit s.counts s.workers
   pub workers : WorkersFit s.current s.current_shelf s.shelves s.workers s.seen

@@ -3,7 +3,7 @@ use Rattle.std.specs.Prelude.{◌≡◌, ◌≢◌, ℕ, ◌+◌, ◌<◌, List,
 use Rattle.version_core.specs.declared.state.Shelf.{Shelf}
 use Rattle.version_core.specs.declared.event.Event.{Event}
 use Rattle.version_core.specs.declared.event.Reply.{Reply}
-use Rattle.version_core.specs.State.{State, newest}
+use Rattle.version_core.specs.State.{State, most_versions, newest}
 use Rattle.version_core.specs.Steps.{Step, IsOpen, IsClosing}
 use Rattle.version_core.specs.Runs.{Run}
 use Rattle.version_core.specs.Invariants.{KeepsInvariants}
@@ -43,7 +43,7 @@ LoadsRest =
 
 -- at rest, an opening is answered with NotNow only if no version number is left
 abbrev pub RestIsSpent : Type 0
-RestIsSpent = (s t : State) (e : ℕ) → KeepsInvariants s → IsAtRest s → Step s (Event.Open e) Reply.NotNow t → newest s ≡ 1000000000
+RestIsSpent = (s t : State) (e : ℕ) → KeepsInvariants s → IsAtRest s → Step s (Event.Open e) Reply.NotNow t → newest s ≡ most_versions
 
 -- at rest, an opening finds no room only if all shelves but the current one are closing
 abbrev pub RestIsFull : Type 0

@@ -3,6 +3,10 @@ use Rattle.std.specs.Prelude.{ℕ, zero, suc, ◌+◌, ◌-◌, max, List, [], �
 use Rattle.version_core.specs.declared.state.Shelf.{Shelf}
 use Rattle.version_core.specs.declared.state.Worker.{Worker}
 
+-- the greatest version
+abbrev pub most_versions : ℕ
+most_versions = 1000000000
+
 -- the current version, what the shelves are for, what the workers are doing, and what was opened and noted so far
 pub record State : Type 0 where
   pub current : ℕ  -- the current version

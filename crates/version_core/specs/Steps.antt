@@ -5,7 +5,7 @@ use Rattle.version_core.specs.declared.state.Shelf.{Shelf}
 use Rattle.version_core.specs.declared.state.Worker.{Worker}
 use Rattle.version_core.specs.declared.event.Event.{Event}
 use Rattle.version_core.specs.declared.event.Reply.{Reply}
-use Rattle.version_core.specs.State.{State, newest, edition_of, looked, arrived, departed, opened, published, shelved, noted, joined}
+use Rattle.version_core.specs.State.{State, most_versions, newest, edition_of, looked, arrived, departed, opened, published, shelved, noted, joined}
 
 -- the worker is idle
 abbrev pub IsIdle : State → ℕ → Type 0
@@ -45,7 +45,7 @@ IsOutdated s k v = IsOpen s k v × (v ≢ s.current) × (¬ (IsUnpublished s k v
 
 -- no version is open and unpublished, and there is a number left
 abbrev pub MayOpen : State → Type 0
-MayOpen s = ((k v : ℕ) → ¬ (IsUnpublished s k v)) × (newest s < 1000000000)
+MayOpen s = ((k v : ℕ) → ¬ (IsUnpublished s k v)) × (newest s < most_versions)
 
 -- an idle worker gets the current version and its shelf, and has then looked; for any other worker, NotNow
 abbrev pub LookStep : State → ℕ → Reply → State → Type 0

@@ -57,7 +57,7 @@ module _ {C R W K T S L N F D : Type 0} where
   -- names of these feeds
   abbrev pub AllServed : SessionWords C R W T S N → SourceWords K C → FeedWords F D → ServerInput K T S L F → ServingOutcome R W K S L N D → Type 0
   AllServed words source feeds input left = AreServedSince words (source.came input.clients) (source.came left.clients)
-      (worker_starts input.seats (route_to (feeds.named input.feeds) left.orders.queue)) (work_of left.served left.seats.items left.asked)
+      (worker_starts input.seats (route_to (feeds.named input.feeds) left.loader_orders.queue)) (work_of left.served left.seats.items left.worker_orders)
 
 -- what this worker's seat knows of its shelves and what the loader's seat knows are beginnings of one history, at each moment between two steps at
 -- which both are at one table as they are here
@@ -85,8 +85,8 @@ IsUnserved source before (WorkersFault.Lost clients) = IsExhausted source before
 -- the loader took exactly the orders that the sessions put, each once, and carried out each
 pub record AllLoaded {R W K T S L N F D : Type 0} (words : LoadWords F D T L N) (input : ServerInput K T S L F) (left : ServingOutcome R W K S L N D)
     : Type 0 where
-  pub taken : AreAllTaken left.asked left.orders
-  pub loaded : AreLoaded (load_input_of words input.feeds left.orders.queue) input.loader (loads_value left.orders left.used) left.loader
+  pub taken : AreAllTaken left.worker_orders left.loader_orders
+  pub loaded : AreLoaded (load_input_of words input.feeds left.loader_orders.queue) input.loader (loads_value left.loader_orders left.used) left.loader
 
 -- a whole run of a server, at any shelves: what is left, all who came were served, and all that they ordered was loaded
 pub record IsRun {C R W K T S L N F D : Type 0} (words : SessionWords C R W T S N) (source : SourceWords K C) (loads : LoadWords F D T L N)

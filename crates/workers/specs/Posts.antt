@@ -77,13 +77,30 @@ pub record AreUnused {C N : Type 0} (queues : QueuesValue C N) : Type 0 where
   pub none_asked : queues.orders.put ≡ []
   pub unclosed : queues.orders.closings ≡ 0
 
+-- posts at shelves: where the worker of each begins, and for how many takers the queue of clients is closed
+pub record Posts (T S N : Type 0) : Type 0 where
+  pub shelves : T
+  pub starts : List (WorkerStart S N)
+  pub takers : ℕ
+
+abbrev pub posts_of : {T S N : Type 0} → T → List (WorkerStart S N) → ℕ → Posts T S N
+posts_of shelves starts takers = record { shelves = shelves; starts = starts; takers = takers }
+
+-- the clients who came so far, and both queues
+pub record Arrivals (C N : Type 0) : Type 0 where
+  pub came : List C
+  pub queues : QueuesValue C N
+
+abbrev pub arrivals_of : {C N : Type 0} → List C → QueuesValue C N → Arrivals C N
+arrivals_of came queues = record { came = came; queues = queues }
+
 -- all clients by whom the list of those who came grew were put in their queue, which was closed for so many takers; workers at these posts took some
 -- of them and served them, and their ends of both queues are back
-pub record HaveServed {C R W T S N : Type 0} (words : SessionWords C R W T S N) (shelves : T) (starts : List (WorkerStart S N)) (takers : ℕ)
-    (before after : List C) (a b : QueuesValue C N) (work : WorkValue R W S N) : Type 0 where
+pub record HaveServed {C R W T S N : Type 0} (words : SessionWords C R W T S N) (posts : Posts T S N) (a b : Arrivals C N) (work : WorkValue R W S N)
+    : Type 0 where
   pub clients : List C
-  pub came : after ≡ before ++ clients
-  pub dealt : AreBack clients takers (length starts) a.clients b.clients
-  pub served : HaveAllServed words b.clients.view.taken starts work
-  pub fit : All (words.seats.fits shelves) work.seats
-  pub orders_are : b.orders ≡ record a.orders { put = put_by work.orders }
+  pub came : b.came ≡ a.came ++ clients
+  pub dealt : AreBack clients posts.takers (length posts.starts) a.queues.clients b.queues.clients
+  pub served : HaveAllServed words b.queues.clients.view.taken posts.starts work
+  pub fit : All (words.seats.fits posts.shelves) work.seats
+  pub orders_are : b.queues.orders ≡ record a.queues.orders { put = put_by work.orders }

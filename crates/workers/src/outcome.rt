@@ -14,11 +14,11 @@ pub struct ServingOutcome<R, W, K, S, L, N: Drop, D> {
     /// The workers' seats, in their order.
     pub seats: Vec<S>,
     /// What the loader took and answered.
-    pub orders: UsedLoader<N>,
+    pub loader_orders: UsedLoader<N>,
     /// The loader's seat.
     pub loader: L,
     /// The workers' orders, seat after seat: only contracts see them.
-    pub asked: GhostList<UsedOrders<N>>,
+    pub worker_orders: GhostList<UsedOrders<N>>,
     /// The files that the loader used, order after order: only contracts see them.
     pub used: UsedFiles<D, N>,
 }

@@ -6,7 +6,7 @@ ghost use Rattle.client_queue.specs.Dealing.{IsExhausted};
 ghost use Rattle.feed_loads.specs.Words.{loads_of, outcomes_of};
 ghost use Rattle.workers.specs.Headline.{AreReady, IsRun, IsUnserved, server_input_of};
 ghost use Rattle.workers.specs.Ordering.{route_to};
-ghost use Rattle.workers.specs.Posts.{AreUnused, HaveServed, queues_of};
+ghost use Rattle.workers.specs.Posts.{AreUnused, HaveServed, arrivals_of, posts_of, queues_of};
 ghost use Rattle.workers.specs.Sessions.{MayBegin, MayClose, work_of, worker_starts};
 ghost use Rattle.workers.specs.Words.{sessions_of};
 
@@ -184,13 +184,13 @@ fn run_in<
     )?;
     dealer.all_were_taken();
     match close_and_join(workplace.rt, asks, loading) {
-        Some((orders, loader, used)) => Ok(ServingOutcome {
+        Some((loader_orders, loader, used)) => Ok(ServingOutcome {
             served: work.served,
             clients,
             seats: work.seats,
-            orders,
+            loader_orders,
             loader,
-            asked: work.asked,
+            worker_orders: work.asked,
             used,
         }),
         None => Err(WorkersFault::Lost { clients }),
@@ -227,9 +227,10 @@ fn serve_at<
     requires unused { AreUnused (queues_of dealer.old asks.old) }
     ensures source { MatchResult result (λ left. IsExhausted K.words clients left.0) (IsUnserved K.words clients) }
     ensures served { IfOk result (λ left. HaveServed
-        (sessions_of workplace.now.form C.words I.words O.words T.words) workplace.now.shelves.now
-        (worker_starts seats.items (route_to (F.words.named workplace.now.feeds.now) asks.old.queue)) takers
-        (K.words.came clients) (K.words.came left.0) (queues_of dealer.old asks.old) (queues_of dealer.new asks.new)
+        (sessions_of workplace.now.form C.words I.words O.words T.words) (posts_of workplace.now.shelves.now
+        (worker_starts seats.items (route_to (F.words.named workplace.now.feeds.now) asks.old.queue)) takers)
+        (arrivals_of (K.words.came clients) (queues_of dealer.old asks.old))
+        (arrivals_of (K.words.came left.0) (queues_of dealer.new asks.new))
         (work_of left.1.served left.1.seats.items left.1.asked)) }
 {
     let Some(seat) = seats.pop() else {

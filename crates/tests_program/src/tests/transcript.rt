@@ -28,7 +28,7 @@
 //! | `ends STATUS` | runs it: it must write these lines and no others, and end with this status |
 //! | `answers TEXT` | `prints TEXT` and `ends 0`, or `ends 2` if the text begins with `refused` |
 //! | `complains STATUS` | runs it: it must print nothing, write some errors, and end with this status |
-//! | `helps TEXT | TEXT ..` | runs it: it must print these texts, among others, no errors, and end with status 0 |
+//! | `helps TEXT | TEXT ..` | runs it: it must print these texts and more, write no errors, and end with status 0 |
 //! | `saves PATH` | writes the bytes of the input to a file |
 //! | `holds PATH` | the file must have the bytes of the input |
 //! | `lacks PATH` | there must be no such file |

@@ -13,8 +13,8 @@ returns-clause-many g c =
     (λ run_result. g.K.Clients.words.came c.args.clients ≡ [] → length run_result.served ≡ length (g.K.Clients.words.came run_result.clients))
     (λ run_result served none. sessions_many (sessions_of c.args.form g.C.Client.words g.C.Reader.ReadStream.words g.C.Writer.WriteStream.words shelf_seats)
     (g.K.Clients.words.came c.args.clients) (g.K.Clients.words.came run_result.clients)
-    (worker_starts c.args.made.2.items (route_to c.args.folders.now.setup.now.names.items run_result.orders.queue))
-    (work_of run_result.served run_result.seats.items run_result.asked) served none) c.run_shelves.ensures.served
+    (worker_starts c.args.made.2.items (route_to c.args.folders.now.setup.now.names.items run_result.loader_orders.queue))
+    (work_of run_result.served run_result.seats.items run_result.worker_orders) served none) c.run_shelves.ensures.served
 
 -- what the run was, in one record
 pub returns-clause-run : goal.returns-clause-run

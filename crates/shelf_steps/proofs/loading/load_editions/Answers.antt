@@ -7,9 +7,9 @@ use Rattle.shelf_steps.proofs.loading.load_editions.Goals as goal
 use Rattle.shelf_steps.proofs.loading.load_editions.Goals.{After-fill_block}
 
 filled : (c : goal.After-fill_block) (image : ImageValue) → EachHas c.args.version image 16 c.args.editions.items
-    → LoadsOn c.args.shelf c.args.version c.args.before c.args.loader.now.me.0 image c.fill_block.new.loader.me
+    → LoadsOn c.args.shelf c.args.version c.args.former c.args.loader.now.me.0 image c.fill_block.new.loader.me
 filled c image has =
-    loads_on c.args.shelf c.args.version c.args.before c.args.loader.now.me.0 image (laid c.args.editions.items (16 * c.args.shelf))
+    loads_on c.args.shelf c.args.version c.args.former c.args.loader.now.me.0 image (laid c.args.editions.items (16 * c.args.shelf))
     c.args.loader.now.me.1 c.gather.new.loader.me c.fill_block.new.loader.me c.requires.ready
     (laid_have c.args.version image c.args.editions.items c.args.shelf has) c.gather.ensures.gather c.fill_block.ensures.block
 

@@ -24,7 +24,7 @@ returns-in-Some g c =
     let served = ran.ensures.served in
     let dealt = served.dealt in
     let after = c.in-Some in
-    let value = loads_value after.orders after.used in
+    let value = loads_value after.loader_orders after.used in
     let done = subst (λ (post : LoaderPostValue _ _ _ _). IsLoaderDone loads post value after.loader) c.in-Ok-start_loader.ensures after.ensures.1 in
     let names = g.F.Feeds.words.named workplace.feeds.now in
     let queue = c.in-Ok-order_queue.ensures.queue ∙ sym done.queue in
@@ -43,7 +43,7 @@ returns-in-Some g c =
         all = subst (λ (q : OrderQueueId _). AreAllServed words served.clients (worker_starts c.args.seats.items (route_to names q)) work) queue shared;
       };
       loaded = record {
-        taken = subst (λ list. IsPermutation list after.orders.taken) (ap (λ keeper. keeper.put) served.orders_are) after.ensures.0;
+        taken = subst (λ list. IsPermutation list after.loader_orders.taken) (ap (λ keeper. keeper.put) served.orders_are) after.ensures.0;
         loaded = subst (λ (q : OrderQueueId _). AreLoaded (load_input_of loads workplace.feeds.now q) c.args.loader value after.loader)
             (sym done.queue) done.loaded;
       };

@@ -20,16 +20,16 @@ returns-in-Ok-clause-met g c =
     let e = c.in_default.ensures in
     let reply_made : string_bytes c.in-Ok.line ≡ pin_text (arc_value c.in-Some.edition.now.image).names.base
     c.in-Some.edition.now.version ++ 10 ∷ [] = search rules in
-    pin_met _ _ (is_pinned _ _ _ _ _ e.number e.known e.pin) c.in-Some.ensures.lent (c.made.ensures ∙ ap plain reply_made)
+    pin_met _ _ (is_pinned _ _ _ _ _ e.still.number e.known e.pin) c.in-Some.ensures.lent (c.made.ensures ∙ ap plain reply_made)
 
 pub returns-in-Err-reply_made-clause-met : goal.returns-in-Err-reply_made-clause-met
 returns-in-Err-reply_made-clause-met g c =
     let e = c.in_default.ensures in
-    given_back _ (is_once _ _ _ _ _ (is_pinned _ _ _ _ _ e.number e.known e.pin) c.release.ensures.release c.release.ensures.refused)
+    given_back _ (is_once _ _ _ _ _ (is_pinned _ _ _ _ _ e.still.number e.known e.pin) c.release.ensures.release c.release.ensures.refused)
     c.refusal.ensures
 
 pub returns-in-Err-reply_made-clause-seat : goal.returns-in-Err-reply_made-clause-seat
 returns-in-Err-reply_made-clause-seat g c =
     let e = c.in_default.ensures in
     let back = c.release.ensures in
-    goes_once _ _ _ c.pin.new.seat _ _ e.number e.grows e.known e.pin back.fits back.number back.grows back.release
+    goes_once _ _ _ c.pin.new.seat _ _ e.still.number e.still.grows e.known e.pin back.still.fits back.still.number back.still.grows back.release

@@ -15,5 +15,5 @@ invariant_of-self c =
 pub returns-in-Ok-clause-known : goal.returns-in-Ok-clause-known
 returns-in-Ok-clause-known c =
     let inside = c.self.inside in
-    loads_published inside.current inside.current_shelf inside.shelves (arc_value c.args.image.now) c.args.shelf _ inside.current_shelf
+    loads_published inside.current inside.current_shelf inside.shelves (arc_value c.args.image.now) c.args.shelf _
     inside.table_seat.me.0 c.load.new.loader.me.0 c.self.invariant.0 refl c.in-Ok.ensures.load
