@@ -77,7 +77,7 @@ fn print_profile<H: OutDisk + AllocGlobal, O: Watched, E: Write>(
         (O.noted output.new) result
         (O.contents output.old) (O.contents output.new) }
 {
-    if is_over_image(rt, request) {
+    if is_over_image(rt, request.picture, request.image) {
         let path = shown_path(request.picture.unwrap_or(""));
         explain(
             errors,
@@ -94,12 +94,12 @@ fn print_profile<H: OutDisk + AllocGlobal, O: Watched, E: Write>(
     }
 }
 
-/// Whether a picture is asked for in the file of the image.
-fn is_over_image<H: OutDisk>(rt: &H, request: &ProfileRequest<'_>) -> bool
-    ensures { result ≡ true → IsOverImage (H.files rt.now) request.now.image.now request.now.picture }
+/// Whether the path of a picture, if one is asked for, leads to the file of the image.
+fn is_over_image<H: OutDisk>(rt: &H, path: Option<&str>, image: &str) -> bool
+    ensures { result ≡ true → IsOverImage (H.files rt.now) image.now path.entry }
 {
-    match request.picture {
-        Some(path) => request.image != "-" && rt.is_one(path, request.image),
+    match path {
+        Some(path) => image != "-" && rt.is_one(path, image),
         None => false,
     }
 }
