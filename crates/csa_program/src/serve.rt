@@ -385,9 +385,22 @@ fn host_until_closed<B: RunName, H: Disk + Explains + Clock + WallClock + Thread
     } = bound;
     let folders = pending.folders;
     let shared = SharedErrors::of(folders.disk, folders.setup.alloc, queue);
-    let end = host(&listener, leave, image, folders, &shared);
+    let end = host_pending(pending, &listener, leave, image, &shared);
     queue.close(folders.disk);
-    match end {
+    end
+}
+
+// Serves the clients that come to the listener, as the run that is pending.
+fn host_pending<'d, B: RunName, H: Disk + Explains + Clock + WallClock + Threads + Wait + Sync>(
+    pending: PendingRun<'_, B, H>,
+    listener: &'d TcpListener,
+    leave: FolderLeave,
+    image: Verified,
+    errors: &'d SharedErrors<'_, H>,
+) -> Option<RunEnd<B>>
+    requires served { pending.image.now.value ≡ image }
+{
+    match host(listener, leave, image, pending.folders, errors) {
         Some((ends, is_deaf)) => Some(RunEnd {
             ends,
             is_deaf,

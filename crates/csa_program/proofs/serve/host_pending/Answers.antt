@@ -1,4 +1,4 @@
-use Rattle.csa_program.proofs.serve.host_until_closed.Goals as goal
+use Rattle.csa_program.proofs.serve.host_pending.Goals as goal
 
 -- the run is that of the image that is shown
 pub invariant_of-result : goal.invariant_of-result
