@@ -5,6 +5,7 @@ ghost use denote.Param.Send.{IsSync};
 ghost use Rattle.std.specs.Prelude.{◌≡◌, ◌≢◌, ◌<◌, ◌≤◌, ◌⊎◌, [], All, List, Option, length, map};
 ghost use Rattle.std.specs.Prelude.{slice_get, Some, string_bytes, Bool, IfOk, IfSome, MatchOption, ℕ};
 ghost use Rattle.std.specs.Io.KnownBytes.{Appends};
+ghost use Rattle.command_requests.specs.declared.ends.SessionCounts.{SessionCounts};
 ghost use Rattle.command_requests.specs.declared.statuses.TheConstants.{ACCEPTED, INPUT_OUTPUT, OUT_OF_MEMORY};
 ghost use Rattle.shelves.specs.ShelfSeats.{SeatsHanded};
 ghost use Rattle.workers.specs.Headline.{AreReadyAt, IsRunAt, server_input_of};
