@@ -322,10 +322,7 @@ fn a_linked_folder_with_another_file_is_not_read(rt: HostRuntime) -> Result<(), 
 }
 
 // The second of a folder's last change, and its state.
-fn second_and_state(
-    rt: &HostRuntime,
-    folder: &str,
-) -> Result<(i64, Option<NodeState>), Fail> {
+fn second_and_state(rt: &HostRuntime, folder: &str) -> Result<(i64, Option<NodeState>), Fail> {
     let metadata = fs::metadata(rt, folder)?;
     Ok((metadata.ctime(), rt.folder_state(folder)))
 }
