@@ -192,8 +192,28 @@ impl ByTrips {
         if !origin.sets_out_at(asked, hop) {
             return Ok(());
         }
+        self.set_out_by_labels(asked, source, *hop, origin)
+    }
+
+    // Writes out the labels of the hop's trip, and sets out with them. It is rare, so it is a call and never inlined: the
+    // scan has no room for a list on its stack.
+    #[inline(never)]
+    fn set_out_by_labels<S: ConnSource, O: AtSource<ArrivalTrips>>(
+        &self,
+        asked: &ScanQuery<ArrivalTrips>,
+        source: &S,
+        hop: Hop<TimeTrips>,
+        origin: &mut O,
+    ) -> Result<(), AllocError>
+        requires can { CanSetOutAt ⟦<ArrivalTrips as Criterion>⟧.rules O.IsUnder (S.timetable source.now)
+            asked.now hop (labels_by_trips self.now hop.connection.trip) origin.old }
+        requires trip { hop.connection.trip < trips_of self.now.lanes.trips }
+        ensures { OnOk result (SetsOut ⟦<ArrivalTrips as Criterion>⟧.rules O.IsUnder O.sources O.kept
+            (S.timetable source.now) asked.now hop.entry (labels_by_trips self.now hop.entry.connection.trip)
+            origin.old origin.new) }
+    {
         let labels = self.labels_of(hop.connection.trip)?;
-        origin.set_out(asked, source, hop, &labels)?;
+        origin.set_out(asked, source, &hop, &labels)?;
         Ok(())
     }
 }
