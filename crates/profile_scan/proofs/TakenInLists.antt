@@ -55,7 +55,8 @@ are_lists rules_of criterion stops trips lists at_stops long labels =
 abbrev pub HasLeft : {K V : Type 0} → Rules V → SetQueryValue → Hop V → Stops K V → Trips K V → Trips K V → Type 0
 HasLeft rules q hop stops old new =
     TripTakes rules hop.connection.trip (λ tags. only_if (hop.connection.alight ≡ true)
-    (endings_and_changes rules tags hop.place hop.connection q (final_walk_in hop.final_entry) (survivors rules hop.bound.now (points_at stops hop.connection.to))))
+    (endings_and_changes rules tags hop.place hop.connection q
+        (final_walk_in hop.final_entry) (survivors rules hop.bound.now (points_at stops hop.connection.to))))
     old new
 
 module _ {K V : Type 0} (rules : Rules V) (laws : Laws rules) (q : SetQueryValue) (hop : Hop V) (stops : Stops K V) where

@@ -129,8 +129,8 @@ impl ByTrips {
         has_any(&self.beyond.points, stop)
     }
 
-    // Returns true only if passengers may not get off where a connection ends, or if that stop has neither points nor, by
-    // its `entry` of `FinalWalks`, a footpath to a target.
+    // Returns true only if passengers may not get off where a connection ends, or if that stop has neither points nor,
+    // by its `entry` of `FinalWalks`, a footpath to a target.
     #[inline(always)]
     fn leads_nowhere(&self, connection: &Connection, entry: FinalWalk) -> bool
         requires { connection.now.to < stops_of self.now.lanes.stops }
@@ -195,8 +195,8 @@ impl ByTrips {
         self.set_out_by_labels(asked, source, *hop, origin)
     }
 
-    // Writes out the labels of the hop's trip, and sets out with them. It is rare, so it is a call and never inlined: the
-    // scan has no room for a list on its stack.
+    // Writes out the labels of the hop's trip, and sets out with them. It is rare, so it is a call and never inlined,
+    // and the scan has no list on its stack.
     #[inline(never)]
     fn set_out_by_labels<S: ConnSource, O: AtSource<ArrivalTrips>>(
         &self,

@@ -102,10 +102,11 @@ impl<C: Criterion> Keeping<C> for InLists<C> {
 
 /// Whether getting off where a connection ends leads nowhere: true if passengers may not get off there, or if that stop
 /// has neither a footpath to a target (a target's own loop counts) nor points.
-/// `entry` is what `FinalWalks` has for the stop, `head` the head of the stop's list, which is 0 if it has no points. It ignores the labels of
-/// the connection's trip.
+/// `entry` is what `FinalWalks` has for the stop, `head` the head of the stop's list, which is 0 if it has no points. It
+/// ignores the labels of the connection's trip.
 fn alighting_leads_nowhere(connection: &Connection, entry: FinalWalk, head: u32) -> bool
-    ensures { (result ≡ true) ↔ (connection.now.alight ≡ true → (final_walk_in entry ≡ None) × (head ≡ 0)) }
+    ensures { (result ≡ true) ↔ (connection.now.alight ≡ true
+        → (final_walk_in entry ≡ None) × (head ≡ 0)) }
 {
     if !connection.alight {
         return true;

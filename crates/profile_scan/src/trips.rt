@@ -182,8 +182,8 @@ pub struct Ending {
 pub fn end_of(connection: &Connection, query: &SetQuery, entry: FinalWalk) -> Option<Ending>
     requires arrival { IsTime connection.now.arr }
     requires secs { IfSome (final_walk_in entry) (λ way. IsSecs way.secs) }
-    ensures { MatchOption result ((walk : Option Footpath) → IsEnding connection.now (question query.now) (final_walk_in entry) walk
-        → ⊥)
+    ensures { MatchOption result
+        ((walk : Option Footpath) → IsEnding connection.now (question query.now) (final_walk_in entry) walk → ⊥)
         (λ end. IsEnding connection.now (question query.now) (final_walk_in entry) end.walk
         × (end.time ≡ connection.now.arr + start_secs end.walk)
         × (end.time ≤ query.now.by)
