@@ -347,7 +347,7 @@ module _ (q : SetQueryValue) (hop : Hop TimeTrips) (old : ByTrips) (can : CanLea
   -- the ways to leave: to end, to change by lanes, and by what is beyond them
   pub has_left : hop.connection.alight ≡ true → (ended changed new : ByTrips)
       → TripTakesBut hop.connection.trip hop.bound.now (λ _. ⊥) (λ tags. endings trip_rules tags hop.place hop.connection q
-          (final_walk_in hop.final_entry)) old ended
+      (final_walk_in hop.final_entry)) old ended
       → TripTakesBut hop.connection.trip hop.bound.now (λ p. Excludes trip_rules hop.bound.now p.value)
       (λ tags. changes_from tags hop.place hop.connection.arr (points_at ended.lanes.stops hop.connection.to)) ended changed
       → TripTakesBut hop.connection.trip hop.bound.now (λ p. Excludes trip_rules hop.bound.now p.value)
@@ -363,7 +363,7 @@ module _ (q : SetQueryValue) (hop : Hop TimeTrips) (old : ByTrips) (can : CanLea
       (λ tags. changes_from tags hop.place hop.connection.arr ps) changed new) points_same third in
       let to_change = changes_chained q hop ended (still_can q hop old can ended (λ _. ⊥)
       (λ tags. endings trip_rules tags hop.place hop.connection q
-          (final_walk_in hop.final_entry)) first) changed new (points_at old.lanes.stops hop.connection.to)
+      (final_walk_in hop.final_entry)) first) changed new (points_at old.lanes.stops hop.connection.to)
       (points_beyond old.beyond.points.items hop.connection.to) (stop_admits q hop old can) by_lanes by_bags in
       let all = one_then q hop old can ended (λ _. ⊥) (λ p. Excludes trip_rules hop.bound.now p.value) (NoChange (Excludes trip_rules hop.bound.now))
       (λ tags. endings trip_rules tags hop.place hop.connection q (final_walk_in hop.final_entry)) (λ tags. changes_from tags hop.place hop.connection.arr bag)

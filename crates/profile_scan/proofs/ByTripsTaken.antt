@@ -227,7 +227,7 @@ nobody_leaves q hop kept can stays = record {
         let records = scan_records (value_by_trips kept).exits (value_by_trips kept).steps set_outs in
         but_none trip_rules (NoChange (Excludes trip_rules hop.bound.now)) (only_if (hop.connection.alight ≡ true)
         (endings_and_changes trip_rules (from_to (spelling_of walks records) (spelling_of walks records)) hop.place hop.connection q
-            (final_walk_in hop.final_entry)
+        (final_walk_in hop.final_entry)
         ((value_by_trips kept).bag hop.connection.to))) ((value_by_trips kept).labels hop.connection.trip)
         (λ way opened. true≢false (sym opened.0 ∙ stays));
   };

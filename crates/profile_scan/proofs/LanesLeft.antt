@@ -301,7 +301,7 @@ module _ (q : SetQueryValue) (hop : Hop TimeTrips) (old : InLanes) (can : CanLea
     (one : (other : Option Footpath) → IsEnding hop.connection q (final_walk_in hop.final_entry) other → other ≡ walk) where
   pub end_none : AllBeaten [] (labels_at old.trips hop.connection.trip) (ending time first)
       → LaneTakes hop.connection.trip hop.bound.now (λ _. ⊥) (λ tags. endings trip_rules tags hop.place hop.connection q
-          (final_walk_in hop.final_entry)) old old
+      (final_walk_in hop.final_entry)) old old
   end_none beaten = record {
     are = can.are;
     stops = refl;

@@ -84,7 +84,7 @@ module _ {V O : Type 0} (rules : Rules V) (laws : Laws rules) (t : TimetableValu
       (only_if (cn.alight ≡ true) (endings_and_changes rules first i cn q (final_walk_in hop.final_entry) bag)) was_labels points)
       (sym (goes_on.labels cn.trip)) (leaves.takes t.footpaths outs) in
       let taken = leavings_taken rules laws t q can first i cn at
-          (final_walk_in hop.final_entry) is_hop.final_walk bag (Excludes rules values) was_labels labels
+      (final_walk_in hop.final_entry) is_hop.final_walk bag (Excludes rules values) was_labels labels
       (now_admits.labels cn.trip) left in
       record {
         between = spelled_by t.footpaths mid outs;

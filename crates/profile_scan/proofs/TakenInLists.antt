@@ -56,7 +56,7 @@ abbrev pub HasLeft : {K V : Type 0} → Rules V → SetQueryValue → Hop V → 
 HasLeft rules q hop stops old new =
     TripTakes rules hop.connection.trip (λ tags. only_if (hop.connection.alight ≡ true)
     (endings_and_changes rules tags hop.place hop.connection q
-        (final_walk_in hop.final_entry) (survivors rules hop.bound.now (points_at stops hop.connection.to))))
+    (final_walk_in hop.final_entry) (survivors rules hop.bound.now (points_at stops hop.connection.to))))
     old new
 
 module _ {K V : Type 0} (rules : Rules V) (laws : Laws rules) (q : SetQueryValue) (hop : Hop V) (stops : Stops K V) where
