@@ -1,5 +1,5 @@
-//! Tips about what a shell, or a habit, makes of words: a value that was forgotten or begins with a hyphen, an option with
-//! one hyphen, a journey without quotes.
+//! Tips about words that were meant otherwise: a value that was forgotten or begins with a hyphen, an option with one
+//! hyphen, a journey without quotes.
 
 use crate::commands::{has_option, takes_value};
 use crate::joining::is_hyphenated;
