@@ -28,6 +28,21 @@ pub(crate) enum Argument {
     Flag(&'static str, &'static str),
 }
 
+impl Argument {
+    /// Whether it is the option of this name.
+    fn is_option(self, name: &str) -> bool {
+        match self {
+            Argument::Option(id, _, _)
+            | Argument::Options(id, _, _)
+            | Argument::MaybeOption(id, _, _)
+            | Argument::Flag(id, _) => id == name,
+            Argument::Positional(_, _, _)
+            | Argument::MaybeWord(_, _, _)
+            | Argument::Words(_, _, _) => false,
+        }
+    }
+}
+
 /// A command: its word, what it does, what its help prints below the arguments, and the arguments, in groups that
 /// commands may share.
 #[derive(Clone, Copy)]
@@ -520,6 +535,38 @@ fn program_usage(alloc: Global) -> Result<String, AllocError> {
 /// Whether there is a command of this name.
 pub(crate) fn is_command(name: &str) -> bool {
     task_named(name).is_some()
+}
+
+/// Whether the command has an option of this name, with a value.
+pub(crate) fn takes_value(command: &str, name: &str) -> bool {
+    match option_named(command, name) {
+        Some(Argument::Flag(_, _)) | None => false,
+        Some(_) => true,
+    }
+}
+
+/// Whether the command has an option of this name.
+pub(crate) fn has_option(command: &str, name: &str) -> bool {
+    option_named(command, name).is_some()
+}
+
+fn option_named(command: &str, name: &str) -> Option<Argument> {
+    let task = task_named(command)?;
+    for group in task.arguments {
+        if let Some(option) = option_among(group, name) {
+            return Some(option);
+        }
+    }
+    None
+}
+
+fn option_among(arguments: &[Argument], name: &str) -> Option<Argument> {
+    for argument in arguments {
+        if argument.is_option(name) {
+            return Some(*argument);
+        }
+    }
+    None
 }
 
 /// The line of usage of a command, or that of the program if there is no such command.

@@ -86,7 +86,8 @@ fn is_stop_option(command: &str, word: &str) -> bool
         || ((is_question || command == "departures") && word == "--to")
 }
 
-fn is_hyphenated(word: &str) -> bool
+/// Whether a word begins with a hyphen.
+pub(crate) fn is_hyphenated(word: &str) -> bool
     ensures { result ≡ is_hyphenated word.now }
 {
     match word.as_bytes() {

@@ -8,6 +8,7 @@ mod options;
 mod reading;
 mod requests;
 mod texts;
+mod tips;
 mod values;
 
 pub use reading::{NoCommand, read, wants_warnings};

@@ -7,6 +7,7 @@ ghost use Rattle.command_line.specs.Requests.{IsHelp, IsMistake};
 
 use crate::commands::usage;
 use crate::reading::NoCommand;
+use crate::tips::tip_for;
 use crate::values::{clock, count, month_name, number, port, spelled_date, zone};
 use clap::error::ErrorKind;
 use clap::parser::ValueSource;
@@ -125,8 +126,11 @@ const HINT: &str = "\nFor more information, try '--help'.\n";
 /// The beginning of the usage in clap's message about a mistake.
 const USAGE: &str = "\nUsage: ";
 
+/// The beginning of a tip in it.
+const TIP: &str = "\n  tip: ";
+
 /// Clap's message about words that begin with this command, or with none if its name is empty.
-pub(crate) fn unread_of(alloc: Global, error: &Error, command: &str) -> NoCommand
+pub(crate) fn unread_of(alloc: Global, error: &Error, command: &str, words: &[String]) -> NoCommand
     ensures memory { kind_of error.now ≡ ErrorKind.OutOfMemory → result ≡ NoCommand.OutOfMemory }
     ensures help { IsHelp result → IsShown (kind_of error.now) }
     ensures shown { IsShown (kind_of error.now) → ¬ (IsMistake result) }
@@ -137,41 +141,69 @@ pub(crate) fn unread_of(alloc: Global, error: &Error, command: &str) -> NoComman
             Ok(text) => NoCommand::Help(text),
             Err(_) => NoCommand::OutOfMemory,
         },
-        kind => clap_mistake(alloc, error, command, kind),
+        kind => clap_mistake(alloc, error, command, words, kind),
     }
 }
 
 // Clap's message about a mistake.
-fn clap_mistake(alloc: Global, error: &Error, command: &str, kind: ErrorKind) -> NoCommand
+fn clap_mistake(
+    alloc: Global,
+    error: &Error,
+    command: &str,
+    words: &[String],
+    kind: ErrorKind,
+) -> NoCommand
     ensures { ¬ (IsHelp result) }
 {
     let Ok(text) = error.to_string(alloc) else {
         return NoCommand::OutOfMemory;
     };
-    let is_unknown = kind == ErrorKind::UnknownArgument;
-    match with_hint(alloc, command, text.as_str(), is_unknown) {
+    let whole = match kind {
+        ErrorKind::UnknownArgument if command.is_empty() => without_usage(alloc, text.as_str()),
+        ErrorKind::UnknownArgument | ErrorKind::MissingRequiredArgument => {
+            with_tip(alloc, command, words, text.as_str())
+        }
+        _ => with_hint(alloc, command, text.as_str()),
+    };
+    match whole {
         Ok(whole) => NoCommand::Mistake(whole),
         Err(_) => NoCommand::Mistake(text),
     }
 }
 
-/// Clap's message about a mistake, with a hint at the command whose help says more. If the program itself has no such
-/// option, clap shows the usage of a similar one; that is replaced by the usage of the program.
-fn with_hint(
-    alloc: Global,
-    command: &str,
-    text: &str,
-    is_unknown: bool,
-) -> Result<String, AllocError> {
+/// Clap's message about a mistake, with a hint at the command whose help says more.
+fn with_hint(alloc: Global, command: &str, text: &str) -> Result<String, AllocError> {
     let Some(said) = text.strip_suffix(HINT) else {
         return format!(in alloc; "{text}");
     };
-    if is_unknown && command.is_empty() {
-        let (said, _) = said.rsplit_once(USAGE).unwrap_or((said, ""));
-        return with_usage(alloc, command, said);
-    }
     let hint = hint(alloc, command)?;
     format!(in alloc; "{said}\n{hint}")
+}
+
+/// Clap's message about an option that the program itself lacks: it shows the usage of a similar one, which is replaced
+/// by the usage of the program.
+fn without_usage(alloc: Global, text: &str) -> Result<String, AllocError> {
+    let said = text.strip_suffix(HINT).unwrap_or(text);
+    let (said, _) = said.rsplit_once(USAGE).unwrap_or((said, ""));
+    with_usage(alloc, "", said)
+}
+
+/// Clap's message about words, with a tip of our own in place of clap's, if there is one.
+fn with_tip(
+    alloc: Global,
+    command: &str,
+    words: &[String],
+    text: &str,
+) -> Result<String, AllocError> {
+    let Some(tip) = tip_for(alloc, command, words)? else {
+        return with_hint(alloc, command, text);
+    };
+    let said = text.strip_suffix(HINT).unwrap_or(text);
+    let (said, _) = said.rsplit_once(USAGE).unwrap_or((said, ""));
+    let (said, _) = said.split_once(TIP).unwrap_or((said, ""));
+    let tip = tip.as_str();
+    let text = format!(in alloc; "{said}{TIP}{tip}\n")?;
+    with_usage(alloc, command, text.as_str())
 }
 
 /// The line that points to the help of a command, or of the program if the name is empty.

@@ -71,7 +71,7 @@ fn unread(alloc: Global, words: &[String], error: &Error) -> NoCommand
 {
     match unknown_topic(words, error.kind()) {
         Some(topic) => unread_topic(alloc, topic, error),
-        None => unread_of(alloc, error, command_in(words)),
+        None => unread_of(alloc, error, command_in(words), words),
     }
 }
 
@@ -96,8 +96,8 @@ fn unread_topic(alloc: Global, topic: &str, error: &Error) -> NoCommand {
         return NoCommand::OutOfMemory;
     };
     match command.try_get_matches_from(&["csa", topic]) {
-        Ok(_) => unread_of(alloc, error, ""),
-        Err(error) => unread_of(alloc, &error, ""),
+        Ok(_) => unread_of(alloc, error, "", &[]),
+        Err(error) => unread_of(alloc, &error, "", &[]),
     }
 }
 

@@ -34,6 +34,47 @@ tells
 tells For more information, try 'csa build --help'.
 ends 64
 
+# A value that was forgotten, or begins with a hyphen; an option with one hyphen; a journey without quotes.
+run profile - --from --to C --after 07:00:00 --until 09:00:00 --by 10:00:00 --criterion arrival
+tells error: unexpected argument 'C' found
+tells 
+tells   tip: '--to' was read as the value of '--from', which may be missing
+tells 
+tells Usage: csa profile [OPTIONS] --from <STOP_ID> --to <STOP_ID> --after <CLOCK> --until <CLOCK> --by <CLOCK> \
+--criterion <NAME> <IMAGE>
+tells 
+tells For more information, try 'csa profile --help'.
+ends 64
+run profile - --from A --to C --after 07:00:00 --until 09:00:00 --by 10:00:00 --criterion arrival --picture -p.svg
+tells error: unexpected argument '-p' found
+tells 
+tells   tip: a value that begins with a hyphen follows '=': '--picture=-p.svg'
+tells 
+tells Usage: csa profile [OPTIONS] --from <STOP_ID> --to <STOP_ID> --after <CLOCK> --until <CLOCK> --by <CLOCK> \
+--criterion <NAME> <IMAGE>
+tells 
+tells For more information, try 'csa profile --help'.
+ends 64
+run profile - --from A -to C --after 07:00:00 --until 09:00:00 --by 10:00:00 --criterion arrival
+tells error: unexpected argument '-t' found
+tells 
+tells   tip: an option has two hyphens: '--to'
+tells 
+tells Usage: csa profile [OPTIONS] --from <STOP_ID> --to <STOP_ID> --after <CLOCK> --until <CLOCK> --by <CLOCK> \
+--criterion <NAME> <IMAGE>
+tells 
+tells For more information, try 'csa profile --help'.
+ends 64
+run journey - ride 0 1 --from A --to C --after 07:00:00 --until 09:00:00 --by 10:00:00
+tells error: unexpected argument '0' found
+tells 
+tells   tip: a journey is one word, in quotes: 'ride 0 1'
+tells 
+tells Usage: csa journey --from <STOP_ID> --to <STOP_ID> --after <CLOCK> --until <CLOCK> --by <CLOCK> <IMAGE> <TEXT>
+tells 
+tells For more information, try 'csa journey --help'.
+ends 64
+
 # A misspelled command, also as what help is asked about: a similar one.
 run serv
 tells error: unrecognized subcommand 'serv'
