@@ -1,5 +1,5 @@
 -- Which image bytes spell, and which bytes spell none.
-use Rattle.std.specs.Prelude.{◌≡◌, ◌≢◌, ◌⊎◌, ◌%◌, ℕ, List, Option, Some, length}
+use Rattle.std.specs.Prelude.{◌≡◌, ◌≢◌, ◌⊎◌, ◌<◌, ◌%◌, ◌^◌, ℕ, List, Option, Some, length, slice_index}
 use Rattle.image_files.specs.Held.{HoldsOfBytes}
 use Rattle.image_layout.specs.Image.{ImageValue, Spells}
 use Rattle.image_layout.specs.Text.{bytes_of}
@@ -14,10 +14,14 @@ use Rattle.image_commands.specs.declared.refusal.CommandRefusal.TheVariants.{Odd
 abbrev pub SpellsImage : ImageValue → List ℕ → Type 0
 SpellsImage image bytes = (words : List ℕ) × (bytes_of words ≡ bytes) × Spells words image
 
+-- each of these words has 32 bits. Of no other words are bytes the same as of these
+abbrev pub HaveWordBits : List ℕ → Type 0
+HaveWordBits words = (k : ℕ) → slice_index words k < 2 ^ 32
+
 -- the bytes aren't whole words, or spell words that have this first fault
 abbrev pub IsNoImage : CommandRefusal → List ℕ → Type 0
 IsNoImage OddLength bytes = length bytes % 4 ≢ 0
-IsNoImage (Image fault) bytes = (words : List ℕ) × (bytes_of words ≡ bytes) × (first_fault words ≡ Some fault)
+IsNoImage (Image fault) bytes = (words : List ℕ) × HaveWordBits words × (bytes_of words ≡ bytes) × (first_fault words ≡ Some fault)
 IsNoImage (Query fault) bytes = ⊥
 IsNoImage BadText bytes = ⊥
 IsNoImage (Journey fault) bytes = ⊥

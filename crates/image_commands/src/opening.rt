@@ -5,7 +5,7 @@ ghost use Rattle.command_requests.specs.declared.statuses.TheConstants.{INPUT_OU
 ghost use Rattle.image_verifier.specs.declared.fault.ImageFault.TheVariants.{OutOfMemory as WasOutOfMemory};
 ghost use Rattle.image_files.specs.Held.{HoldsOfBytes, IsUnreadable};
 ghost use Rattle.command_endings.specs.Ending.{IsOutcome, PrintsRefusal};
-ghost use Rattle.image_commands.specs.Opening.{IsRefusedImage, SpellsImage};
+ghost use Rattle.image_commands.specs.Opening.{HaveWordBits, IsRefusedImage, SpellsImage};
 ghost use Rattle.image_commands.specs.Refusing.{refusal_line};
 ghost use Rattle.image_commands.specs.declared.refusal.CommandRefusal.TheVariants.{Image as OfImage};
 
@@ -79,10 +79,18 @@ pub fn open_image<
         }
         Err(ImageFileFault::OutOfMemory) => return Err(status::OUT_OF_MEMORY),
     };
+    have_word_bits(&words);
     match verify(rt.alloc(), words) {
         Ok(image) => Ok(image),
         Err((_words, fault)) => Err(refuse_words(rt.alloc(), path, fault, output, errors)),
     }
+}
+
+// Words have 32 bits: so bytes spell only one list of them, which has only one first fault.
+fn have_word_bits(words: &[u32])
+    ensures { HaveWordBits words.now }
+{
+    let _count = words.len();
 }
 
 // Reports that the image at a path can't be read. Returns `INPUT_OUTPUT`.

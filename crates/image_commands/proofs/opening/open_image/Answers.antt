@@ -1,12 +1,12 @@
 -- The words that are refused are those of the bytes that were read.
-use Rattle.std.proofs.Common.{◌≡◌, ◌≢◌, ℕ, List, Option, None, Some, IfSome, inl, inr}
+use Rattle.std.proofs.Common.{◌≡◌, ◌≢◌, ℕ, List, Option, None, Some, IfSome, inl, inr, subst}
 use Rattle.image_files.specs.Held.{HoldsOfBytes}
 use Rattle.image_layout.specs.Text.{bytes_of}
 use Rattle.image_verifier.specs.FirstFault.{Tells, first_fault}
 use Rattle.image_verifier.specs.declared.fault.ImageFault.{ImageFault}
 use Rattle.image_verifier.specs.declared.fault.ImageFault.TheVariants.{OutOfMemory}
 use Rattle.command_endings.specs.Ending.{PrintsRefusal}
-use Rattle.image_commands.specs.Opening.{IsNoImage, IsRefusedImage}
+use Rattle.image_commands.specs.Opening.{HaveWordBits, IsNoImage, IsRefusedImage}
 use Rattle.image_commands.specs.Refusing.{refusal_line}
 use Rattle.image_commands.specs.declared.refusal.CommandRefusal.TheVariants.{Image}
 use Rattle.command_endings.proofs.Outcomes.{outcome_of}
@@ -32,11 +32,12 @@ returns-in-Err-clause-refused g c =
     (PrintsRefusal (IsRefusedImage may_hold path input)) _ _ _ _ _ _
     (λ s line is.
     let first = is_first words fault c.in-Err.ensures.fault is.1.0 in
+    let small = subst HaveWordBits c.deref.ensures.value c.have_word_bits.ensures in
     let none : HoldsOfBytes may_hold path input (IsNoImage (Image fault)) = record {
       held = read.held;
       of_input = read.of_input;
       of_file = read.of_file;
-      holds = some_weaker read.held (λ bytes. bytes_of words ≡ bytes) (IsNoImage (Image fault)) (λ bytes same. (words, same, first)) read.holds;
+      holds = some_weaker read.held (λ bytes. bytes_of words ≡ bytes) (IsNoImage (Image fault)) (λ bytes same. (words, small, same, first)) read.holds;
     } in
     (is.0, (Image fault, is.1.0, none, is.1.1)))
     (λ none. absurd none) c.refuse_words.ensures
