@@ -9,7 +9,7 @@ use Rattle.orders.specs.Ordering.{order_fault_number}
 use Rattle.orders.specs.declared.fault.OrderFault.{OrderFault}
 use Rattle.feed_loads.specs.Drawing.{IsDrawnAt}
 use Rattle.feed_loads.specs.Learned.{LoaderLearns}
-use Rattle.feed_loads.specs.Loading.{FilesGoOn, IsLoadOutcome, load_answer, load_state}
+use Rattle.feed_loads.specs.Loading.{IsLoadOutcome, load_answer, load_state}
 use Rattle.feed_loads.specs.Words.{LoadWords}
 use Rattle.feed_loads.specs.declared.drawing.DrawnFiles.{DrawnFiles}
 use Rattle.feed_loads.specs.declared.loading.LoadedVersion.{LoadedVersion}
@@ -61,7 +61,6 @@ module _ {F D T L N : Type 0} (load_input : LoadInput F D T L N) where
     pub are_files : load_input.words.feeds.are_files load_input.feeds load.feed drawn.first.value
     pub is_plan : load_input.words.feeds.is_plan load_input.feeds plan
     pub comes : IsLoadOutcome load_input.words.outcomes plan (load_state drawn.first.value a) outcome (load_state drawn.files b)
-    pub files_are : FilesGoOn load_input.words.outcomes.files drawn.first.value outcome drawn.files
     pub answer_is : load.answer ≡ load_answer outcome
 
   -- there is no such feed, and no files are drawn

@@ -4,7 +4,7 @@ use Rattle.feed_files.specs.Files.{FileWords}
 use Rattle.feed_loader.specs.declared.plan.Plan.{Plan}
 use Rattle.load_orders.specs.Keeping.{OrderQueueId}
 use Rattle.load_orders.specs.declared.queue.Order.{Order}
-use Rattle.feed_loads.specs.Loading.{FilesGoOn, IsLoadOutcome, load_state}
+use Rattle.feed_loads.specs.Loading.{IsLoadOutcome, load_state}
 use Rattle.feed_loads.specs.Words.{OutcomeWords}
 use Rattle.feed_loads.specs.declared.drawing.DrawnFiles.{DrawnFiles}
 use Rattle.feed_loads.specs.declared.loading.LoadedVersion.{LoadedVersion}
@@ -25,4 +25,3 @@ pub record AreLoadedBy {D T L N : Type 0} (words : OutcomeWords D T L N) (plan :
   pub first : b.0.first ≡ a.0.first
   pub end : b.0.end ≡ a.0.end
   pub comes : IsLoadOutcome words plan (load_state b.0.first.value a.1) outcome (load_state b.0.files b.1)
-  pub files : FilesGoOn words.files b.0.first.value outcome b.0.files

@@ -69,19 +69,40 @@ pub record LoadState (D L : Type 0) : Type 0 where
 abbrev pub load_state : {D L : Type 0} → D → L → LoadState D L
 load_state files loader = record { files = files; loader = loader }
 
+-- what came of reading the files: all is well also where only the publish was refused
+abbrev pub reading_refused : LoadRefusal → Result (Unit {0}) LoadFault
+reading_refused (LoadRefusal.Load fault) = Err fault
+reading_refused (LoadRefusal.Publish fault) = Ok tt
+
+abbrev pub reading : {T : Type 0} → Result T LoadRefusal → Result (Unit {0}) LoadFault
+reading (Ok t) = Ok tt
+reading (Err refusal) = reading_refused refusal
+
+-- what a load leaves of the files: they are known to hold what they held; and a read of them failed exactly if the outcome says so, and it was of the
+-- file that the outcome names
+pub record FilesGoOn {D T : Type 0} (words : FileWords D) (a : D) (outcome : Result T LoadRefusal) (b : D) : Type 0 where
+  pub holds : words.holds b ≡ words.holds a
+  pub failed : words.failed b ≡ failed_by (words.failed a) (reading outcome)
+
 -- what comes of files: each was read once, the image of what they show is published as the version that the answer names, with its counts, and a notice of
 -- that version comes; or the first of them were read, nothing is published, and the first refusal is reported
-abbrev pub IsLoadOutcome : {D T L N : Type 0} → OutcomeWords D T L N → Plan → LoadState D L
+abbrev pub ComesOf : {D T L N : Type 0} → OutcomeWords D T L N → Plan → LoadState D L
     → Result (LoadedVersion × Option N) LoadRefusal → LoadState D L → Type 0
-IsLoadOutcome words plan a (Ok loaded) b =
+ComesOf words plan a (Ok loaded) b =
     (image : ImageValue)
     × IsMadeOf words.files a.files b.files plan (image, loaded.0.report)
     × PublishesAndCollects (words.loader.answers a.loader) image loaded.0.version (words.loader.answers b.loader)
     × MatchOption loaded.1 ⊥ (λ notice. words.version notice ≡ loaded.0.version)
-IsLoadOutcome words plan a (Err refusal) b =
+ComesOf words plan a (Err refusal) b =
     SomeWereRead (words.files.reads a.files) (words.files.reads b.files)
     × IsRefusalOf words.files a.files b.files plan refusal
     × IsNotPublished (words.loader.answers a.loader) refusal (words.loader.answers b.loader)
+
+-- what comes of a load, and what it leaves of the files
+pub record IsLoadOutcome {D T L N : Type 0} (words : OutcomeWords D T L N) (plan : Plan) (a : LoadState D L)
+    (outcome : Result (LoadedVersion × Option N) LoadRefusal) (b : LoadState D L) : Type 0 where
+  pub comes : ComesOf words plan a outcome b
+  pub files : FilesGoOn words.files a.files outcome b.files
 
 -- the number under which a refusal is reported
 abbrev pub load_refusal_number : LoadRefusal → ℕ
@@ -97,18 +118,3 @@ notice_answer None = LoadAnswer.Unnoticed
 abbrev pub load_answer : {N : Type 0} → Result (LoadedVersion × Option N) LoadRefusal → LoadAnswer N
 load_answer (Ok loaded) = notice_answer loaded.1
 load_answer (Err refusal) = LoadAnswer.Refused (load_refusal_number refusal)
-
--- what came of reading the files: all is well also where only the publish was refused
-abbrev pub reading_refused : LoadRefusal → Result (Unit {0}) LoadFault
-reading_refused (LoadRefusal.Load fault) = Err fault
-reading_refused (LoadRefusal.Publish fault) = Ok tt
-
-abbrev pub reading : {T : Type 0} → Result T LoadRefusal → Result (Unit {0}) LoadFault
-reading (Ok t) = Ok tt
-reading (Err refusal) = reading_refused refusal
-
--- what a load leaves of the files: they are known to hold what they held; and a read of them failed exactly if the outcome says so, and it was of the
--- file that the outcome names
-pub record FilesGoOn {D T : Type 0} (words : FileWords D) (a : D) (outcome : Result T LoadRefusal) (b : D) : Type 0 where
-  pub holds : words.holds b ≡ words.holds a
-  pub failed : words.failed b ≡ failed_by (words.failed a) (reading outcome)

@@ -37,7 +37,6 @@ pub fn load_one<F: FeedFiles, N, T: Versions<Notice = N> + Loads>(
     requires loads { T.Loads.words.fits shelves.now loader.old }
     requires days { HasDays plan.now }
     ensures seat { LoaderGoesOn T.Loads.words shelves.now loader.old loader.new }
-    ensures files { FilesGoOn F.words files.old result files.new }
     ensures outcome { IsLoadOutcome (outcomes_of F.words
         T.Loads.words T.Versions.words.version)
         plan.now (load_state files.old loader.old) result (load_state files.new loader.new) }

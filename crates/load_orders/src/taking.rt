@@ -224,7 +224,8 @@ fn put_awaited<R: Wait, N: Drop, P: OrderRule<N>>(
 fn version_or_fault<N: Drop, T: Versions<Notice = N>>(
     answer: Option<LoadAnswer<N>>,
 ) -> Result<(u64, N), OrderFault>
-    ensures { MatchResult result (λ came. (T.words.version came.1 ≡ came.0) × (answer ≡ Some (LoadAnswer.Published came.1)))
+    ensures { MatchResult result
+        (λ came. (T.words.version came.1 ≡ came.0) × (answer ≡ Some (LoadAnswer.Published came.1)))
         (λ fault. fault_of_answer answer ≡ Some fault) }
 {
     match answer {
@@ -264,7 +265,8 @@ impl<'a, R: Wait, N: Drop, T: Versions<Notice = N>, P: OrderRule<N>> Orders
     /// memory to wait, and nothing was put; or none for a notice of the version that was published, which no shelves of
     /// this program answer.
     fn order_wait(&mut self, feed: &str) -> Result<(u64, N), OrderFault>
-        ensures asked { AsksAndWaits (order_words P.Protocol.holds T.words.version) feed.now result self.old self.new }
+        ensures asked { AsksAndWaits (order_words P.Protocol.holds T.words.version) feed.now result
+            self.old self.new }
         ensures notice { IfOk result (λ came. T.words.version came.1 ≡ came.0) }
     {
         let outcome = wait_for::<R, N, T, P>(

@@ -11,10 +11,15 @@ not_published answers (LoadRefusal.Load fault) early = refl
 not_published answers (LoadRefusal.Publish fault) early = inl (refl, early)
 
 pub returns-in-Err-clause-outcome : goal.returns-in-Err-clause-outcome
-returns-in-Err-clause-outcome g c = (c.in-Err.ensures.read, c.in-Err.ensures.made.1, not_published _ _ c.in-Err.ensures.made.0)
+returns-in-Err-clause-outcome g c =
+    let early = c.in-Err.ensures in
+    record { comes = (early.read, early.made.1, not_published _ _ early.made.0); files = record { holds = early.files.holds; failed = early.files.failed } }
 
 -- what isn't published is the image of the files
 pub returns-in-Err-publish_image-clause-outcome : goal.returns-in-Err-publish_image-clause-outcome
 returns-in-Err-publish_image-clause-outcome g c =
     let shared = c.in-Ok.ensures in
-    (shared.read, ((arc_value c.in-Ok.image, c.in-Ok.report), shared.made), inr c.in-Err-publish_image.ensures.published)
+    record {
+      comes = (shared.read, ((arc_value c.in-Ok.image, c.in-Ok.report), shared.made), inr c.in-Err-publish_image.ensures.published);
+      files = record { holds = shared.files.holds; failed = shared.files.failed };
+    }

@@ -16,7 +16,9 @@ returns-in-Err-clause-load g c =
       record {
         first = refl;
         end = refl;
-        comes = (subst (λ now. SomeWereRead reads (words.reads now)) (sym unread) none, λ content shows not. absurd (not refl), refl);
-        files = record { holds = ap words.holds unread; failed = ap words.failed unread };
+        comes = record {
+          comes = (subst (λ now. SomeWereRead reads (words.reads now)) (sym unread) none, λ content shows not. absurd (not refl), refl);
+          files = record { holds = ap words.holds unread; failed = ap words.failed unread };
+        };
       },
     )

@@ -30,6 +30,7 @@ loop-preserved g c =
     let was = c.loop.invariant in
     let one = c.serve_client-session in
     let noted = c.close_client in
+    let next = c.in-Some-next.ensures.1 in
     let asked = g.O.Orders.asked in
     let a = worker_state c.args.seat (asked c.args.orders) in
     let b = worker_state one.new.seat (asked one.new.orders) in
@@ -38,10 +39,10 @@ loop-preserved g c =
     record {
       next = tt;
       finite = tt;
-      queue = ap (λ (taker : TakerValue _). taker.queue) c.in-Some-next.ensures.1 ∙ was.queue;
+      queue = ap (λ (taker : TakerValue _). taker.queue) next ∙ was.queue;
       route = one.ensures.route ∙ was.route;
       fits = one.ensures.fits;
-      served = subst (λ clients. AreServed words clients noted.new.served a b) (sym (ap (λ (taker : TakerValue _). taker.taken) c.in-Some-next.ensures.1))
+      served = subst (λ clients. AreServed words clients noted.new.served a b) (sym (ap (λ (taker : TakerValue _). taker.taken) next))
           (subst (λ list. AreServed words (c.loop.taker.taken ++ c.in-Some-next.client ∷ []) list a b) (sym noted.ensures) also);
     }
 
@@ -64,11 +65,11 @@ returns-in-None-next-clause-served g c =
     let asked = g.O.Orders.asked in
     let a = worker_state c.args.seat (asked c.args.orders) in
     let b = worker_state c.loop.seat (asked c.loop.orders) in
-    let last = c.in-None-next.ensures in
-    let served = subst (λ clients. AreServed words clients c.loop.served a b) (sym (ap (λ (taker : TakerValue _). taker.taken) last.0)) c.loop.invariant.served in
+    let last = c.in-None-next.ensures.0 in
+    let served = subst (λ clients. AreServed words clients c.loop.served a b) (sym (ap (λ (taker : TakerValue _). taker.taken) last)) c.loop.invariant.served in
     record {
       fits = c.loop.invariant.fits;
-      queue_is = ap (λ (taker : TakerValue _). taker.queue) last.0 ∙ c.loop.invariant.queue;
+      queue_is = ap (λ (taker : TakerValue _). taker.queue) last ∙ c.loop.invariant.queue;
       served = served;
       exact = λ idle. exact words _ c.loop.served a b idle served;
     }
