@@ -1,7 +1,7 @@
 //! The end of the queue where clients are put, and the ends where they are taken.
 
-ghost use Rattle.std.specs.Prelude.{◌≡◌, [], false, IfOk, OnErr, OnOk};
-ghost use Rattle.handoff.specs.Ends.{closed_once_more as keeper_closed};
+ghost use Rattle.std.specs.Prelude.{◌≡◌, IfOk};
+ghost use Rattle.handoff.specs.Ends.{SendsOut, closed_once_more as keeper_closed, unused_taker};
 ghost use Rattle.client_queue.specs.Ends.{AllWereTaken, DealerValue, closed_once_more, nothing_put};
 ghost use Rattle.client_queue.specs.Ends.{out_once_more, with_back, with_sent};
 
@@ -42,9 +42,7 @@ pub fn client_queue<C: Drop>(alloc: Global) -> Result<Dealer<C>, AllocError>
 impl<C: Drop> Dealer<C> {
     /// Sends out a new taker of this queue, which has taken nothing. If memory is refused, nothing changes.
     pub fn taker(&mut self) -> Result<Taker<C>, AllocError>
-        ensures taker { IfOk result (λ taker. taker ≡ record { queue = self.old.queue; taken = []; closed = false }) }
-        ensures out { OnOk result (self.new ≡ out_once_more self.old) }
-        ensures refused { OnErr result (self.new ≡ self.old) }
+        ensures { SendsOut (unused_taker self.old.queue) out_once_more result self.old self.new }
     {
         self.keeper.another_taker()
     }

@@ -1,6 +1,7 @@
 -- Orders that are carried out one after the other.
-use Rattle.std.proofs.Common.{◌≡◌, ◌∙◌, ◌++◌, ◌∷◌, List, [], length, map, refl, sym, subst, ap}
+use Rattle.std.proofs.Common.{◌≡◌, ◌∙◌, ◌++◌, ◌∷◌, false, List, [], length, map, refl, sym, subst, ap}
 use Rattle.std.proofs.lemmas.List.{append_assoc, append-nil, length-map, map-append}
+use Rattle.load_orders.specs.Answering.{LoaderOrdersValue}
 use Rattle.load_orders.specs.declared.queue.Order.{Order}
 use Rattle.feed_loads.specs.Carrying.{AreCarried, AreCarriedOut, LoadInput, HandledOrder, IsCarriedOut, LoadsValue}
 
@@ -30,14 +31,16 @@ module _ {F D T L N : Type 0} (load_input : LoadInput F D T L N) where
 
   -- an order more was taken and carried out
   pub carries_also : (a m b : L) (loads loads_then : LoadsValue D N) (handled : HandledOrder D N) → AreCarried load_input a loads m
-      → handled.taken ≡ loads.orders.taken ++ handled.order ∷ [] → loads_then.orders.taken ≡ loads.orders.taken ++ handled.order ∷ []
-      → loads_then.orders.answered ≡ loads.orders.answered ++ handled.answered ∷ [] → loads_then.used ≡ loads.used ++ handled.files ∷ []
-      → IsCarriedOut load_input handled m b → AreCarried load_input a loads_then b
-  carries_also a m b loads loads_then handled is at taken answers uses added = record {
-    handled_orders = is.handled_orders ++ handled ∷ [];
-    orders_are = taken ∙ ap (λ list. list ++ handled.order ∷ []) is.orders_are ∙ sym (map-append (λ e. e.order) is.handled_orders (handled ∷ []));
-    answers_are = answers ∙ ap (λ list. list ++ handled.answered ∷ []) is.answers_are
-        ∙ sym (map-append (λ e. e.answered) is.handled_orders (handled ∷ []));
-    files_are = uses ∙ ap (λ list. list ++ handled.files ∷ []) is.files_are ∙ sym (map-append (λ e. e.files) is.handled_orders (handled ∷ []));
-    carried = carried_also [] is.handled_orders handled a m b is.carried (at ∙ ap (λ list. list ++ handled.order ∷ []) is.orders_are) added;
-  }
+      → handled.taken ≡ loads.orders.taken ++ handled.order ∷ []
+      → loads_then.orders ≡ record loads.orders { taken = handled.taken; answered = loads.orders.answered ++ handled.answered ∷ []; over = false }
+      → loads_then.used ≡ loads.used ++ handled.files ∷ [] → IsCarriedOut load_input handled m b → AreCarried load_input a loads_then b
+  carries_also a m b loads loads_then handled is at orders uses added =
+      let taken = at ∙ ap (λ list. list ++ handled.order ∷ []) is.orders_are in
+      record {
+        handled_orders = is.handled_orders ++ handled ∷ [];
+        orders_are = ap (λ (o : LoaderOrdersValue N). o.taken) orders ∙ taken ∙ sym (map-append (λ e. e.order) is.handled_orders (handled ∷ []));
+        answers_are = ap (λ (o : LoaderOrdersValue N). o.answered) orders ∙ ap (λ list. list ++ handled.answered ∷ []) is.answers_are
+            ∙ sym (map-append (λ e. e.answered) is.handled_orders (handled ∷ []));
+        files_are = uses ∙ ap (λ list. list ++ handled.files ∷ []) is.files_are ∙ sym (map-append (λ e. e.files) is.handled_orders (handled ∷ []));
+        carried = carried_also [] is.handled_orders handled a m b is.carried taken added;
+      }

@@ -82,9 +82,7 @@ module _ {F D T L N : Type 0} (load_input : LoadInput F D T L N) where
   pub record Handles (order : Order N) (a b : LoadsValue D N × L) : Type 0 where
     pub answer : AnsweredValue N
     pub files : Option (DrawnFiles D N)
-    pub queue_is : b.0.orders.queue ≡ a.0.orders.queue
-    pub taken_are : b.0.orders.taken ≡ a.0.orders.taken
-    pub answers_are : b.0.orders.answered ≡ a.0.orders.answered ++ answer ∷ []
+    pub orders_are : b.0.orders ≡ record a.0.orders { answered = a.0.orders.answered ++ answer ∷ [] }
     pub files_are : b.0.used ≡ a.0.used ++ files ∷ []
     pub carried : IsCarriedOut (handled_order_of order a.0.orders.taken files answer) a.1 b.1
 

@@ -280,7 +280,7 @@ impl<C: Criterion> FrontLists<C> {
             return put_alone(&self.criterion, &mut self.entries, &self.items, point, head);
         }
         self.kept.clear();
-        self.kept.push(point)?;
+        append(&mut self.kept, point)?;
         put(
             &self.criterion,
             &mut self.entries,

@@ -10,6 +10,7 @@ ghost use Rattle.fronts.specs.Walking.{IsKept, MayInsert, AreKept};
 use crate::entry::{Arena, Boarding, Item, RiddenLabel, Step};
 use crate::putting::index_of;
 use crate::search::{front_betters, part};
+use crate::vectors::append;
 use criteria::Criterion;
 use std::alloc::AllocError;
 
@@ -29,7 +30,7 @@ fn keep_point<C: Criterion>(
         ∷ [])) }
 {
     if !front_betters(criterion, arena, index, &point.value) {
-        kept.push(point)?;
+        append(kept, point)?;
     }
     Ok(())
 }
@@ -79,12 +80,15 @@ fn keep_value<V: Copy>(
         (λ _. Extends steps.old.items steps.new.items) }
 {
     let tag = index_of(steps.len())?;
-    steps.push(step)?;
-    kept.push(Item {
-        departure,
-        value,
-        tag,
-    })?;
+    append(steps, step)?;
+    append(
+        kept,
+        Item {
+            departure,
+            value,
+            tag,
+        },
+    )?;
     Ok(())
 }
 

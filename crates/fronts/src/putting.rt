@@ -36,7 +36,7 @@ fn leave<C: Criterion>(
     ensures { Pushes result items.old.items (left_by (C.rules criterion.now) points.now (point ∷ [])) items.new.items }
 {
     if !some_no_worse(criterion, points, &point.value) {
-        items.push(point)?;
+        append(items, point)?;
     }
     Ok(())
 }

@@ -83,36 +83,53 @@ pub(crate) fn stop_time(records: &Records<'_>) -> Result<(Option<u32>, Option<u3
 }
 
 // The stop times read so far, and what is needed to guess the next row's stop: trips of a line are usually listed
-// together, so the stop after a stop is probably the same as the last time.
+// together, so a trip probably has the stops of the one before it.
 #[derive(Drop)]
 struct StopTimesRead {
     times: StopTimes,
-    // the index of the last stop_id that wasn't blank, 0 at first
-    last: u32,
-    // for the index of each stop_id, the index of the stop_id that followed it last
-    followers: Vec<u32>,
-    // whether the last guesses were right, a bit for each, the last one lowest; if two were wrong, none is tried
-    again: u8,
+    // the index of the earlier row whose stop the next row probably has
+    repeated: usize,
+    // for the index of each stop_id, the index of its last row
+    last_rows: Vec<usize>,
+    // how many rows in sequence weren't guessed right
+    wrong: u8,
 }
 
 impl StopTimesRead {
-    // Notes a row's stop, if it has one, as that which followed the last stop. Each index but the newest has an entry,
-    // so a missing one is added at the end.
-    fn follow(&mut self, stop: Option<u32>) -> Result<(), FaultKind>
+    // Returns the stop that the next row probably has. After two wrong guesses, only two rows of eight are guessed.
+    fn likely_stop(&self) -> Option<u32> {
+        if self.wrong & 7 > 1 {
+            return None;
+        }
+        self.times.rows.get(self.repeated)?.stop
+    }
+
+    // Notes a row's stop, if it has one, and whether it was guessed: if not, the rows behind the stop's last row are
+    // those that the next rows probably repeat. Each index but the newest has a last row, so a missing one is added at
+    // the end.
+    fn follow(&mut self, likely: Option<u32>, stop: Option<u32>) -> Result<(), FaultKind>
         ensures same { OnOk result (self.new.times ≡ self.old.times) }
         ensures err { IfErr result (λ kind. kind ≡ FaultKind.OutOfMemory) }
     {
+        self.repeated = self.repeated.saturating_add(1);
         let Some(stop) = stop else {
             return Ok(());
         };
-        let at = self.last as usize;
-        self.last = stop;
-        if at < self.followers.len() {
-            self.again = self.again << 1 | (self.followers[at] == stop) as u8;
-            self.followers[at] = stop;
-            return Ok(());
+        let at = stop as usize;
+        let row = self.times.rows.len();
+        let is_new = at >= self.last_rows.len();
+        if likely == Some(stop) {
+            self.wrong = 0;
+        } else {
+            self.wrong = self.wrong.wrapping_add(1);
+            let last = if is_new { row } else { self.last_rows[at] };
+            self.repeated = last.saturating_add(1);
         }
-        add_row(&mut self.followers, stop)
+        if is_new {
+            return add_row(&mut self.last_rows, row);
+        }
+        self.last_rows[at] = row;
+        Ok(())
     }
 }
 
@@ -128,11 +145,10 @@ impl TableRows for StopTimesRead {
     fn add(&mut self, alloc: Global, records: &Records<'_>) -> Result<(), FaultKind> {
         let (arrival, departure, sequence) = stop_time(records)?;
         let likely_trip = self.times.rows.last().map(|row| row.trip);
-        let follower = self.followers.get(self.last as usize).copied();
-        let likely_stop = follower.filter(|_| self.again & 3 != 0);
+        let likely_stop = self.likely_stop();
         let trip = index_of(alloc, &mut self.times.trips, likely_trip, records.text(0))?;
         let stop = stop_index(alloc, &mut self.times.stops, likely_stop, records.text(3))?;
-        self.follow(stop)?;
+        self.follow(likely_stop, stop)?;
         let row = StopTimeRow {
             trip,
             arrival,
@@ -164,9 +180,9 @@ impl TableFile for StopTimes {
                 stops: IndexSet::with_hasher(alloc, hash),
                 rows: Vec::new(alloc),
             },
-            last: 0,
-            followers: Vec::new(alloc),
-            again: 0,
+            repeated: 0,
+            last_rows: Vec::new(alloc),
+            wrong: 0,
         };
         read_table(read, alloc, bytes).map(|read| read.times)
     }

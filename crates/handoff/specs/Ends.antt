@@ -1,9 +1,10 @@
 -- What the ends of a queue show.
-use Rattle.std.specs.Prelude.{◌≡◌, ◌+◌, ◌-◌, ◌++◌, ◌∷◌, ℕ, Bool, true, false, List, [], ⊤}
+use Rattle.std.specs.Prelude.{◌≡◌, ◌+◌, ◌-◌, ◌++◌, ◌∷◌, ℕ, Bool, true, false, List, [], Option, Some, None, Result, Ok, Err, MatchBool, MatchResult, ⊤}
+use Rattle.std.specs.declared.alloc.AllocError.{AllocError}
 use Rattle.crossbeam_channel.specs.declared.flavors.array.Key.{Key}
 use Rattle.atomic_table.specs.Seated.{TableId}
 use Rattle.atomic_table.specs.declared.badge.Badge.{Badge}
-use Rattle.handoff.specs.Queue.{Held, nothing_kept}
+use Rattle.handoff.specs.Queue.{Held, QueueRule, nothing_kept}
 use Rattle.handoff.specs.declared.putting.NotPut.{NotPut}
 use Rattle.handoff.specs.declared.queue.Message.{Message}
 use Rattle.handoff.specs.declared.queue.KeeperView.{KeeperView}
@@ -36,6 +37,10 @@ abbrev pub times : Bool → ℕ
 times true = 1
 times false = 0
 
+-- an end is sent out, unused, and counted; or memory is refused, and nothing changes
+abbrev pub SendsOut : {E K : Type 0} → E → (K → K) → Result E AllocError → K → K → Type 0
+SendsOut unused counted result before after = MatchResult result (λ end. (end ≡ unused) × (after ≡ counted before)) (λ refused. after ≡ before)
+
 module _ {I : Type 0} where
   -- one more end is out
   abbrev pub putter_out : KeeperValue I → KeeperValue I
@@ -64,13 +69,23 @@ module _ {I : Type 0} where
   abbrev pub closed_once_more : KeeperValue I → KeeperValue I
   closed_once_more a = record a { view = record a.view { closings = a.view.closings + 1 } }
 
-  -- this item is put, by one try
-  abbrev pub IsPutAt : PutterValue I → I → PutterValue I → Type 0
-  IsPutAt before item after = (after.items ≡ before.items ++ item ∷ []) × (after.tries ≡ before.tries + 1)
+  -- ends at which nothing was put, tried to be put, or taken yet
+  abbrev pub unused_putter : QueueId I → PutterValue I
+  unused_putter queue = record { queue = queue; items = []; tries = 0 }
 
-  -- an end that has tried to put an item, and put none
+  abbrev pub unused_taker : QueueId I → TakerValue I
+  unused_taker queue = record { queue = queue; taken = []; closed = false }
+
+  -- an end that has tried once more to put an item, which is put or isn't
+  abbrev pub with_item : PutterValue I → I → PutterValue I
+  with_item putter item = record putter { items = putter.items ++ item ∷ []; tries = putter.tries + 1 }
+
   abbrev pub once_tried : PutterValue I → PutterValue I
   once_tried putter = record putter { tries = putter.tries + 1 }
+
+  abbrev pub after_try : {E : Type 0} → PutterValue I → I → Result (Unit {0}) E → PutterValue I
+  after_try putter item (Ok u) = with_item putter item
+  after_try putter item (Err fault) = once_tried putter
 
   -- what an end knows, by what it does
   abbrev pub keeper_of : EndView I → KeeperView I
@@ -95,8 +110,15 @@ module _ {I : Type 0} where
   abbrev pub IsTakingSide : Bool → EndView I → Type 0
   IsTakingSide closed side = side ≡ EndView.Taking (items_of side) (times closed)
 
--- why an item isn't put by a try: over a rule of queues with this much room, the queue was full at one moment since this try began; of a queue from
--- which none is taken any more nothing is said
-abbrev pub IsTurnedAway : {I : Type 0} → (List (Message I) → List (EndView I) → Type 0) → ℕ → PutterValue I → NotPut → Type 0
-IsTurnedAway holds room end NotPut.Full = Held holds room (EndView.Putting end.items (end.tries + 1))
-IsTurnedAway holds room end NotPut.NoTaker = ⊤
+module _ {I : Type 0} (rule : QueueRule I) where
+  -- why an item isn't put by a try: a queue with this much room was full at one moment since this try began; of a queue from which none is taken any
+  -- more nothing is said
+  abbrev pub IsTurnedAway : ℕ → PutterValue I → NotPut → Type 0
+  IsTurnedAway room end NotPut.Full = Held rule room (EndView.Putting end.items (end.tries + 1))
+  IsTurnedAway room end NotPut.NoTaker = ⊤
+
+  -- an open end takes an item; or it takes none: the queue is closed for it, or else was empty at one moment
+  abbrev pub TakesNext : TakerValue I → Option I → TakerValue I → Type 0
+  TakesNext before (Some item) after = (before.closed ≡ false) × (after ≡ record before { taken = before.taken ++ item ∷ [] })
+  TakesNext before None after = (after ≡ record before { closed = after.closed })
+      × MatchBool after.closed ⊤ ((before.closed ≡ false) × Held rule 0 (EndView.Taking before.taken 0))

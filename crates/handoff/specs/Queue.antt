@@ -150,23 +150,26 @@ abbrev pub KnowsAllTaken : {I : Type 0} → EndView I → Type 0
 KnowsAllTaken (EndView.Keeping k) = AllWereTaken k
 KnowsAllTaken side = ⊤
 
--- over a rule of what a queue holds, oldest first, and of what each of its ends knows
-module _ {I : Type 0} (holds : List (Message I) → List (EndView I) → Type 0) where
+-- a rule of what a queue holds, oldest first, and of what each of its ends knows
+abbrev pub QueueRule : Type 0 → Type 1
+QueueRule I = List (Message I) → List (EndView I) → Type 0
+
+module _ {I : Type 0} (rule : QueueRule I) where
   -- an end that puts an item where fewer wait than there is room for keeps the rule, and so does one that tries to. Each of these steps changes what
   -- this end knows: so no steps of its own lead from a moment at which there was room to one at which there is none and it knows the same
   pub record IsKeptByPutting (room : ℕ) : Type 0 where
     pub puts : (pass : ℕ) (items : List I) (tries : ℕ) (item : I)
-        → Pushes holds room pass (EndView.Putting items tries) (Message.Item item) (IsOneMore (EndView.Putting items tries) (Message.Item item))
+        → Pushes rule room pass (EndView.Putting items tries) (Message.Item item) (IsOneMore (EndView.Putting items tries) (Message.Item item))
     pub tries : (pass : ℕ) (items : List I) (tries : ℕ)
-        → Forks holds pass (EndView.Putting items tries) (tried (EndView.Putting items tries)) EndView.Rests
+        → Forks rule pass (EndView.Putting items tries) (tried (EndView.Putting items tries)) EndView.Rests
 
   -- an end that takes what comes first keeps it
   abbrev pub IsKeptByTaking : Type 0
-  IsKeptByTaking = (pass : ℕ) (items : List I) (ended : ℕ) → Pops holds pass (EndView.Taking items ended) (IsOneMore (EndView.Taking items ended))
+  IsKeptByTaking = (pass : ℕ) (items : List I) (ended : ℕ) → Pops rule pass (EndView.Taking items ended) (IsOneMore (EndView.Taking items ended))
 
   -- the rule holds of these arrivals and of what some ends know, one of which knows this
   abbrev pub IsHeldBeside : EndView I → List (Message I) → Type 0
-  IsHeldBeside side arrivals = (views : List (EndView I)) × (pass : ℕ) × holds arrivals views × (get_elem? views pass ≡ some side)
+  IsHeldBeside side arrivals = (views : List (EndView I)) × (pass : ℕ) × rule arrivals views × (get_elem? views pass ≡ some side)
 
   -- at one moment the queue held so many, and one of its ends knew this: the rule held then
   abbrev pub Held : ℕ → EndView I → Type 0

@@ -1,11 +1,11 @@
 //! The end that keeps the queue.
 
-ghost use Rattle.std.specs.Prelude.{◌≡◌, ◌<◌, [], false, true, IfOk, MatchBool, OnErr, OnOk};
+ghost use Rattle.std.specs.Prelude.{◌≡◌, ◌<◌, false, true, IfOk, MatchBool};
 ghost use Rattle.crossbeam_channel.specs.Claims.{IsSeatAt, view as view_of};
 ghost use Rattle.crossbeam_channel.specs.Ends.{ruled_capacity, sends_on};
 ghost use Rattle.crossbeam_channel.specs.Fifo.{Pushes};
-ghost use Rattle.handoff.specs.Ends.{KeeperValue, closed_once_more, putter_back, putter_out, taker_back, taker_out};
-ghost use Rattle.handoff.specs.Ends.{with_put};
+ghost use Rattle.handoff.specs.Ends.{KeeperValue, SendsOut, closed_once_more, putter_back, putter_out, taker_back};
+ghost use Rattle.handoff.specs.Ends.{taker_out, unused_putter, unused_taker, with_put};
 ghost use Rattle.handoff.specs.Queue.{AllWereTaken, IsOneMore, IsQueue, nothing_kept};
 
 use crate::putting::{PutEnd, UsedPutEnd};
@@ -64,9 +64,7 @@ impl<I: Drop, const ROOM: usize> Keeper<I, ROOM> {
     /// changes.
     pub fn another_putter(&mut self) -> Result<PutEnd<I, EachItemOnce<ROOM>>, AllocError>
         requires open { self.old.view.closings ≡ 0 }
-        ensures putter { IfOk result (λ end. end ≡ record { queue = self.old.queue; items = []; tries = 0 }) }
-        ensures out { OnOk result (self.new ≡ putter_out self.old) }
-        ensures refused { OnErr result (self.new ≡ self.old) }
+        ensures { SendsOut (unused_putter self.old.queue) putter_out result self.old self.new }
     {
         let sender = self.sender.try_clone()?;
         let pass = self.sender.another::<PutterGoesOut>(&mut self.pass);
@@ -77,9 +75,7 @@ impl<I: Drop, const ROOM: usize> Keeper<I, ROOM> {
     /// nothing changes.
     pub fn another_taker(&mut self) -> Result<TakeEnd<I, EachItemOnce<ROOM>>, AllocError>
         requires opens { self.old.opens ≡ true }
-        ensures taker { IfOk result (λ end. end ≡ record { queue = self.old.queue; taken = []; closed = false }) }
-        ensures out { OnOk result (self.new ≡ taker_out self.old) }
-        ensures refused { OnErr result (self.new ≡ self.old) }
+        ensures { SendsOut (unused_taker self.old.queue) taker_out result self.old self.new }
     {
         let Some(own) = &self.receiver else {
             unreachable!();
@@ -96,7 +92,7 @@ impl<I: Drop, const ROOM: usize> Keeper<I, ROOM> {
     /// Sends out the last such end. Once all of them are dropped, no item can be put any more.
     pub fn last_taker(&mut self) -> TakeEnd<I, EachItemOnce<ROOM>>
         requires opens { self.old.opens ≡ true }
-        ensures taker { result ≡ record { queue = self.old.queue; taken = []; closed = false } }
+        ensures taker { result ≡ unused_taker self.old.queue }
         ensures out { self.new ≡ record (taker_out self.old) { opens = false } }
     {
         let Some(receiver) = self.receiver.take() else {

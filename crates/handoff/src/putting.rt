@@ -1,7 +1,7 @@
 //! The ends at which items are put.
 
-ghost use Rattle.std.specs.Prelude.{◌≡◌, IfErr, OnOk};
-ghost use Rattle.handoff.specs.Ends.{IsPutAt, IsTurnedAway, once_tried};
+ghost use Rattle.std.specs.Prelude.{◌≡◌, IfErr};
+ghost use Rattle.handoff.specs.Ends.{IsTurnedAway, after_try};
 
 use crate::queue::{EndView, Message, Moves, PutRule, Tries};
 use crossbeam_channel::{Pass, RuledSender, TrySendError};
@@ -69,10 +69,8 @@ pub enum NotPut {
 impl<I: Drop, P: PutRule<I>> PutEnd<I, P> {
     /// Puts an item if there is room. One that isn't put is dropped.
     pub fn try_put<R: Wait>(&mut self, rt: &R, item: I) -> Result<(), NotPut>
-        ensures queue { self.new.queue ≡ self.old.queue }
-        ensures put { OnOk result (IsPutAt self.old item self.new) }
-        ensures refused { IfErr result (λ fault. IsTurnedAway P.Protocol.holds P.room self.old fault
-            × (self.new ≡ once_tried self.old)) }
+        ensures tried { self.new ≡ after_try self.old item result }
+        ensures refused { IfErr result (IsTurnedAway P.Protocol.holds P.room self.old) }
     {
         // Counts the try in what contracts see of this end: splitting its pass is the step by which that may change.
         drop(self.sender.another::<Tries>(&mut self.pass));

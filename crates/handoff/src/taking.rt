@@ -1,10 +1,8 @@
 //! The ends at which items are taken.
 
-ghost use Rattle.std.specs.Prelude.{◌≡◌, ◌++◌, ◌∷◌, [], false, true, IfNone, IfSome, MatchOption};
+ghost use Rattle.std.specs.Prelude.{◌≡◌};
 ghost use Rattle.crossbeam_channel.specs.Claims.{view as view_of};
-ghost use Rattle.handoff.specs.Ends.{items_of};
-ghost use Rattle.handoff.specs.Queue.{Held};
-ghost use Rattle.handoff.specs.declared.queue.EndView.{EndView};
+ghost use Rattle.handoff.specs.Ends.{TakesNext, items_of};
 
 use crate::queue::{EndView, Message, Moves, TakeRule};
 use crossbeam_channel::{Pass, RuledReceiver};
@@ -79,13 +77,7 @@ impl<I: Drop, P: TakeRule<I>> TakeEnd<I, P> {
     /// in this call or before; or if all other ends are gone and the queue is empty: the contract says only that it was
     /// empty at one moment of the call; that the ends are gone, only tests show.
     pub fn next<R: Wait>(&mut self, rt: &R) -> Option<I>
-        ensures queue { self.new.queue ≡ self.old.queue }
-        ensures taken { MatchOption result (self.new.taken ≡ self.old.taken)
-            (λ item. (self.new.taken ≡ self.old.taken ++ item ∷ [])) }
-        ensures open { IfSome result (λ item. self.new.closed ≡ false) }
-        ensures none { IfNone result (self.new.closed ≡ false
-            → Held P.Protocol.holds 0 (EndView.Taking self.old.taken 0)) }
-        ensures closed { self.old.closed ≡ true → self.new ≡ self.old }
+        ensures { TakesNext P.Protocol.holds self.old result self.new }
     {
         if self.closed {
             return None;

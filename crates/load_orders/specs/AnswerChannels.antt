@@ -56,15 +56,15 @@ ReceivedWasSent N = (items : List (LoadAnswer N)) (ends : List (AnswerView N)) �
     → sent ≡ received ++ items
 
 -- over a rule of what an answer channel holds, and of what its ends know
-module _ {N : Type 0} (holds : List (LoadAnswer N) → List (AnswerView N) → Type 0) where
+module _ {N : Type 0} (rule : List (LoadAnswer N) → List (AnswerView N) → Type 0) where
   -- each receiving keeps the rule
   abbrev pub IsKeptByReceiving : Type 0
-  IsKeptByReceiving = (end : ℕ) (received : List (LoadAnswer N)) → Pops holds end (AnswerView.Receiving received)
+  IsKeptByReceiving = (end : ℕ) (received : List (LoadAnswer N)) → Pops rule end (AnswerView.Receiving received)
       (IsOneAnswerMore (AnswerView.Receiving received))
 
   -- the rule holds of these answers and of what some ends know, one of which knows this
   abbrev pub IsHeldBeside : AnswerView N → List (LoadAnswer N) → Type 0
-  IsHeldBeside side items = (ends : List (AnswerView N)) × (end : ℕ) × holds items ends × (get_elem? ends end ≡ some side)
+  IsHeldBeside side items = (ends : List (AnswerView N)) × (end : ℕ) × rule items ends × (get_elem? ends end ≡ some side)
 
   -- at one moment no answer was in the channel, and one end hadn't received any: the rule held then
   abbrev pub WasEmpty : Type 0

@@ -1,12 +1,11 @@
 -- What a worker's end of the queue shows, and why it refuses an order.
-use Rattle.std.specs.Prelude.{◌≡◌, ◌+◌, ◌<◌, ◌⊎◌, ◌++◌, ◌∷◌, ℕ, List, [], slice_get, Option, Some, None, Ok, Err, ⊤}
+use Rattle.std.specs.Prelude.{◌≡◌, ◌+◌, ◌<◌, ◌⊎◌, ◌++◌, ◌∷◌, ℕ, List, [], slice_get, Option, Some, None, Result, Ok, Err, ⊤}
 use Rattle.std.proofs.Common.{refl}
-use Rattle.orders.specs.Ordering.{OrderValue}
+use Rattle.orders.specs.Ordering.{OrderValue, version_alone, waited_value}
 use Rattle.orders.specs.declared.fault.OrderFault.{OrderFault}
 use Rattle.orders.specs.declared.ordered.OrderOutcome.{OrderOutcome}
-use Rattle.handoff.specs.Ends.{IsPutAt, once_tried}
-use Rattle.handoff.specs.Queue.{Held}
-use Rattle.handoff.specs.declared.queue.Message.{Message}
+use Rattle.handoff.specs.Ends.{once_tried, with_item}
+use Rattle.handoff.specs.Queue.{Held, QueueRule}
 use Rattle.handoff.specs.declared.queue.EndView.{EndView}
 use Rattle.load_orders.specs.Keeping.{EndValue, OrderQueueId}
 use Rattle.load_orders.specs.AnswerChannels.{AnswerChannelId, AnswerEndValue, received_at}
@@ -66,23 +65,20 @@ order_of index = record { feed = index; answer_channel = None }
 abbrev pub awaited_order : {N : Type 0} → ℕ → AnswerChannelId → Order N
 awaited_order index channel = record { feed = index; answer_channel = Some channel }
 
+-- there is a feed of this name
+abbrev pub IsNamed : List (List ℕ) → List ℕ → Type 0
+IsNamed names name = (index : ℕ) × IsFirst names name index
+
 -- an order of the first feed of this name is put
 abbrev pub IsPut : {N : Type 0} → List ℕ → Dealings N → Dealings N → Type 0
-IsPut name before after = (index : ℕ) × IsFirst before.names name index × IsPutAt before.end (order_of index) after.end
+IsPut name before after =
+    (index : ℕ) × IsFirst before.names name index × (after.end ≡ with_item before.end (order_of index)) × (after.received ≡ before.received)
 
 -- an order of the first feed of this name is put with an answer channel, and by the one receiving end of that channel this answer is received, or none
 abbrev pub Receives : {N : Type 0} → List ℕ → Option (LoadAnswer N) → Dealings N → Dealings N → Type 0
 Receives name answer before after =
     (index : ℕ) × (channel : AnswerChannelId) × IsFirst before.names name index
-    × IsPutAt before.end (awaited_order index channel) after.end × (after.received ≡ before.received ++ received_at channel answer ∷ [])
-
--- a feed of this name is there, and nothing was put, or tried to be
-abbrev pub IsNotPut : {N : Type 0} → List ℕ → Dealings N → Dealings N → Type 0
-IsNotPut name before after = ((index : ℕ) × IsFirst before.names name index) × (after.end ≡ before.end) × (after.received ≡ before.received)
-
--- one try to put an order of the feed put nothing
-abbrev pub IsTriedInVain : {N : Type 0} → List ℕ → Dealings N → Dealings N → Type 0
-IsTriedInVain name before after = ((index : ℕ) × IsFirst before.names name index) × (after.end ≡ once_tried before.end) × (after.received ≡ before.received)
+    × (after.end ≡ with_item before.end (awaited_order index channel)) × (after.received ≡ before.received ++ received_at channel answer ∷ [])
 
 -- the order is added to those that were asked for; the names and the queue stay the same
 abbrev pub IsNoted : {N : Type 0} → OrderValue → WorkerOrdersValue N → WorkerOrdersValue N → Type 0
@@ -92,11 +88,11 @@ IsNoted order before after = (route_of after ≡ route_of before) × (after.aske
 abbrev pub four_wait : ◌≡◌ {A = ℕ} 4 4
 four_wait = refl
 
--- over the rule of the queue: what it holds, and what its ends know
-module _ {N : Type 0} (holds : List (Message (Order N)) → List (EndView (Order N)) → Type 0) where
+-- over the rule of the queue
+module _ {N : Type 0} (rule : QueueRule (Order N)) where
   -- why the queue takes no order: it held four at one moment since this try began; of a loader that is gone nothing is said
   abbrev pub IsTurnedAway : EndValue N → OrderFault → Type 0
-  IsTurnedAway end OrderFault.OrdersFull = Held holds 4 (EndView.Putting end.items (end.tries + 1))
+  IsTurnedAway end OrderFault.OrdersFull = Held rule 4 (EndView.Putting end.items (end.tries + 1))
   IsTurnedAway end OrderFault.LoaderGone = ⊤
   IsTurnedAway end _ = ⊥
 
@@ -108,37 +104,56 @@ module _ {N : Type 0} (holds : List (Message (Order N)) → List (EndView (Order
   -- why an order of a feed of this name is refused, and what that did
   abbrev pub RefusesOrder : List ℕ → OrderFault → Dealings N → Dealings N → Type 0
   RefusesOrder name OrderFault.UnknownFeed before after = IsNoName before.names name × (after.end ≡ before.end) × (after.received ≡ before.received)
-  RefusesOrder name OrderFault.OrdersFull before after = IsTriedInVain name before after × IsTurnedAway before.end OrderFault.OrdersFull
-  RefusesOrder name OrderFault.LoaderGone before after = IsTriedInVain name before after
-  RefusesOrder name _ before after = ⊥
+  RefusesOrder name fault before after =
+      IsNamed before.names name × IsTurnedAway before.end fault × (after.end ≡ once_tried before.end) × (after.received ≡ before.received)
 
-  -- why no version came of an order that was waited for
+  -- why no version came of an order that was waited for: it wasn't put, or what was received by its answer channel says so
   abbrev pub RefusesVersion : List ℕ → OrderFault → Dealings N → Dealings N → Type 0
-  RefusesVersion name OrderFault.UnknownFeed before after = IsNoName before.names name × (after.end ≡ before.end) × (after.received ≡ before.received)
-  RefusesVersion name OrderFault.OrdersFull before after = IsTriedInVain name before after × IsTurnedAway before.end OrderFault.OrdersFull
-  RefusesVersion name (OrderFault.LoadRefused refusal) before after = Receives name (Some (LoadAnswer.Refused refusal)) before after
-  RefusesVersion name OrderFault.OutOfMemory before after = Receives name (Some LoadAnswer.Unnoticed) before after ⊎ IsNotPut name before after
-  RefusesVersion name OrderFault.LoaderGone before after = Receives name None before after ⊎ IsTriedInVain name before after
+  RefusesVersion name OrderFault.UnknownFeed before after = RefusesOrder name OrderFault.UnknownFeed before after
+  RefusesVersion name fault before after =
+      (IsNamed before.names name × IsNotAwaited before.end fault after.end × (after.received ≡ before.received))
+      ⊎ ((answer : Option (LoadAnswer N)) × (fault_of_answer answer ≡ Some fault) × Receives name answer before after)
 
-  -- over notices of these versions
-  module _ (noted : N → ℕ) where
-    -- what an order of this feed did, by what it was answered: it was put, or refused; or it was waited for, and the version that came is that
-    -- of the notice that was received, by the order's own answer channel
-    abbrev pub Does : List ℕ → OrderOutcome → Dealings N → Dealings N → Type 0
-    Does feed (OrderOutcome.Put (Ok u)) before after = IsPut feed before after × (after.received ≡ before.received)
-    Does feed (OrderOutcome.Put (Err fault)) before after = RefusesOrder feed fault before after
-    Does feed (OrderOutcome.Waited (Ok version)) before after =
-        (notice : N) × (noted notice ≡ version) × Receives feed (Some (LoadAnswer.Published notice)) before after
-    Does feed (OrderOutcome.Waited (Err fault)) before after = RefusesVersion feed fault before after
+  -- what an order that nobody waits for did
+  abbrev pub Puts : List ℕ → Result (Unit {0}) OrderFault → Dealings N → Dealings N → Type 0
+  Puts feed (Ok u) before after = IsPut feed before after
+  Puts feed (Err fault) before after = RefusesOrder feed fault before after
 
-    -- each of these orders was asked for, one after the other
-    abbrev pub AreAsked : List OrderValue → WorkerOrdersValue N → WorkerOrdersValue N → Type 0
-    AreAsked [] before after = after ≡ before
-    AreAsked (order ∷ orders) before after = (between : WorkerOrdersValue N)
-        × Does order.feed order.outcome (dealings_of before) (dealings_of between)
-        × IsNoted order before between × AreAsked orders between after
+-- what orders go by: the rule of their queue, and the version that a notice is of
+pub record OrderWords (N : Type 0) : Type 1 where
+  pub rule : QueueRule (Order N)
+  pub version : N → ℕ
 
-    -- each order that was asked for here did this, from the first on: so all that was put at the queue and received of it comes from these orders.
-    -- How often the end had tried before is nothing that an order shows
-    abbrev pub HasAsked : WorkerOrdersValue N → Type 0
-    HasAsked orders = (tries : ℕ) × AreAsked orders.asked (nothing_asked (route_of orders) tries) orders
+abbrev pub order_words : {N : Type 0} → QueueRule (Order N) → (N → ℕ) → OrderWords N
+order_words rule version = record { rule = rule; version = version }
+
+module _ {N : Type 0} (words : OrderWords N) where
+  -- what an order that was waited for did: the version that came is that of the notice that came with it, which was received; or none came
+  abbrev pub Waits : List ℕ → Result (ℕ × N) OrderFault → Dealings N → Dealings N → Type 0
+  Waits feed (Ok came) before after = (words.version came.1 ≡ came.0) × Receives feed (Some (LoadAnswer.Published came.1)) before after
+  Waits feed (Err fault) before after = RefusesVersion words.rule feed fault before after
+
+  -- what an order of this feed did, by what it was answered
+  abbrev pub Does : List ℕ → OrderOutcome → Dealings N → Dealings N → Type 0
+  Does feed (OrderOutcome.Put taken) before after = Puts words.rule feed taken before after
+  Does feed (OrderOutcome.Waited version) before after =
+      (came : Result (ℕ × N) OrderFault) × (version_alone came ≡ version) × Waits feed came before after
+
+  -- an order was asked for
+  abbrev pub Asks : OrderValue → WorkerOrdersValue N → WorkerOrdersValue N → Type 0
+  Asks order before after = Does order.feed order.outcome (dealings_of before) (dealings_of after) × IsNoted order before after
+
+  -- an order of this feed was asked for and waited for
+  abbrev pub AsksAndWaits : List ℕ → Result (ℕ × N) OrderFault → WorkerOrdersValue N → WorkerOrdersValue N → Type 0
+  AsksAndWaits feed came before after =
+      Waits feed came (dealings_of before) (dealings_of after) × IsNoted (waited_value feed (version_alone came)) before after
+
+  -- each of these orders was asked for, one after the other
+  abbrev pub AreAsked : List OrderValue → WorkerOrdersValue N → WorkerOrdersValue N → Type 0
+  AreAsked [] before after = after ≡ before
+  AreAsked (order ∷ orders) before after = (between : WorkerOrdersValue N) × Asks order before between × AreAsked orders between after
+
+  -- each order that was asked for here did this, from the first on: so all that was put at the queue and received of it comes from these orders.
+  -- How often the end had tried before is nothing that an order shows
+  abbrev pub HasAsked : WorkerOrdersValue N → Type 0
+  HasAsked orders = (tries : ℕ) × AreAsked orders.asked (nothing_asked (route_of orders) tries) orders

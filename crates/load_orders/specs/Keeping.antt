@@ -22,8 +22,15 @@ pub record KeeperValue (N : Type 0) : Type 0 where
 abbrev pub IsOrderKeeper : {N : Type 0} → QueueKeeperValue (Order N) → Type 0
 IsOrderKeeper keeper = (keeper.view.taking ≡ 1) × (keeper.view.taken ≡ [])
 
+-- the end that keeps a new queue
+abbrev pub nothing_ordered : {N : Type 0} → OrderQueueId N → KeeperValue N
+nothing_ordered queue = record { queue = queue; put = []; out = 0; closings = 0 }
+
 abbrev pub with_one_out : {N : Type 0} → KeeperValue N → KeeperValue N
 with_one_out a = record a { out = a.out + 1 }
 
 abbrev pub with_orders : {N : Type 0} → KeeperValue N → List (Order N) → KeeperValue N
 with_orders a orders = record a { out = a.out - 1; put = a.put ++ orders }
+
+abbrev pub closed_once_more : {N : Type 0} → KeeperValue N → KeeperValue N
+closed_once_more a = record a { closings = a.closings + 1 }

@@ -1,7 +1,9 @@
 //! The end that keeps the queue of orders.
 
-ghost use Rattle.std.specs.Prelude.{◌≡◌, ◌+◌, [], false, IfOk, IfSome, IsPermutation, MatchBool, OnErr, OnOk};
-ghost use Rattle.load_orders.specs.Keeping.{KeeperValue, with_one_out, with_orders};
+ghost use Rattle.std.specs.Prelude.{◌≡◌, IfOk, IfSome, IsPermutation, MatchBool};
+ghost use Rattle.handoff.specs.Ends.{SendsOut, unused_putter};
+ghost use Rattle.load_orders.specs.Answering.{nothing_taken};
+ghost use Rattle.load_orders.specs.Keeping.{KeeperValue, closed_once_more, nothing_ordered, with_one_out, with_orders};
 
 use crate::ghost_list::GhostList;
 use crate::loader::{LoaderOrders, UsedLoader};
@@ -42,16 +44,8 @@ pub fn order_queue<N: Drop, V: Drop>(
     alloc: Global,
     leave: V,
 ) -> Result<(OrderKeeper<N>, LoaderOrders<N, V>), AllocError>
-    ensures queue { IfOk result (λ ends. ends.0.queue ≡ ends.1.queue) }
-    ensures keeper { IfOk result (λ ends. ends.0 ≡ record {
-      queue = ends.0.queue;
-      put = [];
-      out = 0;
-      closings = 0;
-    }) }
-    ensures loader { IfOk result (λ ends. ends.1.taken ≡ []) }
-    ensures unanswered { IfOk result (λ ends. ends.1.answered ≡ []) }
-    ensures unfinished { IfOk result (λ ends. ends.1.over ≡ false) }
+    ensures keeper { IfOk result (λ ends. ends.0 ≡ nothing_ordered ends.1.queue) }
+    ensures loader { IfOk result (λ ends. ends.1 ≡ nothing_taken ends.1.queue) }
 {
     let mut keeper = empty_queue::<Order<N>, 4>(alloc)?;
     let end = keeper.last_taker();
@@ -68,10 +62,7 @@ impl<N: Drop> OrderKeeper<N> {
     /// A new end of this queue, at which orders are put; none was put there yet.
     pub fn another_end(&mut self) -> Result<OrderEnd<N>, AllocError>
         requires { self.old.closings ≡ 0 }
-        ensures queue { IfOk result (λ end. end.queue ≡ self.old.queue) }
-        ensures nothing { IfOk result (λ end. end.items ≡ []) }
-        ensures out { OnOk result (self.new ≡ with_one_out self.old) }
-        ensures refused { OnErr result (self.new ≡ self.old) }
+        ensures { SendsOut (unused_putter self.old.queue) with_one_out result self.old self.new }
     {
         self.keeper.another_putter()
     }
@@ -88,9 +79,7 @@ impl<N: Drop> OrderKeeper<N> {
     /// loader is gone.
     pub fn close<R: Wait>(&mut self, rt: &R) -> bool
         requires { self.old.out ≡ 0 }
-        ensures same { self.new ≡ record self.old { closings = self.new.closings } }
-        ensures closed { MatchBool result (self.new.closings ≡ self.old.closings + 1)
-            (self.new.closings ≡ self.old.closings) }
+        ensures { MatchBool result (self.new ≡ closed_once_more self.old) (self.new ≡ self.old) }
     {
         self.keeper.close(rt)
     }

@@ -1,10 +1,7 @@
 //! The loader's end of the queue.
 
-ghost use Rattle.std.specs.Prelude.{◌≡◌, ◌++◌, ◌∷◌, [], IfNone, MatchOption, Option, false, is_none, true};
-ghost use Rattle.handoff.specs.Queue.{Held};
-ghost use Rattle.handoff.specs.declared.queue.EndView.{EndView};
-ghost use Rattle.load_orders.specs.Answering.{AllAnswered, IsSentBack};
-ghost use Rattle.load_orders.specs.AnswerChannels.{AnswerEndValue};
+ghost use Rattle.std.specs.Prelude.{◌≡◌};
+ghost use Rattle.load_orders.specs.Answering.{AllAnswered, AnswersOrder, IsSentBack, TakesOrder};
 
 use crate::answer_channels::{AnswerSender, LoadAnswer, UsedAnswerEnd};
 use crate::ghost_list::GhostList;
@@ -101,14 +98,7 @@ impl<N: Drop, V, P: TakeRule<Order<N>>> LoaderOrders<N, V, P> {
     /// one moment of the call; that the ends are gone, only tests show.
     pub fn next<R: Wait>(&mut self, rt: &R) -> Option<(Order<N>, DrawPermit<V>)>
         requires { AllAnswered self.old }
-        ensures queue { self.new.queue ≡ self.old.queue }
-        ensures taken { MatchOption result (self.new.taken ≡ self.old.taken) (λ next. self.new.taken
-            ≡ self.old.taken ++ next.0 ∷ []) }
-        ensures answered { self.new.answered ≡ self.old.answered }
-        ensures over { self.new.over ≡ is_none result }
-        ensures none { IfNone result (self.new.closed ≡ false → Held P.Protocol.holds 0
-            (EndView.Taking self.old.taken 0)) }
-        ensures closed { self.old.closed ≡ true → self.new.closed ≡ true }
+        ensures { TakesOrder P.Protocol.holds result self.old self.new }
     {
         let order = self.end.next(rt);
         self.over = order.is_none();
@@ -124,12 +114,7 @@ impl<N: Drop, V, P: TakeRule<Order<N>>> LoaderOrders<N, V, P> {
     /// Sends what came of the order to the worker that waits for it, by the order's own answer channel. Perhaps none
     /// waits, or none does any more.
     pub fn answer<R: Wait>(&mut self, rt: &R, order: Order<N>, answer: LoadAnswer<N>)
-        ensures queue { self.new.queue ≡ self.old.queue }
-        ensures taken { self.new.taken ≡ self.old.taken }
-        ensures over { self.new.over ≡ self.old.over }
-        ensures closed { self.new.closed ≡ self.old.closed }
-        ensures sent { (sent : Option (AnswerEndValue N)) × IsSentBack order.answer_channel answer sent
-            × (self.new.answered ≡ self.old.answered ++ record { answer = answer; sent = sent } ∷ []) }
+        ensures { AnswersOrder order answer self.old self.new }
     {
         let kept = GhostValue::of(&answer);
         let sent = send_back(rt, order.answer_channel, answer);

@@ -1,11 +1,10 @@
 //! Orders of feeds by their names, which a worker puts in the queue.
 
-ghost use Rattle.std.specs.Prelude.{◌≡◌, ◌++◌, ◌∷◌, [], map, string_bytes, List, Some, IfOk, IfErr, OnOk};
-ghost use Rattle.orders.specs.Ordering.{IsNotTaken, order_value, version_alone, waited_value};
-ghost use Rattle.load_orders.specs.Asking.{Receives, IsNotAwaited, IsPut, RefusesOrder, RefusesVersion};
-ghost use Rattle.handoff.specs.Ends.{IsPutAt, once_tried};
-ghost use Rattle.load_orders.specs.Asking.{HasAsked, IsTurnedAway, OrderRoute, awaited_order, fault_of_answer};
-ghost use Rattle.load_orders.specs.Asking.{dealings, dealings_of, route_of};
+ghost use Rattle.std.specs.Prelude.{◌≡◌, ◌++◌, ◌∷◌, [], map, string_bytes, List, Some, IfErr, IfOk, MatchResult};
+ghost use Rattle.orders.specs.Ordering.{IsNotTaken, order_value};
+ghost use Rattle.handoff.specs.Ends.{after_try, with_item};
+ghost use Rattle.load_orders.specs.Asking.{Asks, AsksAndWaits, HasAsked, IsNotAwaited, IsTurnedAway, OrderRoute, Puts};
+ghost use Rattle.load_orders.specs.Asking.{Waits, awaited_order, dealings, fault_of_answer, order_words, route_of};
 ghost use Rattle.load_orders.specs.AnswerChannels.{AnswerChannelId, AnswerEndValue, received_at};
 ghost use Rattle.load_orders.specs.declared.answer_channels.LoadAnswer.{LoadAnswer};
 
@@ -43,7 +42,7 @@ pub struct WorkerOrders<
 impl<'a, R: Wait, N: Drop, T: Versions<Notice = N>, P: OrderRule<N>> Model
     for WorkerOrders<'a, R, N, T, P> {
     ghost use Rattle.std.specs.Prelude.{map, string_bytes};
-    ghost use Rattle.load_orders.specs.Asking.{HasAsked, WorkerOrdersValue};
+    ghost use Rattle.load_orders.specs.Asking.{HasAsked, WorkerOrdersValue, order_words};
 
     ghost Value = { WorkerOrdersValue N };
 
@@ -55,7 +54,7 @@ impl<'a, R: Wait, N: Drop, T: Versions<Notice = N>, P: OrderRule<N>> Model
           s.received;
     } };
 
-    ghost invariant = { λ s. HasAsked P.Protocol.holds T.words.version (record {
+    ghost invariant = { λ s. HasAsked (order_words P.Protocol.holds T.words.version) (record {
       names = map string_bytes s.names.now;
       end = s.end;
       asked = s.asked;
@@ -109,7 +108,7 @@ impl<'a, R: Wait, N: Drop, T: Versions<Notice = N>, P: OrderRule<N>> WorkerOrder
     /// Asks for no more. This end of the queue is dropped; contracts still see what was asked for.
     pub fn into_used(self) -> UsedOrders<N>
         ensures same { result ≡ self.entry }
-        ensures asked { HasAsked P.Protocol.holds T.words.version result }
+        ensures asked { HasAsked (order_words P.Protocol.holds T.words.version) result }
     {
         let names = GhostValue::at(&self.names, &());
         let WorkerOrders {
@@ -134,10 +133,8 @@ fn put<R: Wait, N: Drop, P: OrderRule<N>>(
     end: &mut PutEnd<Order<N>, P>,
     order: Order<N>,
 ) -> Result<(), OrderFault>
-    ensures queue { end.new.queue ≡ end.old.queue }
-    ensures put { OnOk result (IsPutAt end.old order end.new) }
-    ensures refused { IfErr result (λ fault. IsTurnedAway P.Protocol.holds end.old fault
-        × (end.new ≡ once_tried end.old)) }
+    ensures tried { end.new ≡ after_try end.old order result }
+    ensures refused { IfErr result (IsTurnedAway P.Protocol.holds end.old) }
 {
     match end.try_put(rt, order) {
         Ok(()) => Ok(()),
@@ -153,15 +150,10 @@ fn put_named<R: Wait, N: Drop, P: OrderRule<N>>(
     feed: &str,
     end: &mut PutEnd<Order<N>, P>,
 ) -> Result<(), OrderFault>
-    ensures queue { end.new.queue ≡ end.old.queue }
     ensures plain { IfErr result IsNotTaken }
-    ensures put { (received : List (AnswerEndValue N)) → OnOk result (IsPut feed.now
+    ensures put { (received : List (AnswerEndValue N)) → Puts P.Protocol.holds feed.now result
         (dealings (map string_bytes names.now) end.old received)
-        (dealings (map string_bytes names.now) end.new received)) }
-    ensures refused { (received : List (AnswerEndValue N)) → IfErr result (λ fault.
-        RefusesOrder P.Protocol.holds feed.now fault
-        (dealings (map string_bytes names.now) end.old received)
-        (dealings (map string_bytes names.now) end.new received)) }
+        (dealings (map string_bytes names.now) end.new received) }
 {
     match index_of(names, feed) {
         Some(index) => put(
@@ -185,14 +177,9 @@ fn wait_for<R: Wait, N: Drop, T: Versions<Notice = N>, P: OrderRule<N>>(
     end: &mut PutEnd<Order<N>, P>,
     received: &mut GhostList<UsedAnswerEnd<N>>,
 ) -> Result<(u64, N), OrderFault>
-    ensures queue { end.new.queue ≡ end.old.queue }
-    ensures notice { IfOk result (λ r. T.words.version r.1 ≡ r.0) }
-    ensures received { IfOk result (λ r. Receives feed.now (Some (LoadAnswer.Published r.1))
+    ensures { Waits (order_words P.Protocol.holds T.words.version) feed.now result
         (dealings (map string_bytes names.now) end.old received.old)
-        (dealings (map string_bytes names.now) end.new received.new)) }
-    ensures refused { IfErr result (λ fault. RefusesVersion P.Protocol.holds feed.now fault
-        (dealings (map string_bytes names.now) end.old received.old)
-        (dealings (map string_bytes names.now) end.new received.new)) }
+        (dealings (map string_bytes names.now) end.new received.new) }
 {
     let Some(index) = index_of(names, feed) else {
         return Err(OrderFault::UnknownFeed);
@@ -211,12 +198,10 @@ fn put_awaited<R: Wait, N: Drop, P: OrderRule<N>>(
     end: &mut PutEnd<Order<N>, P>,
     received: &mut GhostList<UsedAnswerEnd<N>>,
 ) -> Result<Option<LoadAnswer<N>>, OrderFault>
-    ensures queue { end.new.queue ≡ end.old.queue }
-    ensures received { IfOk result (λ answer. (channel : AnswerChannelId)
-        × IsPutAt end.old (awaited_order index channel) end.new
-        × (received.new ≡ received.old ++ received_at channel answer ∷ [])) }
-    ensures refused { IfErr result (λ fault. IsNotAwaited P.Protocol.holds end.old fault end.new
-        × (received.new ≡ received.old)) }
+    ensures { MatchResult result
+        (λ answer. (channel : AnswerChannelId) × (end.new ≡ with_item end.old (awaited_order index channel))
+        × (received.new ≡ received.old ++ received_at channel answer ∷ []))
+        (λ fault. IsNotAwaited P.Protocol.holds end.old fault end.new × (received.new ≡ received.old)) }
 {
     let Ok((answer_channel, awaited)) = answer_channel(alloc) else {
         return Err(OrderFault::OutOfMemory);
@@ -239,8 +224,8 @@ fn put_awaited<R: Wait, N: Drop, P: OrderRule<N>>(
 fn version_or_fault<N: Drop, T: Versions<Notice = N>>(
     answer: Option<LoadAnswer<N>>,
 ) -> Result<(u64, N), OrderFault>
-    ensures notice { IfOk result (λ r. (T.words.version r.1 ≡ r.0) × (answer ≡ Some (LoadAnswer.Published r.1))) }
-    ensures fault { IfErr result (λ fault. fault_of_answer answer ≡ Some fault) }
+    ensures { MatchResult result (λ came. (T.words.version came.1 ≡ came.0) × (answer ≡ Some (LoadAnswer.Published came.1)))
+        (λ fault. fault_of_answer answer ≡ Some fault) }
 {
     match answer {
         Some(LoadAnswer::Published { notice }) => Ok((T::version_of(&notice), notice)),
@@ -265,13 +250,9 @@ impl<'a, R: Wait, N: Drop, T: Versions<Notice = N>, P: OrderRule<N>> Orders
     /// Puts an order of the first feed of that name: `UnknownFeed` exactly where there is none,
     /// `OrdersFull` where four orders waited in the queue at one moment of the call.
     fn order(&mut self, feed: &str) -> Result<(), OrderFault>
-        ensures asked { self.new.asked ≡ self.old.asked ++ order_value feed.now result ∷ [] }
+        ensures asked { Asks (order_words P.Protocol.holds T.words.version) (order_value feed.now result)
+            self.old self.new }
         ensures plain { IfErr result IsNotTaken }
-        ensures route { route_of self.new ≡ route_of self.old }
-        ensures received { self.new.received ≡ self.old.received }
-        ensures put { OnOk result (IsPut feed.now (dealings_of self.old) (dealings_of self.new)) }
-        ensures refused { IfErr result (λ fault. RefusesOrder P.Protocol.holds feed.now fault
-            (dealings_of self.old) (dealings_of self.new)) }
     {
         let outcome = put_named(self.rt, self.names, feed, &mut self.end);
         self.asked.note(&OrderRecord::put(feed, outcome));
@@ -283,13 +264,8 @@ impl<'a, R: Wait, N: Drop, T: Versions<Notice = N>, P: OrderRule<N>> Orders
     /// memory to wait, and nothing was put; or none for a notice of the version that was published, which no shelves of
     /// this program answer.
     fn order_wait(&mut self, feed: &str) -> Result<(u64, N), OrderFault>
-        ensures asked { self.new.asked ≡ self.old.asked ++ waited_value feed.now (version_alone result) ∷ [] }
-        ensures notice { IfOk result (λ r. T.words.version r.1 ≡ r.0) }
-        ensures route { route_of self.new ≡ route_of self.old }
-        ensures received { IfOk result (λ r. Receives feed.now (Some (LoadAnswer.Published r.1))
-            (dealings_of self.old) (dealings_of self.new)) }
-        ensures refused { IfErr result (λ fault. RefusesVersion P.Protocol.holds feed.now fault
-            (dealings_of self.old) (dealings_of self.new)) }
+        ensures asked { AsksAndWaits (order_words P.Protocol.holds T.words.version) feed.now result self.old self.new }
+        ensures notice { IfOk result (λ came. T.words.version came.1 ≡ came.0) }
     {
         let outcome = wait_for::<R, N, T, P>(
             self.rt,

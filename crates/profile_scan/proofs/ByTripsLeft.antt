@@ -15,6 +15,7 @@ use Rattle.lanes.specs.declared.words.Words.{Words}
 use Rattle.lanes.proofs.LaneLemmas.{stands, no_worse_from, no_worse_parts}
 use Rattle.lanes.proofs.CoverLemmas.{points_admitted}
 use Rattle.lanes.proofs.EntryLemmas.{into_map}
+use Rattle.profile_scan.specs.ScanState.{final_walk_in}
 use Rattle.profile_scan.specs.SetQuery.{SetQueryValue}
 use Rattle.profile_scan.specs.Matching.{Spellings, from_to}
 use Rattle.profile_scan.specs.Steps.{Offer, TakesInBut}
@@ -345,7 +346,8 @@ changes_chained q hop old can mid new xs ys admitted =
 module _ (q : SetQueryValue) (hop : Hop TimeTrips) (old : ByTrips) (can : CanLeaveByTrips q hop old) where
   -- the ways to leave: to end, to change by lanes, and by what is beyond them
   pub has_left : hop.connection.alight ≡ true → (ended changed new : ByTrips)
-      → TripTakesBut hop.connection.trip hop.bound.now (λ _. ⊥) (λ tags. endings trip_rules tags hop.place hop.connection q hop.final_walk) old ended
+      → TripTakesBut hop.connection.trip hop.bound.now (λ _. ⊥) (λ tags. endings trip_rules tags hop.place hop.connection q
+      (final_walk_in hop.final_entry)) old ended
       → TripTakesBut hop.connection.trip hop.bound.now (λ p. Excludes trip_rules hop.bound.now p.value)
       (λ tags. changes_from tags hop.place hop.connection.arr (points_at ended.lanes.stops hop.connection.to)) ended changed
       → TripTakesBut hop.connection.trip hop.bound.now (λ p. Excludes trip_rules hop.bound.now p.value)
@@ -360,13 +362,14 @@ module _ (q : SetQueryValue) (hop : Hop TimeTrips) (old : ByTrips) (can : CanLea
       let by_bags = subst (λ ps. TripTakesBut hop.connection.trip hop.bound.now (λ p. Excludes trip_rules hop.bound.now p.value)
       (λ tags. changes_from tags hop.place hop.connection.arr ps) changed new) points_same third in
       let to_change = changes_chained q hop ended (still_can q hop old can ended (λ _. ⊥)
-      (λ tags. endings trip_rules tags hop.place hop.connection q hop.final_walk) first) changed new (points_at old.lanes.stops hop.connection.to)
+      (λ tags. endings trip_rules tags hop.place hop.connection q
+      (final_walk_in hop.final_entry)) first) changed new (points_at old.lanes.stops hop.connection.to)
       (points_beyond old.beyond.points.items hop.connection.to) (stop_admits q hop old can) by_lanes by_bags in
       let all = one_then q hop old can ended (λ _. ⊥) (λ p. Excludes trip_rules hop.bound.now p.value) (NoChange (Excludes trip_rules hop.bound.now))
-      (λ tags. endings trip_rules tags hop.place hop.connection q hop.final_walk) (λ tags. changes_from tags hop.place hop.connection.arr bag)
-      (λ tags. only_if (hop.connection.alight ≡ true) (endings_and_changes trip_rules tags hop.place hop.connection q hop.final_walk bag)) new
-      (λ tags xs ys zs. ends_and_changes q hop.place hop.connection hop.final_walk (Excludes trip_rules hop.bound.now) tags bag xs ys zs
-      (λ walk opened. ending_admits q hop.connection hop.final_walk walk can.hop.by opened) alights) first to_change in
+      (λ tags. endings trip_rules tags hop.place hop.connection q (final_walk_in hop.final_entry)) (λ tags. changes_from tags hop.place hop.connection.arr bag)
+      (λ tags. only_if (hop.connection.alight ≡ true) (endings_and_changes trip_rules tags hop.place hop.connection q (final_walk_in hop.final_entry) bag)) new
+      (λ tags xs ys zs. ends_and_changes q hop.place hop.connection (final_walk_in hop.final_entry) (Excludes trip_rules hop.bound.now) tags bag xs ys zs
+      (λ walk opened. ending_admits q hop.connection (final_walk_in hop.final_entry) walk can.hop.by opened) alights) first to_change in
       record {
         are = all.are;
         leaves = record {

@@ -23,6 +23,7 @@ use Rattle.lanes.specs.StopLanes.{AreStopLanes, points_at, stops_of}
 use Rattle.lanes.specs.declared.words.Words.{Words}
 use Rattle.lanes.proofs.CoverLemmas.{points_admitted}
 use Rattle.lanes.proofs.EntryLemmas.{from_map, into_map}
+use Rattle.profile_scan.specs.ScanState.{final_walk_in}
 use Rattle.profile_scan.specs.Values.{started}
 use Rattle.profile_scan.specs.SetQuery.{SetQueryValue, asked_from}
 use Rattle.profile_scan.specs.Matching.{Spellings, from_to}
@@ -225,7 +226,8 @@ nobody_leaves q hop kept can stays = record {
     takes = λ walks set_outs.
         let records = scan_records (value_by_trips kept).exits (value_by_trips kept).steps set_outs in
         but_none trip_rules (NoChange (Excludes trip_rules hop.bound.now)) (only_if (hop.connection.alight ≡ true)
-        (endings_and_changes trip_rules (from_to (spelling_of walks records) (spelling_of walks records)) hop.place hop.connection q hop.final_walk
+        (endings_and_changes trip_rules (from_to (spelling_of walks records) (spelling_of walks records)) hop.place hop.connection q
+        (final_walk_in hop.final_entry)
         ((value_by_trips kept).bag hop.connection.to))) ((value_by_trips kept).labels hop.connection.trip)
         (λ way opened. true≢false (sym opened.0 ∙ stays));
   };

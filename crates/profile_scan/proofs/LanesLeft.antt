@@ -26,6 +26,7 @@ use Rattle.lanes.specs.declared.words.Words.{Words}
 use Rattle.lanes.proofs.LaneLemmas.{stands, no_worse_from}
 use Rattle.lanes.proofs.CoverLemmas.{points_admitted}
 use Rattle.lanes.proofs.EntryLemmas.{from_map, into_map}
+use Rattle.profile_scan.specs.ScanState.{final_walk_in}
 use Rattle.profile_scan.specs.SetQuery.{SetQueryValue}
 use Rattle.profile_scan.specs.Values.{started}
 use Rattle.profile_scan.specs.Matching.{Spellings, from_to}
@@ -296,17 +297,18 @@ module _ (q : SetQueryValue) (c : Connection) (way : Option FinalWalk) (place ti
   }
 
 module _ (q : SetQueryValue) (hop : Hop TimeTrips) (old : InLanes) (can : CanLeaveLanes q hop old) (walk : Option Footpath) (time first : ℕ)
-    (is_ending : IsEnding hop.connection q hop.final_walk walk) (time_is : time ≡ hop.connection.arr + start_secs walk)
-    (one : (other : Option Footpath) → IsEnding hop.connection q hop.final_walk other → other ≡ walk) where
+    (is_ending : IsEnding hop.connection q (final_walk_in hop.final_entry) walk) (time_is : time ≡ hop.connection.arr + start_secs walk)
+    (one : (other : Option Footpath) → IsEnding hop.connection q (final_walk_in hop.final_entry) other → other ≡ walk) where
   pub end_none : AllBeaten [] (labels_at old.trips hop.connection.trip) (ending time first)
-      → LaneTakes hop.connection.trip hop.bound.now (λ _. ⊥) (λ tags. endings trip_rules tags hop.place hop.connection q hop.final_walk) old old
+      → LaneTakes hop.connection.trip hop.bound.now (λ _. ⊥) (λ tags. endings trip_rules tags hop.place hop.connection q
+      (final_walk_in hop.final_entry)) old old
   end_none beaten = record {
     are = can.are;
     stops = refl;
     writes = record { exits = extends_none (value_of old).exits; steps = extends_none (value_of old).steps };
     other_trips = λ k other. refl;
     takes = λ walks set_outs before all first_grows then_grows.
-        ends_taken q hop.connection hop.final_walk hop.place time first walk (labels_at old.trips hop.connection.trip)
+        ends_taken q hop.connection (final_walk_in hop.final_entry) hop.place time first walk (labels_at old.trips hop.connection.trip)
         (labels_at old.trips hop.connection.trip) is_ending time_is one (from_to (spelling_of walks before) (spelling_of walks all)) (λ l is. inl is)
         (λ l is. (l, is, no_worse_from l.value l.value (omega arith) (omega arith))) beaten;
   }
@@ -314,7 +316,7 @@ module _ (q : SetQueryValue) (hop : Hop TimeTrips) (old : InLanes) (can : CanLea
   pub end_lowered : (trips : TripLanes) (exits : Vec LaneExit) → first ≡ 8 * length old.exits.items
       → exits.items ≡ old.exits.items ++ EndsLane hop.place walk ∷ []
       → TakesAll hop.connection.trip [] (ending time first) old.trips trips
-      → LaneTakes hop.connection.trip hop.bound.now (λ _. ⊥) (λ tags. endings trip_rules tags hop.place hop.connection q hop.final_walk) old
+      → LaneTakes hop.connection.trip hop.bound.now (λ _. ⊥) (λ tags. endings trip_rules tags hop.place hop.connection q (final_walk_in hop.final_entry)) old
       (record { trips = trips; stops = old.stops; exits = exits; bound = old.bound })
   end_lowered trips exits first_is pushed takes =
       let x = EndsLane hop.place walk in
@@ -325,7 +327,7 @@ module _ (q : SetQueryValue) (hop : Hop TimeTrips) (old : InLanes) (can : CanLea
         other_trips = takes.elsewhere;
         takes = λ walks set_outs before all first_grows then_grows.
             let tags = from_to (spelling_of walks before) (spelling_of walks all) in
-            ends_taken q hop.connection hop.final_walk hop.place time first walk (labels_at old.trips hop.connection.trip)
+            ends_taken q hop.connection (final_walk_in hop.final_entry) hop.place time first walk (labels_at old.trips hop.connection.trip)
             (labels_at trips hop.connection.trip) is_ending time_is one tags
             (λ l is. elim (takes.only l is) [
               | inl was ↦ inl was

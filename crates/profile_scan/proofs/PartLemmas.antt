@@ -11,7 +11,7 @@ use Rattle.timetable.proofs.LegalLemmas.{arrival_limit}
 use Rattle.criteria.specs.Laws.{IsTime}
 use Rattle.profile_scan.specs.Hops.{IsHop, IsHopOf}
 use Rattle.profile_scan.specs.Parts.{ChangesTrip, ChangesOrigin, ChangesLists}
-use Rattle.profile_scan.specs.ScanState.{AreStops}
+use Rattle.profile_scan.specs.ScanState.{final_walk_in, AreStops}
 use Rattle.fronts.specs.Labels.{HasTrip}
 use Rattle.fronts.specs.Lists.{steps_of}
 use Rattle.profile_scan.specs.SetQuery.{SetQueryValue}
@@ -59,7 +59,7 @@ pub hop_within : {V : Type 0} {starts : Starts} (rules : Rules V) (t : Timetable
 hop_within rules t limits q hop is = record {
   arrival = subst (λ (x : Connection). IsTime x.arr) (sym is.stands.is) (arrival_limit t limits hop.place is.stands.in_range);
   by = is.by;
-  secs = way_within t limits q.targets hop.connection.to hop.final_walk is.final_walk;
+  secs = way_within t limits q.targets hop.connection.to (final_walk_in hop.final_entry) is.final_walk;
   bound = is.bound;
 }
 

@@ -4,6 +4,7 @@ use Rattle.criteria.specs.Laws.{Rules, Laws}
 use Rattle.bags.specs.declared.point.Point.{Point}
 use Rattle.timetable.specs.declared.network.Connection.{Connection}
 use Rattle.timetable.specs.TimetableValue.{TimetableValue}
+use Rattle.profile_scan.specs.ScanState.{final_walk_in}
 use Rattle.profile_scan.specs.SetQuery.{SetQueryValue, asked_from}
 use Rattle.profile_scan.specs.Matching.{Spellings, from_to}
 use Rattle.profile_scan.specs.Steps.{IsOutdoneRidden, IsStep, Leaving, MayLeave, MayNotChange, TakesIn, TakesInBut, boardings, changes, ends, ends_after}
@@ -80,9 +81,10 @@ module _ {V O : Type 0} (rules : Rules V) (laws : Laws rules) (t : TimetableValu
       (goes_on.sets_out index) in
       let now_bounds = bounds_on rules laws t found now (i + 1) (i + 1) values (omega arith) sets_out.kept bounds in
       let left = subst (λ (points : List (Point V)). TakesInBut rules (NoChange (Excludes rules values))
-      (only_if (cn.alight ≡ true) (endings_and_changes rules first i cn q hop.final_walk bag)) was_labels points)
+      (only_if (cn.alight ≡ true) (endings_and_changes rules first i cn q (final_walk_in hop.final_entry) bag)) was_labels points)
       (sym (goes_on.labels cn.trip)) (leaves.takes t.footpaths outs) in
-      let taken = leavings_taken rules laws t q can first i cn at hop.final_walk is_hop.final_walk bag (Excludes rules values) was_labels labels
+      let taken = leavings_taken rules laws t q can first i cn at
+      (final_walk_in hop.final_entry) is_hop.final_walk bag (Excludes rules values) was_labels labels
       (now_admits.labels cn.trip) left in
       record {
         between = spelled_by t.footpaths mid outs;

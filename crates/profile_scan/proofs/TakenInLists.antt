@@ -16,7 +16,7 @@ use Rattle.profile_scan.specs.Steps.{Offer, TakesIn, TakesInBut, boardings, sett
 use Rattle.profile_scan.specs.Bound.{Excludes, any_no_worse, survivors}
 use Rattle.profile_scan.specs.ScanRecords.{SourceValue, scan_records, spelling_of}
 use Rattle.profile_scan.specs.Adding.{NoChange, changes_from, endings, endings_and_changes, label_points, only_if, trip_points}
-use Rattle.profile_scan.specs.ScanState.{AreStops, points_at}
+use Rattle.profile_scan.specs.ScanState.{final_walk_in, AreStops, points_at}
 use Rattle.profile_scan.specs.Hops.{IsHop}
 use Rattle.profile_scan.specs.Parts.{SourceTakes, StopTakes, TripTakes}
 use Rattle.profile_scan.specs.Keeping.{GoesOn, Leaves}
@@ -55,13 +55,14 @@ are_lists rules_of criterion stops trips lists at_stops long labels =
 abbrev pub HasLeft : {K V : Type 0} → Rules V → SetQueryValue → Hop V → Stops K V → Trips K V → Trips K V → Type 0
 HasLeft rules q hop stops old new =
     TripTakes rules hop.connection.trip (λ tags. only_if (hop.connection.alight ≡ true)
-    (endings_and_changes rules tags hop.place hop.connection q hop.final_walk (survivors rules hop.bound.now (points_at stops hop.connection.to))))
+    (endings_and_changes rules tags hop.place hop.connection q
+    (final_walk_in hop.final_entry) (survivors rules hop.bound.now (points_at stops hop.connection.to))))
     old new
 
 module _ {K V : Type 0} (rules : Rules V) (laws : Laws rules) (q : SetQueryValue) (hop : Hop V) (stops : Stops K V) where
   -- to end, and then to change
   pub left_by : IsHop rules q hop → (old mid new : Trips K V) → hop.connection.alight ≡ true
-      → TripTakes rules hop.connection.trip (λ tags. endings rules tags hop.place hop.connection q hop.final_walk) old mid
+      → TripTakes rules hop.connection.trip (λ tags. endings rules tags hop.place hop.connection q (final_walk_in hop.final_entry)) old mid
       → TripTakes rules hop.connection.trip (λ tags. changes_from tags hop.place hop.connection.arr
       (survivors rules hop.bound.now (points_at stops hop.connection.to))) mid new
       → HasLeft rules q hop stops old new
@@ -74,11 +75,11 @@ module _ {K V : Type 0} (rules : Rules V) (laws : Laws rules) (q : SetQueryValue
         let first = scan_records old.exits.items steps set_outs in
         let second = scan_records mid.exits.items steps set_outs in
         let third = scan_records new.exits.items steps set_outs in
-        takes_if rules (cn.alight ≡ true) (endings_and_changes rules tags hop.place cn q hop.final_walk bag)
+        takes_if rules (cn.alight ≡ true) (endings_and_changes rules tags hop.place cn q (final_walk_in hop.final_entry) bag)
         (trip_points old.labels cn.trip) (trip_points new.labels cn.trip) alights
-        (takes_either rules (endings rules tags hop.place cn q hop.final_walk) (changes_from tags hop.place cn.arr bag)
+        (takes_either rules (endings rules tags hop.place cn q (final_walk_in hop.final_entry)) (changes_from tags hop.place cn.arr bag)
         (trip_points old.labels cn.trip) (trip_points mid.labels cn.trip) (trip_points new.labels cn.trip)
-        (λ walk ending. end_admits rules laws cn q hop.final_walk walk within.arrival within.by within.secs ending)
+        (λ walk ending. end_admits rules laws cn q (final_walk_in hop.final_entry) walk within.arrival within.by within.secs ending)
         (ended.takes walks steps set_outs before all ext_before
         (grows_on second third all (exits_grow mid.exits.items new.exits.items steps set_outs changed.trip.exits) ext))
         (changed.takes walks steps set_outs before all
@@ -91,7 +92,7 @@ module _ {K V : Type 0} (rules : Rules V) (laws : Laws rules) (q : SetQueryValue
     trip = changes_none rules hop.connection.trip old has;
     takes = λ walks steps set_outs before all ext_before ext.
         takes_unless rules (hop.connection.alight ≡ true)
-        (endings_and_changes rules (from_to (spelling_of walks before) (spelling_of walks all)) hop.place hop.connection q hop.final_walk
+        (endings_and_changes rules (from_to (spelling_of walks before) (spelling_of walks all)) hop.place hop.connection q (final_walk_in hop.final_entry)
         (survivors rules hop.bound.now (points_at stops hop.connection.to))) (trip_points old.labels hop.connection.trip)
         (λ alights. true≢false (sym alights ∙ stays));
   }
@@ -99,7 +100,7 @@ module _ {K V : Type 0} (rules : Rules V) (laws : Laws rules) (q : SetQueryValue
 module _ {V : Type 0} (rules : Rules V) (values : List V) (points old new : List (Point V)) where
   module _ (P : Type 0) (tags : Spellings) (q : SetQueryValue) (hop : Hop V) where
     abbrev Ways : List (Point V) → Offer (Option Footpath ⊎ Point V) V
-    Ways bag = only_if P (endings_and_changes rules tags hop.place hop.connection q hop.final_walk bag)
+    Ways bag = only_if P (endings_and_changes rules tags hop.place hop.connection q (final_walk_in hop.final_entry) bag)
 
     still_way : (way : Option Footpath ⊎ Point V) → (Ways (survivors rules values points)).is_open way
         → IsPart rules (Ways (survivors rules values points)) (Ways points) way

@@ -7,7 +7,7 @@ use Rattle.timetable.specs.TimetableValue.{TimetableValue}
 use Rattle.timetable.specs.Journeys.{connection_at}
 use Rattle.sources.specs.FirstAt.{IsFirstAt}
 use Rattle.profile_scan.specs.SetQuery.{SetQueryValue, question}
-use Rattle.profile_scan.specs.ScanState.{AreFinalWalks, IsFinalWalk, final_walks_of}
+use Rattle.profile_scan.specs.ScanState.{AreFinalWalks, IsFinalWalk, final_walk_in, final_walks_of}
 use Rattle.profile_scan.specs.Starts.{AreStarts, IsStopAccess, SaysSource}
 use Rattle.profile_scan.specs.declared.hop.ScanQuery.{ScanQuery}
 use Rattle.profile_scan.specs.declared.hop.Hop.{Hop}
@@ -40,7 +40,7 @@ pub record StandsAt (t : TimetableValue) (place : ℕ) (c : Connection) : Type 0
 pub record IsHop {V : Type 0} (rules : Rules V) (q : SetQueryValue) (hop : Hop V) : Type 0 where
   pub arrival : IsTime hop.connection.arr
   pub by : IsTime q.by
-  pub secs : IfSome hop.final_walk (λ way. IsSecs way.secs)
+  pub secs : IfSome (final_walk_in hop.final_entry) (λ way. IsSecs way.secs)
   pub bound : (b : V) → Contains hop.bound.now b → Admits rules b
 
 -- whether a start is from a source can be looked up: `hop.access` says it of the stop where the connection begins, `starts` of the stop where a footpath begins
@@ -59,5 +59,5 @@ pub record IsHopOf {V : Type 0} (rules : Rules V) (t : TimetableValue) (q : SetQ
   pub by : IsTime q.by
   pub starts : AreStarts t q.sources known
   pub access : IsStopAccess t q.sources hop.connection.from hop.access
-  pub final_walk : IsFinalWalk t q.targets hop.connection.to hop.final_walk
+  pub final_walk : IsFinalWalk t q.targets hop.connection.to (final_walk_in hop.final_entry)
   pub bound : (b : V) → Contains hop.bound.now b → Admits rules b

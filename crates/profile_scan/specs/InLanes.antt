@@ -9,6 +9,7 @@ use Rattle.lanes.specs.Lanes.{trip_rules, IsOutdone}
 use Rattle.lanes.specs.LaneLists.{word_tag}
 use Rattle.lanes.specs.TripLanes.{front_labels, labels_at, trips_of}
 use Rattle.lanes.specs.StopLanes.{AreStopLanes, entries_of, front_at, points_at, steps_of, stops_of, tags_at}
+use Rattle.profile_scan.specs.ScanState.{final_walk_in}
 use Rattle.profile_scan.specs.SetQuery.{SetQueryValue}
 use Rattle.profile_scan.specs.Matching.{Spellings, from_to}
 use Rattle.profile_scan.specs.Steps.{Offer, TakesInBut, boardings}
@@ -139,7 +140,7 @@ IsBeatenByEight labels v = (l : Label TimeTrips) × Contains labels l × (l.valu
 
 abbrev pub ends_in_lanes : SetQueryValue → Hop TimeTrips → InLanes → InLanes → Type 0
 ends_in_lanes q hop old new =
-    LaneTakes hop.connection.trip hop.bound.now (λ _. ⊥) (λ tags. endings trip_rules tags hop.place hop.connection q hop.final_walk) old new
+    LaneTakes hop.connection.trip hop.bound.now (λ _. ⊥) (λ tags. endings trip_rules tags hop.place hop.connection q (final_walk_in hop.final_entry)) old new
 
 abbrev pub changes_in_lanes : Hop TimeTrips → Bool → InLanes → InLanes → Type 0
 changes_in_lanes hop changed old new =

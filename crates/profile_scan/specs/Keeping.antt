@@ -5,6 +5,7 @@ use Rattle.bags.specs.declared.point.Point.{Point}
 use Rattle.timetable.specs.declared.network.Footpath.{Footpath}
 use Rattle.timetable.specs.TimetableValue.{TimetableValue}
 use Rattle.fronts.specs.Front.{Extends}
+use Rattle.profile_scan.specs.ScanState.{final_walk_in}
 use Rattle.profile_scan.specs.SetQuery.{SetQueryValue, asked_from, question}
 use Rattle.profile_scan.specs.Matching.{Spellings, from_to}
 use Rattle.profile_scan.specs.Steps.{TakesIn, TakesInBut, boardings, settings_out}
@@ -50,7 +51,7 @@ pub record Leaves {V : Type 0} (rules : Rules V) (q : SetQueryValue) (hop : Hop 
   pub other_trips : (trip : ℕ) → trip ≢ hop.connection.trip → new.labels trip ≡ old.labels trip
   pub takes : (walks : List Footpath) (set_outs : List SetOut) → TakesInBut rules (NoChange (Excludes rules hop.bound.now))
       (only_if (hop.connection.alight ≡ true) (endings_and_changes rules (from_to (spelled_by walks old set_outs) (spelled_by walks new set_outs))
-      hop.place hop.connection q hop.final_walk (old.bag hop.connection.to)))
+      hop.place hop.connection q (final_walk_in hop.final_entry) (old.bag hop.connection.to)))
       (old.labels hop.connection.trip) (new.labels hop.connection.trip)
 
 -- what tags spell before and after, each with the ways to set out that there are then

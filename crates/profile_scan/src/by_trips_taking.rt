@@ -9,7 +9,7 @@ ghost use Rattle.profile_scan.specs.TakenByTrips.{IsFrontOf, point_labels};
 
 use crate::at_source::AtSource;
 use crate::by_trips::{Beyond, ByTrips, has_any};
-use crate::final_walks::FinalWalk;
+use crate::final_walks::{FinalWalk, final_walk_of};
 use crate::hop::{Hop, ScanQuery};
 use crate::in_lanes::{InLanes, LaneExit};
 use crate::keeping::Keeping;
@@ -59,9 +59,9 @@ impl Keeping<ArrivalTrips> for ByTrips {
         &self,
         _asked: &ScanQuery<ArrivalTrips>,
         connection: &Connection,
-        way: Option<FinalWalk>,
+        entry: FinalWalk,
     ) -> bool {
-        if !self.leads_nowhere(connection, way) {
+        if !self.leads_nowhere(connection, entry) {
             return false;
         }
         !self.has_labels(connection.trip)
@@ -100,6 +100,7 @@ impl ByTrips {
     ghost use Rattle.lanes.specs.TripLanes.{trips_of};
     ghost use Rattle.lanes.specs.StopLanes.{stops_of};
     ghost use Rattle.profile_scan.specs.SetQuery.{question};
+    ghost use Rattle.profile_scan.specs.ScanState.{final_walk_in};
     ghost use Rattle.profile_scan.specs.Parts.{CanSetOutAt, SetsOut};
     ghost use Rattle.profile_scan.specs.ByTrips.{CanLeaveByTrips, LeavesByTrips, value_by_trips};
     ghost use Rattle.profile_scan.specs.TakenByTrips.{labels_by_trips};
@@ -128,18 +129,18 @@ impl ByTrips {
         has_any(&self.beyond.points, stop)
     }
 
-    // Returns true only if passengers may not get off where a connection ends, or if that stop has neither points nor
-    // `way`, the footpath to a target.
+    // Returns true only if passengers may not get off where a connection ends, or if that stop has neither points nor,
+    // by its `entry` of `FinalWalks`, a footpath to a target.
     #[inline(always)]
-    fn leads_nowhere(&self, connection: &Connection, way: Option<FinalWalk>) -> bool
+    fn leads_nowhere(&self, connection: &Connection, entry: FinalWalk) -> bool
         requires { connection.now.to < stops_of self.now.lanes.stops }
         ensures { result ≡ true → connection.now.alight ≡ true
-            → (way ≡ None) × ((value_by_trips self.now).bag connection.now.to ≡ []) }
+            → (final_walk_in entry ≡ None) × ((value_by_trips self.now).bag connection.now.to ≡ []) }
     {
         if !connection.alight {
             return true;
         }
-        match way {
+        match final_walk_of(entry) {
             None => !self.has_points(connection.to),
             Some(_way) => false,
         }
@@ -191,8 +192,28 @@ impl ByTrips {
         if !origin.sets_out_at(asked, hop) {
             return Ok(());
         }
+        self.set_out_by_labels(asked, source, *hop, origin)
+    }
+
+    // Writes out the labels of the hop's trip, and sets out with them. It is rare, so it is a call and never inlined,
+    // and the scan has no list on its stack.
+    #[inline(never)]
+    fn set_out_by_labels<S: ConnSource, O: AtSource<ArrivalTrips>>(
+        &self,
+        asked: &ScanQuery<ArrivalTrips>,
+        source: &S,
+        hop: Hop<TimeTrips>,
+        origin: &mut O,
+    ) -> Result<(), AllocError>
+        requires can { CanSetOutAt ⟦<ArrivalTrips as Criterion>⟧.rules O.IsUnder (S.timetable source.now)
+            asked.now hop (labels_by_trips self.now hop.connection.trip) origin.old }
+        requires trip { hop.connection.trip < trips_of self.now.lanes.trips }
+        ensures { OnOk result (SetsOut ⟦<ArrivalTrips as Criterion>⟧.rules O.IsUnder O.sources O.kept
+            (S.timetable source.now) asked.now hop.entry (labels_by_trips self.now hop.entry.connection.trip)
+            origin.old origin.new) }
+    {
         let labels = self.labels_of(hop.connection.trip)?;
-        origin.set_out(asked, source, hop, &labels)?;
+        origin.set_out(asked, source, &hop, &labels)?;
         Ok(())
     }
 }

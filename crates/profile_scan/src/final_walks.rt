@@ -30,15 +30,24 @@ pub struct FinalWalks {
 
 impl FinalWalks {
     ghost use Rattle.std.specs.Prelude.{◌≡◌, ◌<◌, ℕ, Contains, None, length, slice_index_or};
-    ghost use Rattle.profile_scan.specs.ScanState.{walk_by, final_walks_of};
+    ghost use Rattle.profile_scan.specs.ScanState.{walk_by, final_walk_in, final_walks_of};
     ghost use Rattle.profile_scan.specs.Nearest.{IsShortestWalk};
+
+    /// What is kept for a stop. `final_walk_of` says which footpath it is, if any.
+    #[inline(always)]
+    pub fn entry_of(&self, stop: u32) -> FinalWalk
+        requires { stop < length (final_walks_of self.now) }
+        ensures { final_walk_in result ≡ slice_index_or (final_walks_of self.now) stop None }
+    {
+        self.entries[stop as usize]
+    }
 
     /// The footpath from a stop to the nearest target, if there is one.
     pub fn final_walk_from(&self, stop: u32) -> Option<FinalWalk>
         requires { stop < length (final_walks_of self.now) }
         ensures { result ≡ slice_index_or (final_walks_of self.now) stop None }
     {
-        final_walk_of(self.entries[stop as usize])
+        final_walk_of(self.entry_of(stop))
     }
 
     /// The same as a footpath.
@@ -92,8 +101,9 @@ fn shorter(best: Option<Footpath>, stop: u32, way: Option<FinalWalk>) -> Option<
     }
 }
 
-// What an entry says: a way, or that there is none, if it is longer than a footpath can be.
-fn final_walk_of(entry: FinalWalk) -> Option<FinalWalk>
+/// What an entry says: a way, or that there is none, if it is longer than a footpath can be.
+#[inline(always)]
+pub fn final_walk_of(entry: FinalWalk) -> Option<FinalWalk>
     ensures { result ≡ final_walk_in entry }
 {
     if entry.secs <= MAX_WALK_SECS {

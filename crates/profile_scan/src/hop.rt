@@ -27,9 +27,9 @@ pub struct Hop<'a, V> {
     pub place: u32,
     // how one may set out to board the connection; read only where `Origin` sets out
     pub access: StopAccess,
-    // the footpath from the stop where the connection ends to the nearest target (its loop, if it is one), or `None` if
-    // there is none
-    pub final_walk: Option<FinalWalk>,
+    // what `FinalWalks` has for the stop where the connection ends: the footpath from there to the nearest target (its
+    // loop, if it is one), if there is one. It is read as it is: `final_walk_of` says which, where one may get off
+    pub final_entry: FinalWalk,
     // the bound, renewed before this connection is taken in: values of points found that depart no earlier than it. A
     // stop's point isn't offered to labels, nor a label to stops, if a value of the bound is no worse than the point's
     // or label's value with the ride. Empty in a scan for all sources

@@ -52,7 +52,7 @@ impl InLanes {
         requires { CanLeaveLanes (question asked.now.query) hop.now self.old }
         ensures { OnOk result (ends_in_lanes (question asked.now.query) hop.now self.old self.new) }
     {
-        let Some(end) = end_of(&hop.connection, &asked.query, hop.final_walk) else {
+        let Some(end) = end_of(&hop.connection, &asked.query, hop.final_entry) else {
             return Ok(());
         };
         let first = first_tag(self.exits.len())?;

@@ -1,9 +1,10 @@
 //! Trips and stops kept in lists, under any criterion.
 
 ghost use Rattle.std.specs.Prelude.{◌≡◌, ◌↔◌, None, true};
+ghost use Rattle.profile_scan.specs.ScanState.{final_walk_in};
 
 use crate::at_source::AtSource;
-use crate::final_walks::FinalWalk;
+use crate::final_walks::{FinalWalk, final_walk_of};
 use crate::hop::{Hop, ScanQuery};
 use crate::keeping::Keeping;
 use crate::last_offers::none_offered;
@@ -56,14 +57,9 @@ impl<C: Criterion> Keeping<C> for InLists<C> {
 
     // The stop is looked at first: few lead nowhere, but half of the trips have labels, and a branch on that is often
     // mispredicted.
-    fn is_idle(
-        &self,
-        asked: &ScanQuery<C>,
-        connection: &Connection,
-        way: Option<FinalWalk>,
-    ) -> bool {
+    fn is_idle(&self, asked: &ScanQuery<C>, connection: &Connection, entry: FinalWalk) -> bool {
         let head = self.stops.head(connection.to);
-        let nowhere = alighting_leads_nowhere(connection, way, head);
+        let nowhere = alighting_leads_nowhere(connection, entry, head);
         if !nowhere {
             return false;
         }
@@ -106,10 +102,11 @@ impl<C: Criterion> Keeping<C> for InLists<C> {
 
 /// Whether getting off where a connection ends leads nowhere: true if passengers may not get off there, or if that stop
 /// has neither a footpath to a target (a target's own loop counts) nor points.
-/// `way` is that footpath, `head` the head of the stop's list, which is 0 if it has no points. It ignores the labels of
-/// the connection's trip.
-fn alighting_leads_nowhere(connection: &Connection, way: Option<FinalWalk>, head: u32) -> bool
-    ensures { (result ≡ true) ↔ (connection.now.alight ≡ true → (way ≡ None) × (head ≡ 0)) }
+/// `entry` is what `FinalWalks` has for the stop, `head` the head of the stop's list, which is 0 if it has no points. It
+/// ignores the labels of the connection's trip.
+fn alighting_leads_nowhere(connection: &Connection, entry: FinalWalk, head: u32) -> bool
+    ensures { (result ≡ true) ↔ (connection.now.alight ≡ true
+        → (final_walk_in entry ≡ None) × (head ≡ 0)) }
 {
     if !connection.alight {
         return true;
@@ -117,7 +114,7 @@ fn alighting_leads_nowhere(connection: &Connection, way: Option<FinalWalk>, head
     if head > 0 {
         return false;
     }
-    match way {
+    match final_walk_of(entry) {
         None => true,
         Some(_way) => false,
     }

@@ -11,7 +11,7 @@
 //! else it renews the bound for the connection's departure, makes a `Hop` and calls `Keeping::take`, as follows. A
 //! *label* of a trip is a way for its passengers to go on: how they leave the trip, and the value of what follows.
 //!
-//! 1. Leave the trip, if passengers may get off. The journey may end there, or one footpath on (`hop.final_walk`):
+//! 1. Leave the trip, if passengers may get off. The journey may end there, or one footpath on (`hop.final_entry`):
 //!    `Trips::end` offers the connection's trip a label that leaves it so, with the value of that arrival. Or the
 //!    passenger may change: `Trips::change` offers a label for each of the stop's points that depart at the arrival or
 //!    later; it reads the stops as they were before this connection, and `hop.bound`. Both change only the labels of

@@ -41,8 +41,8 @@ impl<C: Criterion, K: Keeping<C>, O: AtSource<C>> Scan<C, K, O> {
         ensures { OnOk result (MakesStep C.rules K.IsUnder K.value O.IsUnder O.sources O.kept (S.timetable source.now)
             asked.now place self.old self.new) }
     {
-        let way = asked.final_walks.final_walk_from(connection.to);
-        if self.state.keeping.is_idle(asked, connection, way) {
+        let final_entry = asked.final_walks.entry_of(connection.to);
+        if self.state.keeping.is_idle(asked, connection, final_entry) {
             return Ok(());
         }
         let renewed = self
@@ -53,7 +53,7 @@ impl<C: Criterion, K: Keeping<C>, O: AtSource<C>> Scan<C, K, O> {
             connection: *connection,
             place,
             access: asked.starts.access_to(connection.from),
-            final_walk: way,
+            final_entry,
             bound: &self.bound.values,
             renewed,
         };

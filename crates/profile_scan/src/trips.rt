@@ -11,10 +11,11 @@ ghost use Rattle.profile_scan.specs.Bound.{any_no_worse, survivors};
 ghost use Rattle.profile_scan.specs.ScanRecords.{IsExit};
 ghost use Rattle.profile_scan.specs.declared.scan_records.Exit.TheVariants.{Changes};
 ghost use Rattle.profile_scan.specs.Adding.{IsEnding};
+ghost use Rattle.profile_scan.specs.ScanState.{final_walk_in};
 ghost use Rattle.profile_scan.specs.SetQuery.{question};
 
 use crate::bound::any_no_worse;
-use crate::final_walks::FinalWalk;
+use crate::final_walks::{FinalWalk, final_walk_of};
 use crate::hop::{Hop, ScanQuery};
 use crate::riding::started;
 use crate::scan_records::Exit;
@@ -42,7 +43,7 @@ impl<C: Criterion> Trips<C> {
     ghost use Rattle.profile_scan.specs.ScanRecords.{IsExit};
     ghost use Rattle.profile_scan.specs.declared.scan_records.Exit.TheVariants.{Changes};
     ghost use Rattle.profile_scan.specs.Adding.{one_way, only_if, changes_from, endings};
-    ghost use Rattle.profile_scan.specs.ScanState.{points_at};
+    ghost use Rattle.profile_scan.specs.ScanState.{final_walk_in, points_at};
     ghost use Rattle.profile_scan.specs.Parts.{CanChange, CanLeave, TripTakes};
 
     // Offers one value to the labels of a trip. `exit` is kept only if the value was accepted.
@@ -67,10 +68,10 @@ impl<C: Criterion> Trips<C> {
         requires { CanLeave (C.rules asked.now.criterion) (question asked.now.query) hop.now self.old }
         ensures { OnOk result (TripTakes (C.rules asked.now.criterion) hop.now.connection.trip
             (λ tags. endings (C.rules asked.now.criterion) tags hop.now.place
-            hop.now.connection (question asked.now.query) hop.now.final_walk)
+            hop.now.connection (question asked.now.query) (final_walk_in hop.now.final_entry))
             self.old self.new) }
     {
-        match end_of(&hop.connection, &asked.query, hop.final_walk) {
+        match end_of(&hop.connection, &asked.query, hop.final_entry) {
             None => Ok(()),
             Some(end) => {
                 let arrived = asked.criterion.arrive(end.time);
@@ -176,18 +177,20 @@ pub struct Ending {
     pub time: u32,
 }
 
-// The end of a journey that gets off where a connection ends, if it reaches a target by `query.by`; `way` is the
+// The end of a journey that gets off where a connection ends, if it reaches a target by `query.by`; `entry` has the
 // footpath from that stop to the nearest target, which is its loop if it is a target itself.
-pub fn end_of(connection: &Connection, query: &SetQuery, way: Option<FinalWalk>) -> Option<Ending>
+pub fn end_of(connection: &Connection, query: &SetQuery, entry: FinalWalk) -> Option<Ending>
     requires arrival { IsTime connection.now.arr }
-    requires secs { IfSome way (λ way. IsSecs way.secs) }
-    ensures { MatchOption result ((walk : Option Footpath) → IsEnding connection.now (question query.now) way walk → ⊥)
-        (λ end. IsEnding connection.now (question query.now) way end.walk
+    requires secs { IfSome (final_walk_in entry) (λ way. IsSecs way.secs) }
+    ensures { MatchOption result
+        ((walk : Option Footpath) → IsEnding connection.now (question query.now) (final_walk_in entry) walk → ⊥)
+        (λ end. IsEnding connection.now (question query.now) (final_walk_in entry) end.walk
         × (end.time ≡ connection.now.arr + start_secs end.walk)
         × (end.time ≤ query.now.by)
-        × ((walk : Option Footpath) → IsEnding connection.now (question query.now) way walk → walk ≡ end.walk)) }
+        × ((walk : Option Footpath) → IsEnding connection.now (question query.now) (final_walk_in entry) walk
+        → walk ≡ end.walk)) }
 {
-    let way = way?;
+    let way = final_walk_of(entry)?;
     if way.to == connection.to {
         if connection.arr > query.by {
             return None;

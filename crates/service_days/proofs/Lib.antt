@@ -1,3 +1,4 @@
+pub mod DateLemmas
 pub mod DayLemmas
 pub mod StartLemmas
 mod Weekdays

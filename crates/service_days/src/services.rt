@@ -1,6 +1,6 @@
 //! The days on which a service runs: its weekdays between two dates, and the days that are added or removed.
 
-ghost use Rattle.std.specs.Prelude.{◌≡◌, ◌<◌, ◌++◌, ◌∷◌, if◌then◌else◌, ℕ, List, [], IfOk, OnOk};
+ghost use Rattle.std.specs.Prelude.{◌≡◌, ◌<◌, ◌+◌, ◌*◌, ◌++◌, ◌∷◌, if◌then◌else◌, ℕ, List, [], IfOk, OnOk};
 ghost use Rattle.std.specs.List.{list_any};
 ghost use Rattle.std.specs.Option.{option_map_or};
 ghost use Rattle.indexmap.specs.IndexMap.{get_by_text, hasher_of};
@@ -199,21 +199,24 @@ fn is_removed(exceptions: &[DayException], day: Day) -> bool
     exceptions.iter().any(|e| same_day(e.day, day) && matches!(e.exception, Exception::Removed))
 }
 
+// Returns a date as one number, which is compared faster than three: a later date has a greater one.
+fn date_number(day: Day) -> u32
+    ensures { result ≡ (day.year * 256 + day.month) * 256 + day.day }
+{
+    (day.year as u32 * 256 + day.month as u32) * 256 + day.day as u32
+}
+
 // Returns whether the first day is no later than the second.
+#[tactic(auto, using(crate::proofs::DateLemmas::compared))]
 fn not_after(a: Day, b: Day) -> bool
     ensures { result ≡ is_not_after a b }
 {
-    if a.year != b.year {
-        a.year < b.year
-    } else if a.month != b.month {
-        a.month < b.month
-    } else {
-        a.day <= b.day
-    }
+    date_number(a) <= date_number(b)
 }
 
+#[tactic(auto, using(crate::proofs::DateLemmas::same))]
 fn same_day(a: Day, b: Day) -> bool
     ensures { result ≡ is_same_day a b }
 {
-    a.year == b.year && a.month == b.month && a.day == b.day
+    date_number(a) == date_number(b)
 }

@@ -7,13 +7,12 @@ ghost use Rattle.lines.specs.Streams.{HasFailed, HasFlushed, inner_of};
 ghost use Rattle.shelves.specs.Seats.{SeatValue};
 ghost use Rattle.session.specs.Forms.{bare};
 ghost use Rattle.session.specs.Learning.{GoesOn, AnswerFromPublished};
-ghost use Rattle.session.specs.SeatSteps.{seat_reply};
 ghost use Rattle.session.specs.Sessions.{LastRelease, Serves, replies_of, serve_words, state_of};
-ghost use Rattle.session.specs.Exchanges.{AgreeOnNotices, Exchange, ExchangeLeadsTo, seat_state};
+ghost use Rattle.session.specs.Exchanges.{AgreeOnNotices, Exchange, ExchangeLeadsTo, seat_reply, seat_state};
 
 use crate::fault::{Ended, SessionFault};
 use crate::reply::SessionReply;
-use crate::session_server::{SessionServer, Streams};
+use crate::session_server::{SeatNote, SessionServer, Streams, seat_note};
 use lines::{Counted, Line, LineReader, NextLine, ReadStream, WriteFailed, WriteStream};
 use orders::{Gate, Orders};
 use shelves::Versions;
@@ -34,7 +33,7 @@ pub fn serve<
 >(
     alloc: Global,
     reader: &mut Counted<In>,
-    writer: &mut Counted<Out, T::Seat>,
+    writer: &mut Counted<Out, SeatNote<T::Seat>>,
     shelves: &T,
     seat: &mut T::Seat,
     orders: &mut O,
@@ -102,7 +101,7 @@ impl<'a, N: Drop, T: Versions<Notice = N>, G: Gate> SessionServer<'a, T, G> {
     fn answer_lines<In: ReadStream, Out: WriteStream, O: Orders<Notice = N>>(
         &self,
         reader: &mut Counted<In>,
-        writer: &mut Counted<Out, T::Seat>,
+        writer: &mut Counted<Out, SeatNote<T::Seat>>,
         seat: &mut T::Seat,
         orders: &mut O,
     ) -> Result<Ended, SessionFault>
@@ -149,7 +148,7 @@ impl<'a, N: Drop, T: Versions<Notice = N>, G: Gate> SessionServer<'a, T, G> {
     fn answer_line<Out: WriteStream, O: Orders<Notice = N>>(
         &self,
         line: Line<'_>,
-        writer: &mut Counted<Out, T::Seat>,
+        writer: &mut Counted<Out, SeatNote<T::Seat>>,
         seat: &mut T::Seat,
         orders: &mut O,
     ) -> Result<(), WriteFailed>
@@ -176,7 +175,8 @@ impl<'a, N: Drop, T: Versions<Notice = N>, G: Gate> SessionServer<'a, T, G> {
             has_scanned,
             log,
         } = self.exchange(line, seat, orders);
-        let written = writer.write_line(reply.bytes(), log.into_reads(), seat);
+        let beside = seat_note(seat, orders);
+        let written = writer.write_line(reply.bytes(), log.into_reads(), &beside);
         if has_scanned {
             self.gate.leave();
         }

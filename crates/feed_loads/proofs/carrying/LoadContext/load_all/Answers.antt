@@ -1,4 +1,5 @@
-use Rattle.std.proofs.Common.{◌∙◌, refl, subst, ap, ◌++◌, ◌∷◌, []}
+use Rattle.std.proofs.Common.{◌∙◌, ◌++◌, ◌∷◌, refl, subst, ap, []}
+use Rattle.load_orders.specs.Answering.{LoaderOrdersValue}
 use Rattle.load_orders.specs.Keeping.{OrderQueueId}
 use Rattle.feed_loads.specs.Carrying.{IsCarriedOut, load_input_of, handled_order_of, loads_value}
 use Rattle.feed_loads.specs.Words.{loads_of, outcomes_of}
@@ -30,19 +31,21 @@ loop-preserved g c =
     g.T.Loads.words g.T.Versions.words.version) in
     let feeds = c.args.self.now.feeds.now in
     let one = c.load_feed.ensures.carried in
-    let next = c.in-Some-next.ensures in
-    let at_queue = next.queue ∙ c.loop.invariant.queue in
+    let next = c.in-Some-next.ensures.1 in
+    let at_queue = ap (λ (o : LoaderOrdersValue _). o.queue) next ∙ c.loop.invariant.queue in
     let handled = handled_order_of c.in-Some-next.order c.next-in-loop.new.self.taken one.files one.answer in
     let added = subst (λ (queue : OrderQueueId _). IsCarriedOut (load_input_of words feeds queue) handled c.loop.seat c.load_feed.new.seat) at_queue
     one.carried in
+    let taken = ap (λ (o : LoaderOrdersValue _). o.taken) next in
+    let answered = ap (λ (o : LoaderOrdersValue _). record o { taken = handled.taken; answered = o.answered ++ one.answer ∷ [] }) next in
     record {
       next = tt;
       finite = tt;
-      queue = one.queue_is ∙ at_queue;
+      queue = ap (λ (o : LoaderOrdersValue _). o.queue) one.orders_are ∙ at_queue;
       seat = loader_goes_on _ _ _ _ _ c.loop.invariant.seat c.load_feed.ensures.seat;
       carried = carries_also _ c.args.seat c.loop.seat c.load_feed.new.seat
           (loads_value c.loop.orders c.loop.used) (loads_value c.load_feed.new.orders c.load_feed.new.used) handled c.loop.invariant.carried
-          next.taken (one.taken_are ∙ next.taken) (one.answers_are ∙ ap (λ list. list ++ one.answer ∷ []) next.answered) one.files_are added;
+          taken (one.orders_are ∙ answered) one.files_are added;
     }
 
 -- none came any more
@@ -51,14 +54,14 @@ returns-in-None-next g c =
     let last = c.in-None-next.ensures in
     let was = c.loop.invariant.carried in
     record {
-      queue = last.queue ∙ c.loop.invariant.queue;
+      queue = ap (λ (o : LoaderOrdersValue _). o.queue) last.0 ∙ c.loop.invariant.queue;
       fits = c.loop.invariant.seat.fits;
       loaded = record {
-        over = last.over;
+        over = ap (λ (o : LoaderOrdersValue _). o.over) last.0;
         carried = record {
           handled_orders = was.handled_orders;
-          orders_are = last.taken ∙ was.orders_are;
-          answers_are = last.answered ∙ was.answers_are;
+          orders_are = ap (λ (o : LoaderOrdersValue _). o.taken) last.0 ∙ was.orders_are;
+          answers_are = ap (λ (o : LoaderOrdersValue _). o.answered) last.0 ∙ was.answers_are;
           files_are = was.files_are;
           carried = was.carried;
         };

@@ -131,8 +131,8 @@ returns-then-outdoes-clause-taken g c =
     (subst (λ items. IfOk c.put_alone.result (IsJoined rules (point g here ∷ []) (points_from (entries_of lists) items c.args.head)
     (entries_of lists) entries items items)) c.deref-then-outdoes.ensures.value (put_joined _ _ _ _ _ _ _ _ c.put_alone.result c.put_alone.ensures)))
 
-pub returns-in_err-push-clause-more : goal.returns-in_err-push-clause-more
-returns-in_err-push-clause-more g c =
+pub returns-in_err-append-2-clause-more : goal.returns-in_err-append-2-clause-more
+returns-in_err-append-2-clause-more g c =
     let lists = c.args.self.now in
     record {
       sound = c.requires.may.sound;
@@ -147,7 +147,7 @@ kept_is : (g : given.Over) (c : After-deref-3 g) → c.deref-3.result.now
     ≡ record { departure = c.args.boarding.departure; value = c.walk-value.result; tag = c.in_ok-tag.tag } ∷ []
 kept_is g c =
     let x : Item g.row.C-V.Denot = record { departure = c.args.boarding.departure; value = c.walk-value.result; tag = c.in_ok-tag.tag } in
-    c.deref-3.ensures.value ∙ c.in_ok-push.ensures.items ∙ ap (λ ps. ps ++ x ∷ []) c.clear.ensures.items
+    c.deref-3.ensures.value ∙ c.in_ok-append-2.ensures.added ∙ ap (λ ps. ps ++ x ∷ []) c.clear.ensures.items
 
 pub put-requires : goal.put-requires
 put-requires g c =

@@ -16,8 +16,8 @@ returns-clause-ok c = λ before held.
             departure = values.departure;
             stop = rw c.text-2.ensures at c.in_ok-stop.ensures.ok;
             sequence = values.sequence;
-            board = rw c.get-2.ensures at c.available.ensures;
-            alight = rw c.get-3.ensures at c.available-2.ensures;
+            board = rw c.get.ensures at c.available.ensures;
+            alight = rw c.get-2.ensures at c.available-2.ensures;
           })
           held,
     )) c.add_row.ensures.ok)

@@ -1,3 +1,4 @@
+use Rattle.profile_scan.specs.ScanState.{final_walk_in}
 use Rattle.profile_scan.specs.SetQuery.{question}
 use Rattle.profile_scan.specs.Adding.{changes_from, endings}
 use Rattle.lanes.specs.Lanes.{trip_rules}
@@ -16,8 +17,8 @@ change-requires c =
     let hop = c.args.hop.now in
     let old = c.args.self.now in
     still_can q hop old c.requires.can (record { lanes = c.end.new.self; beyond = old.beyond }) (λ _. ⊥)
-    (λ tags. endings trip_rules tags hop.place hop.connection q hop.final_walk)
-    (in_lanes q hop old c.requires.can (λ _. ⊥) (λ tags. endings trip_rules tags hop.place hop.connection q hop.final_walk) c.end.new.self
+    (λ tags. endings trip_rules tags hop.place hop.connection q (final_walk_in hop.final_entry))
+    (in_lanes q hop old c.requires.can (λ _. ⊥) (λ tags. endings trip_rules tags hop.place hop.connection q (final_walk_in hop.final_entry)) c.end.new.self
     c.in_ok-end.ensures)
 
 pub change_beyond-requires : goal.change_beyond-requires
@@ -26,8 +27,8 @@ change_beyond-requires c =
     let hop = c.args.hop.now in
     let old = c.args.self.now in
     let ended : ByTrips = record { lanes = c.end.new.self; beyond = old.beyond } in
-    let can = still_can q hop old c.requires.can ended (λ _. ⊥) (λ tags. endings trip_rules tags hop.place hop.connection q hop.final_walk)
-    (in_lanes q hop old c.requires.can (λ _. ⊥) (λ tags. endings trip_rules tags hop.place hop.connection q hop.final_walk) c.end.new.self
+    let can = still_can q hop old c.requires.can ended (λ _. ⊥) (λ tags. endings trip_rules tags hop.place hop.connection q (final_walk_in hop.final_entry))
+    (in_lanes q hop old c.requires.can (λ _. ⊥) (λ tags. endings trip_rules tags hop.place hop.connection q (final_walk_in hop.final_entry)) c.end.new.self
     c.in_ok-end.ensures) in
     still_can q hop ended can c.change.new.self (λ p. Excludes trip_rules hop.bound.now p.value)
     (λ tags. changes_from tags hop.place hop.connection.arr (points_at c.end.new.self.stops hop.connection.to)) c.in_ok-change.ensures
@@ -38,5 +39,5 @@ returns c =
     let hop = c.args.hop.now in
     let old = c.args.self.now in
     has_left q hop old c.requires.can c.requires.alights (record { lanes = c.end.new.self; beyond = old.beyond }) c.change.new.self c.change_beyond.new.self
-    (in_lanes q hop old c.requires.can (λ _. ⊥) (λ tags. endings trip_rules tags hop.place hop.connection q hop.final_walk) c.end.new.self
+    (in_lanes q hop old c.requires.can (λ _. ⊥) (λ tags. endings trip_rules tags hop.place hop.connection q (final_walk_in hop.final_entry)) c.end.new.self
     c.in_ok-end.ensures) c.in_ok-change.ensures c.in_ok-change_beyond.ensures

@@ -6,12 +6,12 @@ use Rattle.profile_scan.specs.Bound.{AreBounds, ExcludesMore}
 use Rattle.profile_scan.specs.ScanRecords.{spelling_of}
 use Rattle.profile_scan.specs.Hops.{IsHopOf}
 use Rattle.profile_scan.specs.LawStatements.{CanScan}
-use Rattle.profile_scan.specs.ScanState.{IsFinalWalk, scan_value_of, scan_records_of}
+use Rattle.profile_scan.specs.ScanState.{IsFinalWalk, final_walk_in, scan_value_of, scan_records_of}
 use Rattle.profile_scan.proofs.BoundLemmas.{bounds_renewed, bounds_on}
 use Rattle.profile_scan.proofs.StepFacts.{begins_in, ends_in, step_idle_at, trip_in}
 use Rattle.profile_scan.proofs.TakeLemmas.{is_step}
 use Rattle.profile_scan.proofs.scan.Scan.step.Given as given
-use Rattle.profile_scan.proofs.scan.Scan.step.Goals.{After-deref, After-final_walk_from-way, In_ok-renewed, Start}
+use Rattle.profile_scan.proofs.scan.Scan.step.Goals.{After-deref, After-entry_of-final_entry, In_ok-renewed, Start}
 use Rattle.profile_scan.proofs.scan.Scan.step.Goals as goal
 
 -- the connection ends at a stop
@@ -20,20 +20,20 @@ ends g c = ends_in (g.S.ConnSource.timetable c.args.source.now) (g.met.S.ConnSou
     c.args.place c.requires.stands.in_range c.args.connection.now c.requires.stands.is
 
 -- what is known of the way from there to a target
-way_is : (g : given.Over) (c : goal.After-final_walk_from-way g)
+way_is : (g : given.Over) (c : goal.After-entry_of-final_entry g)
     → IsFinalWalk (g.S.ConnSource.timetable c.args.source.now) (question c.args.asked.now.query).targets c.args.connection.now.to
-    c.final_walk_from-way.result
+    (final_walk_in c.entry_of-final_entry.result)
 way_is g c =
     let at = c.requires.stands in
     subst (IsFinalWalk (g.S.ConnSource.timetable c.args.source.now) (question c.args.asked.now.query).targets c.args.connection.now.to)
-    (sym c.final_walk_from-way.ensures)
+    (sym c.entry_of-final_entry.ensures)
     (c.requires.asked.final_walks.each c.args.connection.now.to
     (ends_in (g.S.ConnSource.timetable c.args.source.now) (g.met.S.ConnSource.legal c.args.source.now) c.args.place
     at.in_range c.args.connection.now at.is))
 
-pub final_walk_from-way-requires : goal.final_walk_from-way-requires
-final_walk_from-way-requires g c = subst (λ (n : ℕ). c.args.connection.now.to < n) (sym c.requires.asked.final_walks.long)
-    (ends g (goal.at.final_walk_from-way-requires g c).Start)
+pub entry_of-final_entry-requires : goal.entry_of-final_entry-requires
+entry_of-final_entry-requires g c = subst (λ (n : ℕ). c.args.connection.now.to < n) (sym c.requires.asked.final_walks.long)
+    (ends g (goal.at.entry_of-final_entry-requires g c).Start)
 
 pub access_to-requires : goal.access_to-requires
 access_to-requires g c =
@@ -81,7 +81,7 @@ returns-then-is_idle g c =
       step = λ index.
           step_idle_at rules t (asked_from g.O.AtSource.sources (question c.args.asked.now.query) index)
           (spelling_of t.footpaths (scan_records_of value kept scan.state index)) c.args.place (scan_value_of value kept scan.state index) _
-          c.args.connection.now c.requires.stands.is (way_is g (goal.at.returns-then-is_idle g c).After-final_walk_from-way)
+          c.args.connection.now c.requires.stands.is (way_is g (goal.at.returns-then-is_idle g c).After-entry_of-final_entry)
           (c.is_idle.ensures c.if-is_idle.true);
     }
 
@@ -106,7 +106,7 @@ hop_is : (g : given.Over) (c : goal.After-deref g) → IsHopOf (g.C.Criterion.ru
       connection = c.args.connection.now;
       place = c.args.place;
       access = c.access_to.result;
-      final_walk = c.final_walk_from-way.result;
+      final_entry = c.entry_of-final_entry.result;
       bound = c.deref.result;
       renewed = c.in_ok-renewed.renewed;
     })
@@ -124,7 +124,7 @@ hop_is g c =
       by = c.requires.asked.by;
       starts = c.requires.asked.starts;
       access = c.requires.asked.starts.each c.args.connection.now.from c.access_to.result c.access_to.ensures;
-      final_walk = way_is g point.After-final_walk_from-way;
+      final_walk = way_is g point.After-entry_of-final_entry;
       bound =
           subst (λ (values : List g.row.C-V.Denot). (b : g.row.C-V.Denot) → Contains values b → Admits rules b) (sym c.deref.ensures.value)
           (renewed g point.In_ok-renewed 0).admitted;

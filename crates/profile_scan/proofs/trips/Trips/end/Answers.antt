@@ -1,6 +1,7 @@
 use Rattle.std.proofs.Common.{sym, ◌∙◌, ap, subst}
 use Rattle.std.proofs.lemmas.Result.{on_ok_weaker}
 use Rattle.criteria.specs.Laws.{Admits, IsTime}
+use Rattle.profile_scan.specs.ScanState.{final_walk_in}
 use Rattle.profile_scan.specs.SetQuery.{question}
 use Rattle.profile_scan.specs.Values.{started}
 use Rattle.profile_scan.specs.Adding.{endings, trip_points}
@@ -21,7 +22,7 @@ returns-in-Some g c =
       trip = taken.trip;
       takes = λ walks steps set_outs before all ext_before ext.
           takes_the_end rules (from_to (spelling_of walks before) (spelling_of walks all)) c.args.hop.now.place
-          c.args.hop.now.connection (question c.args.asked.now.query) c.args.hop.now.final_walk end.walk c.started-value.result
+          c.args.hop.now.connection (question c.args.asked.now.query) (final_walk_in c.args.hop.now.final_entry) end.walk c.started-value.result
           end.time (trip_points c.args.self.now.labels c.args.hop.now.connection.trip)
           (trip_points c.offer_end.new.self.labels c.args.hop.now.connection.trip)
           is.0 is.3
@@ -37,7 +38,7 @@ returns-in-None g c = record {
   takes = λ walks steps set_outs before all ext_before ext.
       takes_none (g.C.Criterion.rules c.args.asked.now.criterion) (endings (g.C.Criterion.rules c.args.asked.now.criterion)
       (from_to (spelling_of walks before) (spelling_of walks all)) c.args.hop.now.place c.args.hop.now.connection
-      (question c.args.asked.now.query) c.args.hop.now.final_walk) (trip_points c.args.self.now.labels c.args.hop.now.connection.trip)
+      (question c.args.asked.now.query) (final_walk_in c.args.hop.now.final_entry)) (trip_points c.args.self.now.labels c.args.hop.now.connection.trip)
       (λ way opened. c.in-None.ensures way opened);
 }
 
@@ -46,18 +47,18 @@ pub arrive-arrived-requires : goal.arrive-arrived-requires
 arrive-arrived-requires g c =
     let is = c.in-Some.ensures in
     let hop = c.requires.hop in
-    subst IsTime (sym is.1) (end_time c.args.hop.now.connection (question c.args.asked.now.query) c.args.hop.now.final_walk c.in-Some.end.walk
+    subst IsTime (sym is.1) (end_time c.args.hop.now.connection (question c.args.asked.now.query) (final_walk_in c.args.hop.now.final_entry) c.in-Some.end.walk
     hop.arrival hop.by is.0)
 
 pub started-value-requires-clause-secs : goal.started-value-requires-clause-secs
-started-value-requires-clause-secs g c = end_secs c.args.hop.now.connection (question c.args.asked.now.query) c.args.hop.now.final_walk
+started-value-requires-clause-secs g c = end_secs c.args.hop.now.connection (question c.args.asked.now.query) (final_walk_in c.args.hop.now.final_entry)
     c.in-Some.end.walk c.requires.hop.secs c.in-Some.ensures.0
 
 pub started-value-requires-clause-admitted : goal.started-value-requires-clause-admitted
 started-value-requires-clause-admitted g c =
     let is = c.in-Some.ensures in
     let hop = c.requires.hop in
-    let time = subst IsTime (sym is.1) (end_time c.args.hop.now.connection (question c.args.asked.now.query) c.args.hop.now.final_walk
+    let time = subst IsTime (sym is.1) (end_time c.args.hop.now.connection (question c.args.asked.now.query) (final_walk_in c.args.hop.now.final_entry)
     c.in-Some.end.walk hop.arrival hop.by is.0) in
     subst (Admits (g.C.Criterion.rules c.args.asked.now.criterion)) (sym c.arrive-arrived.ensures)
     ((g.met.C.Criterion.laws c.args.asked.now.criterion).arrive_admits c.in-Some.end.time time)
@@ -71,4 +72,4 @@ offer_end-requires-clause-admitted g c =
     let worth = c.started-value.ensures ∙ ap (λ (v : g.row.C-V.Denot). started rules end.walk v) (c.arrive-arrived.ensures ∙ ap rules.arrive is.1) in
     subst (Admits rules) (sym worth)
     (end_admits rules (g.met.C.Criterion.laws c.args.asked.now.criterion) c.args.hop.now.connection
-    (question c.args.asked.now.query) c.args.hop.now.final_walk end.walk hop.arrival hop.by hop.secs is.0)
+    (question c.args.asked.now.query) (final_walk_in c.args.hop.now.final_entry) end.walk hop.arrival hop.by hop.secs is.0)

@@ -1,4 +1,5 @@
-use Rattle.std.proofs.Common.{refl, sym, subst, ◌∙◌, ◌++◌, ◌∷◌, []}
+use Rattle.std.proofs.Common.{ap, refl, sym, subst, ◌∙◌, ◌++◌, ◌∷◌, []}
+use Rattle.handoff.specs.Ends.{TakerValue}
 use Rattle.workers.specs.Sessions.{AreServed, worker_state}
 use Rattle.workers.specs.Words.{sessions_of}
 use Rattle.workers.proofs.Ending.{may_close, served_also}
@@ -37,10 +38,10 @@ loop-preserved g c =
     record {
       next = tt;
       finite = tt;
-      queue = c.in-Some-next.ensures.queue ∙ was.queue;
+      queue = ap (λ (taker : TakerValue _). taker.queue) c.in-Some-next.ensures.1 ∙ was.queue;
       route = one.ensures.route ∙ was.route;
       fits = one.ensures.fits;
-      served = subst (λ clients. AreServed words clients noted.new.served a b) (sym c.in-Some-next.ensures.taken)
+      served = subst (λ clients. AreServed words clients noted.new.served a b) (sym (ap (λ (taker : TakerValue _). taker.taken) c.in-Some-next.ensures.1))
           (subst (λ list. AreServed words (c.loop.taker.taken ++ c.in-Some-next.client ∷ []) list a b) (sym noted.ensures) also);
     }
 
@@ -64,10 +65,10 @@ returns-in-None-next-clause-served g c =
     let a = worker_state c.args.seat (asked c.args.orders) in
     let b = worker_state c.loop.seat (asked c.loop.orders) in
     let last = c.in-None-next.ensures in
-    let served = subst (λ clients. AreServed words clients c.loop.served a b) (sym last.taken) c.loop.invariant.served in
+    let served = subst (λ clients. AreServed words clients c.loop.served a b) (sym (ap (λ (taker : TakerValue _). taker.taken) last.0)) c.loop.invariant.served in
     record {
       fits = c.loop.invariant.fits;
-      queue_is = last.queue ∙ c.loop.invariant.queue;
+      queue_is = ap (λ (taker : TakerValue _). taker.queue) last.0 ∙ c.loop.invariant.queue;
       served = served;
       exact = λ idle. exact words _ c.loop.served a b idle served;
     }
