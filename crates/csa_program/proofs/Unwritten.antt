@@ -66,16 +66,15 @@ module _ (fault : Option ErrorKind) (has : HasFault fault) where
         × IsTableRefused may_hold image request before after)
         → IsTableCut may_hold may_fail disk input input_failed request fault before after
     refused_unwritten (inl (line, refused, whole)) = inr (inl (has, line, refused, begun_by_all before after line whole))
-    refused_unwritten (inr (image, held, inl (table, of, bad))) =
-        let line = refusal_line (OfQuery BadWindow) in
-        inr (inr (image, held, inr (inr (table, of, inr (inl (has, bad.0, begun_by_all before after line bad.1))))))
-    refused_unwritten (inr (image, held, inr (unknown, same))) = inr (inr (image, held, inr (inl (has, unknown, same))))
+    refused_unwritten (inr (image, held, inl (none, whole))) =
+        inr (inr (image, held, inl (has, none, begun_by_all before after (refusal_line (OfQuery BadWindow)) whole)))
+    refused_unwritten (inr (image, held, inr (window, unknown, same))) = inr (inr (image, held, inr (window, inr (inl (has, unknown, same)))))
 
     cut_unwritten : (status : ℕ) → IsSettled status → IsTableEnd may_hold may_fail disk input input_failed request fault status before after
         → IsTableCut may_hold may_fail disk input input_failed request fault before after
     cut_unwritten status (inl done) ended =
-        let (image, held, (table, of, window, shown)) = ended.printed done in
-        inr (inr (image, held, inr (inr (table, of, inr (inr (has, window, shown_in_part disk table request.out.now before after shown))))))
+        let (image, held, (window, (table, of, shown))) = ended.printed done in
+        inr (inr (image, held, inr (window, inr (inr (table, of, inr (has, shown_in_part disk table request.out.now before after shown))))))
     cut_unwritten status (inr done) ended = refused_unwritten (ended.refused done)
 
     table_unwritten : (status : ℕ) → IsSettled status → IsTableEnd may_hold may_fail disk input input_failed request fault status before after

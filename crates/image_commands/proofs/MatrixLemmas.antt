@@ -1,6 +1,6 @@
 -- Whether a table can be made, and why it isn't.
 use Rattle.std.proofs.Common.{◌≡◌, ◌≢◌, ◌<◌, ◌⊎◌, ℕ, List, [], ◌∷◌, Option, None, Some, Result, Ok, Err, Contains, IfErr, IfOk, MatchResult, OnErr}
-use Rattle.std.proofs.Common.{append-nil, arith, codes, inl, inr, subst, sym}
+use Rattle.std.proofs.Common.{append-nil, arith, inl, inr, subst, sym}
 use Rattle.std.specs.Borrow.{Bor}
 use Rattle.std.specs.Global.{Vec}
 use Rattle.std.specs.List.{AllZip}
@@ -12,18 +12,15 @@ use Rattle.std.specs.declared.io.ErrorKind.TheVariants.{OutOfMemory as WasOutOfM
 use Rattle.std.proofs.lemmas.List.Elements.{Contains-append_right}
 use Rattle.reasoning.proofs.ListLemmas.{contains_cases, contains_first, not_in_nil}
 use Rattle.image_layout.specs.Image.{ImageValue}
-use Rattle.matrix_rows.specs.Tables.{AreWithin, CanBeMade, HasWindow, IsTable, IsTableBegun}
+use Rattle.matrix_rows.specs.Tables.{AreWithin, CanBeMade, IsTable, IsTableBegun}
 use Rattle.matrix_rows.specs.declared.table.TravelTable.{TravelTable}
 use Rattle.command_requests.specs.declared.requests.MatrixRequest.{MatrixRequest}
-use Rattle.command_requests.specs.declared.statuses.TheConstants.{ACCEPTED, COMMAND_LINE, INPUT_OUTPUT, OUT_OF_MEMORY}
-use Rattle.command_endings.specs.Ending.{Ends}
+use Rattle.command_requests.specs.declared.statuses.TheConstants.{ACCEPTED, COMMAND_LINE, INPUT_OUTPUT, OUT_OF_MEMORY, REFUSED}
 use Rattle.image_files.proofs.Appended.{begun_by_all}
 use Rattle.image_files.specs.Texts.{IsNoTextAt, IsTextAt}
 use Rattle.image_files.specs.Out.{OutFiles}
-use Rattle.image_files.specs.Watching.{HasFault}
-use Rattle.image_files.specs.Writing.{IsUnwritable}
 use Rattle.image_commands.specs.Departing.{IsListUnreadable}
-use Rattle.image_commands.specs.Matrices.{AreListedIn, AreNoSources, AreOfList, AreSources, EndsTable, EndsUnlisted, IsCutShort}
+use Rattle.image_commands.specs.Matrices.{AreListedIn, AreNoSources, AreOfList, AreSources, EndsTable, EndsUnlisted, EndsWritten, HasWindow}
 use Rattle.image_commands.specs.Matrices.{IsShownInPart, IsSpent, IsTableOf, IsTableShown, IsTableSpent, IsUnasked, IsUnlisted, IsUnlistedIn, counts_of}
 use Rattle.image_commands.proofs.Ranges.{below_all}
 
@@ -50,21 +47,6 @@ sources_within may_hold None image sets are =
     each_within image.timetable.stops _ sets (λ n h. below_all image.timetable.stops n h) are
 sources_within may_hold (Some path) image sets are = are.2.within
 
--- a table can be made if its stops are those of the image, and its times make a window
-pub can_be_made : (table : TravelTable) → AreWithin table.image.now table.targets.now → AreWithin table.image.now table.sources.now → HasWindow table
-    → (targets : Vec ℕ) → Contains table.targets.now targets → CanBeMade table targets.items
-can_be_made table within sources window targets h = record {
-  sources = sources;
-  asked = record {
-    sources = λ stop none. absurd (not_in_nil stop none);
-    targets = within targets h;
-    differ = λ stop none. absurd (not_in_nil stop none);
-    window = window.window;
-    in_time = window.in_time;
-    small = window.small;
-  };
-}
-
 -- the table that was made is the one that is asked for
 pub table_asked : (may_hold : List ℕ → Option (List ℕ) → Type 0) (image : ImageValue) (request : MatrixRequest) (table : TravelTable)
     (targets sources : List (Vec ℕ)) → table.image.now ≡ image → table.targets.now ≡ targets → table.sources.now ≡ sources
@@ -90,6 +72,25 @@ sources_are_within may_hold image request table of =
     subst (λ (i : ImageValue). AreWithin i table.sources.now) (sym of.image_is)
     (sources_within may_hold request.from image table.sources.now of.sources)
 
+-- a table that is asked for can be made if its times make a window
+pub can_be_made : (may_hold : List ℕ → Option (List ℕ) → Type 0) (image : ImageValue) (request : MatrixRequest) (table : TravelTable)
+    → IsTableOf may_hold image request table → HasWindow request → (targets : Vec ℕ) → Contains table.targets.now targets → CanBeMade table targets.items
+can_be_made may_hold image request table of times targets h =
+    let after : table.after ≡ request.after = of.times.0 in
+    let until : table.until ≡ request.until = of.times.1 in
+    let by : table.by ≡ request.by = of.times.2 in
+    record {
+      sources = sources_are_within may_hold image request table of;
+      asked = record {
+        sources = λ stop none. absurd (not_in_nil stop none);
+        targets = targets_are_within may_hold image request table of targets h;
+        differ = λ stop none. absurd (not_in_nil stop none);
+        window = omega (arith, after, until, times.window);
+        in_time = omega (arith, after, by, times.in_time);
+        small = (omega (arith, after, times.small.0), omega (arith, until, times.small.1), omega (arith, by, times.small.2));
+      };
+    }
+
 -- a command whose lists aren't known ends otherwise than with 0
 ends_not_accepted : (status : ℕ) → EndsUnlisted status → status ≢ ACCEPTED
 ends_not_accepted status (inl (inl is)) e = omega (arith, is, e)
@@ -105,12 +106,11 @@ pub unasked_table : (may_hold : List ℕ → Option (List ℕ) → Type 0) (may_
     → IsUnasked may_hold may_fail request image status → EndsTable status × (status ≢ ACCEPTED)
 unasked_table may_hold may_fail request image status why = (ends_table status why.ends, ends_not_accepted status why.ends)
 
--- a table that was begun doesn't end as a bad command line does
-pub ends_asked : (status : ℕ) → Ends status → status ≢ COMMAND_LINE
-ends_asked status (inl is) e = omega (arith, is, e)
-ends_asked status (inr (inl is)) e = omega (arith, is, e)
-ends_asked status (inr (inr (inl is))) e = omega (arith, is, e)
-ends_asked status (inr (inr (inr is))) e = omega (arith, is, e)
+-- a table that was begun doesn't end as one that is refused, or as a bad command line does
+pub ends_written : (status : ℕ) → EndsWritten status → (status ≢ REFUSED) × (status ≢ COMMAND_LINE)
+ends_written status (inl is) = (λ e. omega (arith, is, e), λ e. omega (arith, is, e))
+ends_written status (inr (inl is)) = (λ e. omega (arith, is, e), λ e. omega (arith, is, e))
+ends_written status (inr (inr is)) = (λ e. omega (arith, is, e), λ e. omega (arith, is, e))
 
 pub unasked_targets : (may_hold : List ℕ → Option (List ℕ) → Type 0) (may_fail : List ℕ → Type 0) (request : MatrixRequest) (image : ImageValue) (status : ℕ)
     → IsUnlisted may_hold may_fail request.to.now image status → IsUnasked may_hold may_fail request image status
@@ -166,19 +166,13 @@ unread_list may_hold may_fail path image kind status (inr is) memory why = recor
   unread = λ e. absurd (omega (arith, is, e));
 }
 
--- what was printed of a table that was begun, or of a line for its times
-pub cut_table : (disk : OutFiles) (table : TravelTable) (out : List ℕ) (fault : Option ErrorKind) (before after : Option (List ℕ)) → HasWindow table
-    → ((out ≢ codes "-") × IsUnwritable disk out × (after ≡ before)) ⊎ (HasFault fault × IsShownInPart table out before after)
-    → IsCutShort disk table out fault before after
-cut_table disk table out fault before after window (inl (elsewhere, unwritten, same)) = inl (elsewhere, unwritten, window, same)
-cut_table disk table out fault before after window (inr part) = inr (inr (part.0, window, part.1))
-
--- .. of the table that is asked for
-pub spent_table : (may_hold : List ℕ → Option (List ℕ) → Type 0) (image : ImageValue) (request : MatrixRequest) (table : TravelTable)
-    (before after : Option (List ℕ)) → IsTableOf may_hold image request table
-    → (after ≡ before) ⊎ (HasWindow table × IsSpent table request.out.now before after) → IsTableSpent may_hold image request before after
-spent_table may_hold image request table before after is (inl same) = inl same
-spent_table may_hold image request table before after is (inr spent) = inr (table, is, spent.0, spent.1)
+-- what was printed of a table if memory ran out
+pub spent_table : (may_hold : List ℕ → Option (List ℕ) → Type 0) (image : ImageValue) (request : MatrixRequest) (before after : Option (List ℕ))
+    → HasWindow request
+    → (after ≡ before) ⊎ ((table : TravelTable) × IsTableOf may_hold image request table × IsSpent table request.out.now before after)
+    → IsTableSpent may_hold image request before after
+spent_table may_hold image request before after window (inl same) = inl same
+spent_table may_hold image request before after window (inr spent) = inr (window, spent)
 
 -- what holds of a call that failed, by the status that was made of it
 pub at_failure : {T E : Type 0} (P : Type 0) (outcome : Result T E) (status : ℕ) → IfOk outcome (λ _. status ≡ ACCEPTED) → OnErr outcome P

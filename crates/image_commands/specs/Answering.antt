@@ -86,13 +86,13 @@ abbrev pub IsPictureUnwritten : OutFiles → Option (Bor (List ℕ)) → Type 0
 IsPictureUnwritten disk None = ⊥
 IsPictureUnwritten disk (Some path) = IsUnwritableInto disk path.now
 
--- a picture is asked for at a path where the file of the image may be, which is at the other path
-abbrev pub IsOverImage : OutFiles → List ℕ → Option (Bor (List ℕ)) → Type 0
-IsOverImage disk image None = ⊥
-IsOverImage disk image (Some path) = disk.may_be_one path.now image
+-- a path is given at which may be the file that is at the other path
+abbrev pub IsOverFile : OutFiles → List ℕ → Option (Bor (List ℕ)) → Type 0
+IsOverFile disk other None = ⊥
+IsOverFile disk other (Some path) = disk.may_be_one path.now other
 
 abbrev pub IsPictureUnwritable : OutFiles → List ℕ → Option (Bor (List ℕ)) → Type 0
-IsPictureUnwritable disk image picture = IsPictureUnwritten disk picture ⊎ IsOverImage disk image picture
+IsPictureUnwritable disk image picture = IsPictureUnwritten disk picture ⊎ IsOverFile disk image picture
 
 -- the question is answered, and its picture may not be written
 abbrev pub LacksPicture : OutFiles → ImageValue → ProfileRequest → Type 0

@@ -1,5 +1,5 @@
 -- What `csa matrix` prints, over which stops, and why it is refused.
-use Rattle.std.specs.Prelude.{◌≡◌, ◌≢◌, ◌⊎◌, ◌<◌, ◌++◌, ℕ, List, [], ◌∷◌, Option, None, Some, codes, decimal, length}
+use Rattle.std.specs.Prelude.{◌≡◌, ◌≢◌, ◌⊎◌, ◌<◌, ◌≤◌, ◌++◌, ℕ, List, [], ◌∷◌, Option, None, Some, codes, decimal, length}
 use Rattle.std.specs.Borrow.{Bor}
 use Rattle.std.specs.Global.{Vec}
 use Rattle.std.specs.Io.KnownBytes.{Appends}
@@ -9,11 +9,12 @@ use Rattle.std.specs.declared.io.ErrorKind.{ErrorKind}
 use Rattle.image_files.specs.Out.{OutFiles}
 use Rattle.image_files.specs.Writing.{IsPut, IsUnwritable}
 use Rattle.image_layout.specs.Image.{ImageValue}
-use Rattle.timetable.specs.Queries.{HasBadWindow}
-use Rattle.timetable.specs.declared.query.Query.{Query}
+use Rattle.profile_scan.specs.SetQuery.{SetQueryValue}
+use Rattle.station_answers.specs.Asking.{HasBadTimes}
+use Rattle.timetable.specs.declared.limits.TheConstants.{TIME_END}
 use Rattle.timetable.specs.declared.query.QueryFault.TheVariants.{BadWindow}
 use Rattle.matrix_rows.specs.Listed.{AreAllNamed, AreListed, HasStopTwice, IsLineTwice, IsUnknownLine}
-use Rattle.matrix_rows.specs.Tables.{AreWithin, HasWindow, IsTable, IsTableBegun}
+use Rattle.matrix_rows.specs.Tables.{AreWithin, IsTable, IsTableBegun}
 use Rattle.matrix_rows.specs.declared.lists.SetListFault.{SetListFault}
 use Rattle.matrix_rows.specs.declared.lists.SetListFault.TheVariants.{Empty, LineTwice, OutOfMemory, StopTwice, UnknownStop}
 use Rattle.matrix_rows.specs.declared.table.TravelTable.{TravelTable}
@@ -22,6 +23,7 @@ use Rattle.command_requests.specs.declared.statuses.TheConstants.{ACCEPTED, COMM
 use Rattle.command_endings.specs.Ending.{Ends, EndsUndone}
 use Rattle.image_files.specs.Texts.{HoldsOfText, IsNoTextAt}
 use Rattle.image_files.specs.Watching.{HasFault, IsBegun}
+use Rattle.image_commands.specs.Answering.{IsOverFile}
 use Rattle.image_commands.specs.Departing.{IsListUnreadable}
 use Rattle.image_commands.specs.Refusing.{refusal_line}
 use Rattle.image_commands.specs.declared.refusal.CommandRefusal.TheVariants.{Query as OfQuery}
@@ -120,14 +122,16 @@ pub record IsTableOf (may_hold : List ℕ → Option (List ℕ) → Type 0) (ima
   pub times : (table.after ≡ request.after) × (table.until ≡ request.until) × (table.by ≡ request.by)
   pub form : (table.criterion ≡ request.criterion) × (table.each ≡ request.each)
 
--- the earliest departure, the latest one and the latest arrival make no window
-abbrev pub AreBadTimes : ℕ → ℕ → ℕ → Type 0
-AreBadTimes after until by =
-    let q : Query = record { source = 0; target = 0; from = after; until = until; by = by } in HasBadWindow q
+-- the earliest departure, the latest one and the latest arrival make a window
+pub record HasWindow (request : MatrixRequest) : Type 0 where
+  pub window : request.after ≤ request.until
+  pub in_time : request.after ≤ request.by
+  pub small : (request.after < TIME_END) × (request.until < TIME_END) × (request.by < TIME_END)
 
--- the times make no window, and the line of this refusal was added to what was printed before, and nothing else
-abbrev pub IsBadWindow : ℕ → ℕ → ℕ → Option (List ℕ) → Option (List ℕ) → Type 0
-IsBadWindow after until by before now = AreBadTimes after until by × Appends before now (refusal_line (OfQuery BadWindow))
+-- they make none
+abbrev pub HasNoWindow : MatrixRequest → Type 0
+HasNoWindow request =
+    let b : SetQueryValue = record { sources = []; targets = []; from = request.after; until = request.until; by = request.by } in HasBadTimes b
 
 -- the line that says how many sets of stops a table has
 unfoldable pub counts_text : ℕ → ℕ → List ℕ
@@ -147,36 +151,48 @@ pub record IsShownInPart (table : TravelTable) (out : List ℕ) (before after : 
   pub begun : out ≡ codes "-" → IsTableBegun table before after
   pub counted : out ≢ codes "-" → IsBegun before after (counts_of table)
 
--- the table that is asked for, whose times make a window, was printed, or put at its path
+-- a table is asked for whose times make a window, and it was printed, or put at its path
 abbrev pub IsTablePrinted : (List ℕ → Option (List ℕ) → Type 0) → OutFiles → ImageValue → MatrixRequest → Option (List ℕ) → Option (List ℕ) → Type 0
 IsTablePrinted may_hold disk image request before after =
-    (table : TravelTable) × IsTableOf may_hold image request table × HasWindow table × IsTableShown disk table request.out.now before after
+    HasWindow request × ((table : TravelTable) × IsTableOf may_hold image request table × IsTableShown disk table request.out.now before after)
 
--- a table is refused for its times, whose line was printed; or for a line of a list that has what is no stop_id, and then nothing was printed
+-- a table is refused for its times, whose line was printed; or these make a window, a line of a list has what is no stop_id, and nothing was printed
 abbrev pub IsTableRefused : (List ℕ → Option (List ℕ) → Type 0) → ImageValue → MatrixRequest → Option (List ℕ) → Option (List ℕ) → Type 0
 IsTableRefused may_hold image request before after =
-    ((table : TravelTable) × IsTableOf may_hold image request table × IsBadWindow table.after table.until table.by before after)
-    ⊎ (HoldsOfList may_hold request image (HasUnknown image) × (after ≡ before))
+    (HasNoWindow request × Appends before after (refusal_line (OfQuery BadWindow)))
+    ⊎ (HasWindow request × HoldsOfList may_hold request image (HasUnknown image) × (after ≡ before))
 
--- a table can't be asked for because of a list, and nothing was printed
+-- the times make a window, but a table can't be asked for because of a list, and nothing was printed
 abbrev pub IsTableUnlisted : (List ℕ → Option (List ℕ) → Type 0) → ImageValue → MatrixRequest → Option (List ℕ) → Option (List ℕ) → Type 0
-IsTableUnlisted may_hold image request before after = HoldsOfList may_hold request image (IsNoList image) × (after ≡ before)
+IsTableUnlisted may_hold image request before after = HasWindow request × HoldsOfList may_hold request image (IsNoList image) × (after ≡ before)
 
--- what was printed of a table if a file or a line can't be read or written: nothing, since its times make a window and its file may not be written; or,
--- since the output has a fault, a first part of the line for bad times, or of what is printed of the table
-abbrev pub IsCutShort : OutFiles → TravelTable → List ℕ → Option ErrorKind → Option (List ℕ) → Option (List ℕ) → Type 0
-IsCutShort disk table out fault before after =
-    ((out ≢ codes "-") × IsUnwritable disk out × HasWindow table × (after ≡ before))
-    ⊎ (HasFault fault × AreBadTimes table.after table.until table.by × IsBegun before after (refusal_line (OfQuery BadWindow)))
-    ⊎ (HasFault fault × HasWindow table × IsShownInPart table out before after)
+-- the file of a table may be one that is read: the image's, or that of a list
+abbrev pub IsOverRead : OutFiles → MatrixRequest → Type 0
+IsOverRead disk request =
+    disk.may_be_one request.image.now request.out.now ⊎ disk.may_be_one request.to.now request.out.now ⊎ IsOverFile disk request.out.now request.from
+
+abbrev pub IsTableUnwritable : OutFiles → MatrixRequest → Type 0
+IsTableUnwritable disk request = (request.out.now ≢ codes "-") × (IsOverRead disk request ⊎ IsUnwritable disk request.out.now)
+
+-- what was printed of a table if it can't be written: nothing, since its file may not be; or, since the output has a fault, a first part of what is printed
+abbrev pub IsCutShort : OutFiles → MatrixRequest → TravelTable → Option ErrorKind → Option (List ℕ) → Option (List ℕ) → Type 0
+IsCutShort disk request table fault before after =
+    (IsTableUnwritable disk request × (after ≡ before)) ⊎ (HasFault fault × IsShownInPart table request.out.now before after)
 
 -- the same of the table that is asked for; or nothing, since a list may not be read, or has what is no stop_id while the output has a fault
+abbrev pub IsReadCutShort : (List ℕ → Option (List ℕ) → Type 0) → (List ℕ → Type 0) → OutFiles → ImageValue → MatrixRequest → Option ErrorKind
+    → Option (List ℕ) → Option (List ℕ) → Type 0
+IsReadCutShort may_hold may_fail disk image request fault before after =
+    (AreListsUnreadable may_fail may_hold image request × (after ≡ before))
+    ⊎ (HasFault fault × HoldsOfList may_hold request image (HasUnknown image) × (after ≡ before))
+    ⊎ ((table : TravelTable) × IsTableOf may_hold image request table × IsCutShort disk request table fault before after)
+
+-- the same if the times make a window; or they make none, and since the output has a fault a first part of the line for them was printed
 abbrev pub IsTableCutShort : (List ℕ → Option (List ℕ) → Type 0) → (List ℕ → Type 0) → OutFiles → ImageValue → MatrixRequest → Option ErrorKind
     → Option (List ℕ) → Option (List ℕ) → Type 0
 IsTableCutShort may_hold may_fail disk image request fault before after =
-    (AreListsUnreadable may_fail may_hold image request × (after ≡ before))
-    ⊎ (HasFault fault × HoldsOfList may_hold request image (HasUnknown image) × (after ≡ before))
-    ⊎ ((table : TravelTable) × IsTableOf may_hold image request table × IsCutShort disk table request.out.now fault before after)
+    (HasFault fault × HasNoWindow request × IsBegun before after (refusal_line (OfQuery BadWindow)))
+    ⊎ (HasWindow request × IsReadCutShort may_hold may_fail disk image request fault before after)
 
 -- what was printed of a table if memory ran out: nothing, or its first rows, if it is to be printed itself
 abbrev pub IsSpent : TravelTable → List ℕ → Option (List ℕ) → Option (List ℕ) → Type 0
@@ -185,4 +201,5 @@ IsSpent table out before after = (after ≡ before) ⊎ ((out ≡ codes "-") × 
 -- the same of the table that is asked for, whose times make a window; or nothing
 abbrev pub IsTableSpent : (List ℕ → Option (List ℕ) → Type 0) → ImageValue → MatrixRequest → Option (List ℕ) → Option (List ℕ) → Type 0
 IsTableSpent may_hold image request before after =
-    (after ≡ before) ⊎ ((table : TravelTable) × IsTableOf may_hold image request table × HasWindow table × IsSpent table request.out.now before after)
+    (after ≡ before)
+    ⊎ (HasWindow request × ((table : TravelTable) × IsTableOf may_hold image request table × IsSpent table request.out.now before after))

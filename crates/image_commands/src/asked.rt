@@ -3,6 +3,7 @@
 ghost use Rattle.image_commands.specs.Commands.{IsUnusable, PrintsAsked};
 ghost use Rattle.command_endings.specs.Ending.{IsOutcome};
 
+use crate::line_feeds::warn_of_line_feeds;
 use crate::windows::{DepartureRange, warn_of_window};
 use crate::{departures, info, journey, profile, stops, upgrade, verify};
 use command_endings::status;
@@ -14,7 +15,7 @@ use std::io::Write;
 /// Does what is asked of `image`, which need not be the one at the command's path: prints the result to `output`, or
 /// why there is none, which it explains in `errors`. Returns `ACCEPTED`, `REFUSED`, `INPUT_OUTPUT` if a file or a line
 /// can't be read or written, or `OUT_OF_MEMORY`, with nothing printed to `output`. If `warnings` is set, warns in
-/// `errors` of a window that goes beyond the image's connections.
+/// `errors` of a window that goes beyond the image's connections, and of ids that lines can't show.
 pub fn answer<H: OutDisk + ImageDisk<Image = H::File> + AllocGlobal, O: Watched, E: Write>(
     rt: &H,
     image: &Verified,
@@ -31,6 +32,7 @@ pub fn answer<H: OutDisk + ImageDisk<Image = H::File> + AllocGlobal, O: Watched,
     let status = do_asked(rt, image, asked, output, errors);
     if warnings && status == status::ACCEPTED {
         warn_of_departures(image, asked, errors);
+        warn_of_line_feeds(image, asked, errors);
     }
     status
 }

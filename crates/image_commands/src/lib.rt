@@ -6,6 +6,7 @@ mod asked;
 mod departures;
 mod info;
 mod journey;
+mod line_feeds;
 mod listing;
 pub mod matrix;
 mod matrix_lists;

@@ -1,8 +1,8 @@
 //! `csa matrix IMAGE OUT --to FILE [--from FILE] --after .. --until .. --by .. --criterion NAME [--each] [--workers N]
 //! [--progress] [--no-warnings]`.
 
-ghost use Rattle.std.specs.Prelude.{◌≡◌, ◌≢◌, ◌⊎◌, ℕ, List, Contains, IfErr, IfNone, IfOk, IfSome, OnErr, OnOk};
-ghost use Rattle.std.specs.Prelude.{MatchResult, codes, length, string_bytes};
+ghost use Rattle.std.specs.Prelude.{◌≡◌, ◌≢◌, ◌⊎◌, ℕ, List, Contains, IfErr, IfOk, IfSome, OnErr, OnOk};
+ghost use Rattle.std.specs.Prelude.{MatchBool, MatchResult, codes, string_bytes};
 ghost use Rattle.std.specs.Global.{Vec};
 ghost use Rattle.std.specs.Io.KnownBytes.{Appends};
 ghost use Rattle.command_requests.specs.declared.statuses.TheConstants.{ACCEPTED, COMMAND_LINE, INPUT_OUTPUT};
@@ -11,13 +11,13 @@ ghost use Rattle.image_files.specs.Writing.{IsPut, IsUnwritable};
 ghost use Rattle.image_files.specs.Watching.{HasFault, IsBegun};
 ghost use Rattle.std.specs.IoError.{error_kind};
 ghost use Rattle.std.specs.declared.io.ErrorKind.TheVariants.{OutOfMemory as WasOutOfMemory};
-ghost use Rattle.matrix_rows.specs.Tables.{AreWithin, CanBeMade, HasWindow, IsTable, IsTableBegun};
-ghost use Rattle.command_endings.specs.Ending.{Ends, EndsUndone};
+ghost use Rattle.matrix_rows.specs.Tables.{CanBeMade, IsTable, IsTableBegun};
+ghost use Rattle.command_endings.specs.Ending.{EndsUndone};
 ghost use Rattle.image_commands.specs.Matrices.{AreNoSources, AreOfList, AreSources, EndsTable, EndsWritten};
-ghost use Rattle.image_commands.specs.Matrices.{IsBadWindow, IsCutShort};
-ghost use Rattle.image_commands.specs.Matrices.{IsShownInPart, IsSpent, IsTableCutShort, IsTablePrinted, IsTableSpent};
+ghost use Rattle.image_commands.specs.Matrices.{HasNoWindow, HasWindow, IsCutShort, IsOverRead, IsReadCutShort};
+ghost use Rattle.image_commands.specs.Matrices.{IsSpent, IsTableCutShort, IsTablePrinted, IsTableSpent};
 ghost use Rattle.image_commands.specs.Matrices.{IsTableRefused, IsTableShown, IsTableUnlisted, IsUnasked, IsUnlisted};
-ghost use Rattle.image_commands.specs.Matrices.{counts_of, counts_text};
+ghost use Rattle.image_commands.specs.Matrices.{HasUnknown, HoldsOfList, IsNoList, IsTableOf, counts_of, counts_text};
 ghost use Rattle.image_commands.specs.Refusing.{refusal_line};
 ghost use Rattle.image_commands.specs.declared.refusal.CommandRefusal.TheVariants.{Query};
 ghost use Rattle.timetable.specs.declared.query.QueryFault.TheVariants.{BadWindow};
@@ -29,7 +29,7 @@ use crate::refusal::{CommandRefusal, print_refusal};
 use crate::windows::{DepartureRange, warn_of_window};
 use command_endings::status;
 use command_requests::{MatrixRequest, TableWorkers};
-use feed_messages::explain;
+use feed_messages::{explain, is_file, shown_path};
 use image_files::{ImageDisk, OutDisk, Watched, new_file, settle};
 use image_verifier::Verified;
 use matrix_rows::{TableReports, TravelTable, write_table};
@@ -41,6 +41,7 @@ use std::thread::{Threads, available_parallelism};
 use std::time::Clock;
 use text_pieces::{put_number, put_text};
 use timetable::QueryFault;
+use timetable::limits::TIME_END;
 
 /// What goes to standard error besides explanations.
 #[derive(Clone, Copy, Drop)]
@@ -52,7 +53,7 @@ pub struct TableNotes {
 }
 
 /// Writes the table to the file that is asked for, once it is whole, and then prints how many sets of stops it has; or
-/// writes it to `output`. Nothing is scanned before the lists and the window are judged and the file is made.
+/// writes it to `output`. The window is judged first, then the lists; nothing is scanned before the file is made.
 /// Explanations go to `errors`, and so do progress, if it is asked for or shown on a terminal, and the warning. Returns
 /// `ACCEPTED`; `REFUSED` if a line has what is no stop_id, or if the window is bad, which `output` says; `COMMAND_LINE`
 /// if a list can't be asked for; `INPUT_OUTPUT`; or `OUT_OF_MEMORY`, with nothing printed unless the table itself is.
@@ -80,13 +81,30 @@ pub fn run<
     ensures spent { result ≡ OUT_OF_MEMORY → IsTableSpent (H.may_hold rt.now) image.now request.entry
         (O.contents output.old) (O.contents output.new) }
 {
-    match stops_asked(rt, image, request, errors) {
-        Ok(stops) => {
-            let table = table_of(image, &stops.targets, &stops.sources, request);
-            make_table(rt, &table, request, output, errors, notes)
-        }
-        Err(status) => status,
+    if !has_window(&request) {
+        return refuse_window(rt.alloc(), &request, output, errors);
     }
+    make_table(rt, image, request, output, errors, notes)
+}
+
+// Whether the times make a window: neither the latest departure nor the latest arrival is before the earliest
+// departure, and none is `TIME_END` or later.
+fn has_window(request: &MatrixRequest<'_>) -> bool
+    ensures { MatchBool result (HasWindow request.now) (HasNoWindow request.now) }
+{
+    if request.until < request.after {
+        return false;
+    }
+    if request.by < request.after {
+        return false;
+    }
+    if request.until >= TIME_END {
+        return false;
+    }
+    if request.by >= TIME_END {
+        return false;
+    }
+    true
 }
 
 // The sets of stops of a table.
@@ -114,8 +132,45 @@ fn stops_asked<H: Files + ImageDisk<Image = H::File> + AllocGlobal, E: Write>(
     Ok(AskedStops { targets, sources })
 }
 
-// Writes the table that is asked for, if its window is good.
-fn make_table<H: OutDisk + AllocGlobal + Clock + Threads + Sync, O: Watched, E: Write>(
+// Reads the lists and writes the table that is asked for.
+fn make_table<
+    H: OutDisk + ImageDisk<Image = H::File> + AllocGlobal + Clock + Threads + Sync,
+    O: Watched,
+    E: Write,
+>(
+    rt: &H,
+    image: &Verified,
+    request: MatrixRequest<'_>,
+    output: &mut O,
+    errors: &mut E,
+    notes: TableNotes,
+) -> u8
+    requires { HasWindow request }
+    ensures status { EndsTable result }
+    ensures printed { result ≡ ACCEPTED → (table : TravelTable) × IsTableOf (H.may_hold rt.now) image.now
+        request.entry table × IsTableShown (H.files rt.now) table request.entry.out.now
+        (O.contents output.old) (O.contents output.new) }
+    ensures refused { result ≡ REFUSED → HoldsOfList (H.may_hold rt.now) request.entry image.now (HasUnknown image.now)
+        × (O.contents output.new ≡ O.contents output.old) }
+    ensures unlisted { result ≡ COMMAND_LINE → HoldsOfList (H.may_hold rt.now) request.entry image.now
+        (IsNoList image.now) × (O.contents output.new ≡ O.contents output.old) }
+    ensures cut { result ≡ INPUT_OUTPUT → IsReadCutShort (H.may_hold rt.now) (H.may_fail rt.now) (H.files rt.now)
+        image.now request.entry (O.noted output.new) (O.contents output.old) (O.contents output.new) }
+    ensures spent { result ≡ OUT_OF_MEMORY → (O.contents output.new ≡ O.contents output.old)
+        ⊎ ((table : TravelTable) × IsTableOf (H.may_hold rt.now) image.now request.entry table
+        × IsSpent table request.entry.out.now (O.contents output.old) (O.contents output.new)) }
+{
+    match stops_asked(rt, image, request, errors) {
+        Ok(stops) => {
+            let table = table_of(image, &stops.targets, &stops.sources, request);
+            write_unread(rt, &table, request, output, errors, notes)
+        }
+        Err(status) => status,
+    }
+}
+
+// Writes the table, if its file isn't one that is read.
+fn write_unread<H: OutDisk + AllocGlobal + Clock + Threads + Sync, O: Watched, E: Write>(
     rt: &H,
     table: &TravelTable<'_>,
     request: MatrixRequest<'_>,
@@ -123,27 +178,49 @@ fn make_table<H: OutDisk + AllocGlobal + Clock + Threads + Sync, O: Watched, E: 
     errors: &mut E,
     notes: TableNotes,
 ) -> u8
-    requires targets { AreWithin table.now.image.now table.now.targets.now }
-    requires sources { AreWithin table.now.image.now table.now.sources.now }
-    ensures status { Ends result }
-    ensures shown { result ≡ ACCEPTED → HasWindow table.now
-        × IsTableShown (H.files rt.now) table.now request.entry.out.now (O.contents output.old)
+    requires can { (targets : Vec ℕ) → Contains table.now.targets.now targets
+        → CanBeMade table.now targets.items }
+    ensures status { EndsWritten result }
+    ensures shown { result ≡ ACCEPTED
+        → IsTableShown (H.files rt.now) table.now request.entry.out.now (O.contents output.old)
         (O.contents output.new) }
-    ensures refused { result ≡ REFUSED → IsBadWindow table.now.after table.now.until table.now.by
+    ensures cut { result ≡ INPUT_OUTPUT → IsCutShort (H.files rt.now) request.entry table.now (O.noted output.new)
         (O.contents output.old) (O.contents output.new) }
-    ensures cut { result ≡ INPUT_OUTPUT → IsCutShort (H.files rt.now) table.now request.entry.out.now
-        (O.noted output.new) (O.contents output.old) (O.contents output.new) }
-    ensures spent { result ≡ OUT_OF_MEMORY → (O.contents output.new ≡ O.contents output.old)
-        ⊎ (HasWindow table.now × IsSpent table.now request.entry.out.now (O.contents output.old)
-        (O.contents output.new)) }
+    ensures spent { result ≡ OUT_OF_MEMORY → IsSpent table.now request.entry.out.now (O.contents output.old)
+        (O.contents output.new) }
 {
-    if !table.has_window() {
-        return refuse_window(rt.alloc(), table, output, errors);
+    if let Some(reason) = read_at_out(rt, request) {
+        explain_over(errors, request.out, reason);
+        return status::INPUT_OUTPUT;
     }
     if notes.warnings {
         warn_of_table(table, errors);
     }
     write_asked(rt, table, request, output, errors, notes.is_terminal)
+}
+
+fn explain_over<'a, E: Write>(errors: &mut E, path: &'a str, reason: &'a str) {
+    let path = shown_path(path);
+    explain(errors, &["csa: ", path, " can't be written: ", reason]);
+}
+
+// Why the table isn't written, if what is at its path is a file that is read.
+fn read_at_out<H: OutDisk>(rt: &H, request: MatrixRequest<'_>) -> Option<&'static str>
+    ensures { IfSome result (λ _. (request.entry.out.now ≢ codes "-") × IsOverRead (H.files rt.now) request.entry) }
+{
+    if request.out == "-" || !is_file(rt, request.out) {
+        return None;
+    }
+    if request.image != "-" && rt.is_one(request.image, request.out) {
+        return Some("it is the image");
+    }
+    if rt.is_one(request.to, request.out) {
+        return Some("it is the list of --to");
+    }
+    match request.from {
+        Some(from) if rt.is_one(from, request.out) => Some("it is the list of --from"),
+        _ => None,
+    }
 }
 
 fn warn_of_table<E: Write>(table: &TravelTable<'_>, errors: &mut E) {
@@ -224,7 +301,7 @@ fn sources_asked<H: Files + ImageDisk<Image = H::File> + AllocGlobal, E: Write>(
 // Prints the refusal of a window, and says what is wrong.
 fn refuse_window<O: Watched, E: Write>(
     alloc: Global,
-    table: &TravelTable<'_>,
+    request: &MatrixRequest<'_>,
     output: &mut O,
     errors: &mut E,
 ) -> u8
@@ -239,7 +316,7 @@ fn refuse_window<O: Watched, E: Write>(
     let refusal = CommandRefusal::Query(QueryFault::BadWindow);
     let status = print_refusal(alloc, output, refusal);
     if status == status::REFUSED {
-        let reason = window_reason(table.after, table.until, table.by);
+        let reason = window_reason(request.after, request.until, request.by);
         explain(errors, &["csa: ", reason]);
     }
     status
@@ -260,11 +337,8 @@ fn write_asked<H: OutDisk + AllocGlobal + Clock + Threads + Sync, O: Watched, E:
     ensures shown { result ≡ ACCEPTED
         → IsTableShown (H.files rt.now) table.now request.entry.out.now (O.contents output.old)
         (O.contents output.new) }
-    ensures cut { result ≡ INPUT_OUTPUT
-        → ((request.entry.out.now ≢ codes "-") × IsUnwritable (H.files rt.now) request.entry.out.now
-        × (O.contents output.new ≡ O.contents output.old))
-        ⊎ (HasFault (O.noted output.new)
-        × IsShownInPart table.now request.entry.out.now (O.contents output.old) (O.contents output.new)) }
+    ensures cut { result ≡ INPUT_OUTPUT → IsCutShort (H.files rt.now) request.entry table.now (O.noted output.new)
+        (O.contents output.old) (O.contents output.new) }
     ensures spent { result ≡ OUT_OF_MEMORY → IsSpent table.now request.entry.out.now (O.contents output.old)
         (O.contents output.new) }
 {

@@ -6,7 +6,7 @@ ghost use Rattle.std.specs.Io.KnownBytes.{Appends};
 ghost use Rattle.profile_scan.specs.SetQuery.{IsAskableBetween, question};
 ghost use Rattle.command_requests.specs.declared.statuses.TheConstants.{INPUT_OUTPUT, OUT_OF_MEMORY, REFUSED};
 ghost use Rattle.image_commands.specs.Answering.{IsPicturePut, IsPictureUnwritable, IsProfile, IsShown, IsShownBy};
-ghost use Rattle.image_commands.specs.Answering.{IsOverImage, IsPictureUnwritten, LacksPicture};
+ghost use Rattle.image_commands.specs.Answering.{IsOverFile, IsPictureUnwritten, LacksPicture};
 ghost use Rattle.image_files.specs.Watching.{HasFault, IsBegun};
 ghost use Rattle.image_commands.specs.Commands.{PrintsProfile};
 ghost use Rattle.command_endings.specs.Ending.{EndsUndone, IsOutcome, PrintsOnly};
@@ -96,7 +96,7 @@ fn print_profile<H: OutDisk + AllocGlobal, O: Watched, E: Write>(
 
 /// Whether the path of a picture, if one is asked for, leads to the file of the image.
 fn is_over_image<H: OutDisk>(rt: &H, path: Option<&str>, image: &str) -> bool
-    ensures { result ≡ true → IsOverImage (H.files rt.now) image.now path.entry }
+    ensures { result ≡ true → IsOverFile (H.files rt.now) image.now path.entry }
 {
     match path {
         Some(path) => image != "-" && rt.is_one(path, image),

@@ -8,7 +8,6 @@ use Rattle.criteria.specs.Laws.{Rules}
 use Rattle.criteria.specs.declared.figures.Figures.{Figures}
 use Rattle.bags.specs.declared.point.Point.{Point}
 use Rattle.timetable.specs.TimetableValue.{TimetableValue}
-use Rattle.timetable.specs.declared.limits.TheConstants.{TIME_END}
 use Rattle.timetable.specs.declared.network.Footpath.{Footpath}
 use Rattle.timetable.specs.NamesValue.{NamesValue}
 use Rattle.image_files.specs.Watching.{IsBegun}
@@ -173,12 +172,6 @@ pub record IsTableBegun (table : TravelTable) (before after : Option (List ℕ))
   pub targets : first ++ others ≡ table.targets.now
   pub are : AreRowsOf table first rows
   pub begun : IsBegun before after (row_text default_writer (names_of table.each) ++ rows)
-
--- the times of a table make a window
-pub record HasWindow (table : TravelTable) : Type 0 where
-  pub window : table.after ≤ table.until
-  pub in_time : table.after ≤ table.by
-  pub small : (table.after < TIME_END) × (table.until < TIME_END) × (table.by < TIME_END)
 
 -- each stop of each set is a stop of the image
 abbrev pub AreWithin : ImageValue → List (Vec ℕ) → Type 0

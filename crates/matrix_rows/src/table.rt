@@ -4,7 +4,6 @@ use criteria::CriterionName;
 use image_verifier::Verified;
 use profile_scan::Destinations;
 use std::alloc::{AllocError, Global};
-use timetable::limits::TIME_END;
 
 /// The image, the sets of stops where journeys end, and those where they begin; when, in seconds after the image's
 /// base; the criterion; and what has a row.
@@ -25,30 +24,9 @@ pub struct TravelTable<'a> {
 }
 
 impl TravelTable<'_> {
-    ghost use Rattle.std.specs.Prelude.{◌≡◌, [], IfOk, MatchBool};
+    ghost use Rattle.std.specs.Prelude.{◌≡◌, IfOk};
     ghost use Rattle.profile_scan.specs.Destinations.{question_to_any};
-    ghost use Rattle.matrix_rows.specs.Tables.{HasWindow, destination, waiting};
-    ghost use Rattle.station_answers.specs.Asking.{HasBadTimes};
-
-    /// Whether the times make a window: neither the latest departure nor the latest arrival is before the earliest
-    /// departure, and none is `TIME_END` or later.
-    pub fn has_window(&self) -> bool
-        ensures { MatchBool result (HasWindow self.now) (HasBadTimes (destination self.now [])) }
-    {
-        if self.until < self.after {
-            return false;
-        }
-        if self.by < self.after {
-            return false;
-        }
-        if self.until >= TIME_END {
-            return false;
-        }
-        if self.by >= TIME_END {
-            return false;
-        }
-        true
-    }
+    ghost use Rattle.matrix_rows.specs.Tables.{destination, waiting};
 
     /// What is asked of every stop for a set of targets. The only error is that memory runs out.
     pub fn destination(&self, alloc: Global, targets: &[u32]) -> Result<Destinations, AllocError>

@@ -122,8 +122,27 @@ has 5\",D
 run build base_feed days.csa --first 20240115 --days 1 --zone fixed:0 --no-warnings
 answers stops 4 runs 2 connections 3 footpaths 4 lifted 0 flex 0 frequencies 0 skipped 0
 run stops days.csa D
+tells csa: warning: an id of the image has a line feed, so a part of it looks like a line of its own: \
+--json shows it whole
 prints 3 D \"4
 answers 5
+run profile days.csa --from A --to C --after 08:00:00 --until 08:12:00 --by 10:00:00 --criterion arrival --names
+tells csa: warning: an id of the image has a line feed, so a part of it looks like a line of its own: \
+--json shows it whole
+prints dep 08:00:00 arr 08:20:00 : ride T1 08:00:00 A 08:10:00 B walk B B 0 ride T2 08:12:00 B 08:20:00 C
+answers points 1 read 3 walk none
+asks profile days.csa --from A --to C --after 08:00:00 --until 08:12:00 --by 10:00:00 --criterion arrival --names
+prints dep 08:00:00 arr 08:20:00 : ride T1 08:00:00 A 08:10:00 B walk B B 0 ride T2 08:12:00 B 08:20:00 C
+answers points 1 read 3 walk none
+run profile days.csa --from A --to C --after 08:00:00 --until 08:12:00 --by 10:00:00 --criterion arrival
+prints dep 08:00:00 arr 08:20:00 : ride 0 0 walk 1 1 0 ride 2 2
+answers points 1 read 3 walk none
+run departures days.csa --to C --after 08:00:00 --until 08:12:00 --by 10:00:00 --criterion arrival --no-journeys
+tells csa: warning: an id of the image has a line feed, so a part of it looks like a line of its own: \
+--json shows it whole
+prints A dep 08:00:00 arr 08:20:00
+prints B dep 08:12:00 arr 08:20:00
+answers stops 2 points 2 read 3
 run stops days.csa D --json
 answers [{\"id\":\"D \\\"4\\n5\",\"number\":3}]
 remove days.csa

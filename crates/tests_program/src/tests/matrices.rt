@@ -153,6 +153,33 @@ tells csa: warning: the window from 06:00:00 to 07:00:00 is outside the image's 
 answers targets 1 sources 3
 ";
 
+const OVER: &str = "
+# A table isn't written over a file that is read, whichever path leads there.
+sample
+saves city.csa
+link linked.csa city.csa
+rows targets C
+rows sources A
+asks matrix city.csa city.csa --to targets --after 08:00:00 --until 08:12:00 --by 10:00:00 --criterion arrival
+tells csa: city.csa can't be written: it is the image
+ends 3
+asks matrix ./city.csa linked.csa --to targets --after 08:00:00 --until 08:12:00 --by 10:00:00 --criterion arrival
+tells csa: linked.csa can't be written: it is the image
+ends 3
+holds city.csa
+asks matrix - targets --to ./targets --after 08:00:00 --until 08:12:00 --by 10:00:00 --criterion arrival
+tells csa: targets can't be written: it is the list of --to
+ends 3
+asks matrix - sources --to targets --from sources --after 08:00:00 --until 08:12:00 --by 10:00:00 --criterion arrival
+tells csa: sources can't be written: it is the list of --from
+ends 3
+asks matrix - - --to targets --from sources --after 08:00:00 --until 08:12:00 --by 10:00:00 --criterion arrival
+prints from,to,points,first_departure,last_departure,least_seconds,mean_seconds,walk
+answers A,C,1,08:00:00,08:00:00,1200,,
+remove linked.csa
+remove city.csa
+";
+
 const FAULTS: &str = "
 # What can't be asked for is refused before anything is written: an older table stays.
 sample
@@ -207,6 +234,15 @@ ends 64
 asks matrix - no.csv --to targets --after 08:00:00 --until 07:59:59 --by 10:00:00 --criterion arrival
 tells csa: --until is before --after
 answers refused 33 BadWindow
+
+# The window is judged before the lists.
+asks matrix - no.csv --to nowhere --after 08:00:00 --until 07:59:59 --by 10:00:00 --criterion arrival
+tells csa: --until is before --after
+answers refused 33 BadWindow
+rows sources X
+asks matrix - no.csv --to targets --from sources --after 08:00:00 --until 08:12:00 --by 07:59:59 --criterion arrival
+tells csa: --by is before --after
+answers refused 33 BadWindow
 asks matrix - nowhere/no.csv --to targets --after 08:00:00 --until 08:12:00 --by 10:00:00 --criterion arrival
 tells csa: nowhere/no.csv can't be written: no such file or folder
 ends 3
@@ -227,7 +263,7 @@ lacks no.csv.part
 
 #[test]
 fn a_table_has_a_row_for_each_pair(rt: HostRuntime) -> Result<(), Fail> {
-    try_transcripts(&rt, &[PAIRS, EACH, SETS, FAULTS])?;
+    try_transcripts(&rt, &[PAIRS, EACH, SETS, OVER, FAULTS])?;
     let table = fs::read_to_string(&rt, "no.csv")?;
     assert!(rt; table.as_str() == "old\n");
     fs::remove_file(&rt, "no.csv")?;

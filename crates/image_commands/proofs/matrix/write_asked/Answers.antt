@@ -25,4 +25,7 @@ pub returns-in-Err-clause-cut : goal.returns-in-Err-clause-cut
 returns-in-Err-clause-cut g c = λ is.
     let other : c.args.request.out.now ≢ codes "-" = search rules in
     let done = c.report_unwritten.ensures in
-    inl (other, c.in-Err.ensures.unwritten other (λ none. let out = done.memory (c.kind.ensures ∙ none) in omega (arith, is, out)), c.in-Err.ensures.kept other)
+    inl (
+      (other, inr (c.in-Err.ensures.unwritten other (λ none. let out = done.memory (c.kind.ensures ∙ none) in omega (arith, is, out)))),
+      c.in-Err.ensures.kept other,
+    )

@@ -1,6 +1,6 @@
 -- The picture is in its file before the text is printed.
 use Rattle.std.proofs.Common.{◌≡◌, List, ℕ, inl, inr, refl, rules, string_bytes}
-use Rattle.image_commands.specs.Answering.{IsOverImage, IsPicturePut}
+use Rattle.image_commands.specs.Answering.{IsOverFile, IsPicturePut}
 use Rattle.command_endings.proofs.Outcomes.{outcome_of, unusable, written}
 use Rattle.image_commands.proofs.profile.print_profile.Goals as goal
 
@@ -22,5 +22,5 @@ returns-in-Err g c =
 pub returns-then-is_over_image : goal.returns-then-is_over_image
 returns-then-is_over_image g c =
     let request = c.args.request.now in
-    let over : IsOverImage (g.H.OutDisk.files c.args.rt.now) request.image.now request.picture = search rules in
+    let over : IsOverFile (g.H.OutDisk.files c.args.rt.now) request.image.now request.picture = search rules in
     inr (inr (inl (refl, inr over), refl))
