@@ -23,8 +23,8 @@ abbrev pub HasTurn : ReplyForm → ℕ → List ℕ → ReplyValue → SeatValue
 HasTurn form number line reply a asked b asked_then =
     (t : Exchange) × (t.line ≡ line) × (t.reply ≡ reply) × ExchangeLeadsTo form number (seat_state a asked) t (seat_state b asked_then)
 
--- a line, what was done for it, and how the seat and the orders stand then
-abbrev exchange_of : List ℕ → Deed → SeatState → Exchange
+-- a line, what was done for it, and what the seat shows then
+abbrev exchange_of : List ℕ → Deed → SeatValue → Exchange
 exchange_of line d shown = record { line = line; moves = d.moves; orders = d.orders; reply = d.reply; shown = shown }
 
 -- the whole line is there
@@ -43,16 +43,15 @@ pub waits_as : (sets : Bool) (line feed : List ℕ) (waits known : Bool) → wai
 waits_as sets line feed waits known is asked = subst (λ (w : Bool). IsLineMeaning sets line (asks (load feed w))) is asked
 
 module _ {form : ReplyForm} {number : ℕ} {a : SeatValue} {asked : List OrderValue} {line : List ℕ} where
-  has_exchange : (b : SeatValue) (asked_then : List OrderValue) (d : Deed) → IsExchange form a.held (exchange_of line d (seat_state b asked_then))
-      → Follows number a d.moves b → asked_then ≡ asked ++ d.orders → HasTurn form number line d.reply a asked b asked_then
+  has_exchange : (b : SeatValue) (asked_then : List OrderValue) (d : Deed) → IsExchange form a.held (exchange_of line d b) → Follows number a d.moves b
+      → asked_then ≡ asked ++ d.orders → HasTurn form number line d.reply a asked b asked_then
   has_exchange b asked_then d is seat orders =
-      let leads : ExchangeLeadsTo form number (seat_state a asked) (exchange_of line d (seat_state b asked_then)) (seat_state b asked_then) =
+      let leads : ExchangeLeadsTo form number (seat_state a asked) (exchange_of line d b) (seat_state b asked_then) =
       record { is = is; seat = seat; shown = refl; orders = orders } in
-      (exchange_of line d (seat_state b asked_then), refl, refl, leads)
+      (exchange_of line d b, refl, refl, leads)
 
   -- nothing was done
-  idle_exchange : (reply : ReplyValue) → IsExchange form a.held (exchange_of line (deed_of [] [] reply) (seat_state a asked))
-      → HasTurn form number line reply a asked a asked
+  idle_exchange : (reply : ReplyValue) → IsExchange form a.held (exchange_of line (deed_of [] [] reply) a) → HasTurn form number line reply a asked a asked
   idle_exchange reply is = has_exchange a asked (deed_of [] [] reply) is refl (sym (append-nil asked))
 
   pub memory_exchange : (reply : ReplyValue) → reply ≡ plain memory_line → HasTurn form number line reply a asked a asked

@@ -14,7 +14,7 @@ use Rattle.shelves.proofs.GrowthLemmas.{grows_same, learns_both, learns_nothing,
 use Rattle.session_texts.specs.Requests.{AskValue}
 use Rattle.session.specs.declared.reply_form.ReplyForm.{ReplyForm}
 use Rattle.session.specs.Lines.{LineMeaning}
-use Rattle.session.specs.SeatSteps.{AnswerStep, Follows, SeatMove, called, noticed, answers_in}
+use Rattle.session.specs.SeatSteps.{AnswerStep, Follows, SeatMove, answered, joined, answers_in}
 use Rattle.session.specs.Sessions.{AreExchanges, LastRelease, moves_of}
 use Rattle.session.specs.Exchanges.{Exchange, IsExchange, Meets, ProfileIsMet, SeatState, deed_of, seat_state}
 use Rattle.session.specs.Learning.{AreFromPublished, GoesOn, IsFromPublished, IsPublishedIfHeld, Learns, LearningTells, ReportsPublished}
@@ -98,10 +98,10 @@ goes_once words shelves a m b back number grows known pins fits number_then more
 held_published : (number : ℕ) (k : KnownHistory) (a b : SeatValue) (moves : List SeatMove) → Follows number a moves b → IsPublishedIfHeld k a.held
     → All (PinIsPublished k) (answers_in moves) → IsPublishedIfHeld k b.held
 held_published number k a b [] same held are = subst (λ (s : SeatValue). IsPublishedIfHeld k s.held) (sym same) held
-held_published number k a b (called answer ∷ moves) (m, step, rest) held are =
+held_published number k a b (answered answer ∷ moves) (m, step, rest) held are =
     held_published number k m b moves rest ((steps number a m answer step).held k held (All-head (PinIsPublished k) answer (answers_in moves) are))
     (All-tail (PinIsPublished k) answer (answers_in moves) are)
-held_published number k a b (noticed version ∷ moves) (m, step, rest) held are =
+held_published number k a b (joined version ∷ moves) (m, step, rest) held are =
     held_published number k m b moves rest (subst (λ (s : SeatValue). IsPublishedIfHeld k s.held) (sym step) held) are
 
 -- a profile is answered from what was published
@@ -117,9 +117,9 @@ profile_from k form None ask moves reply (inr refused) held are = inr (refused.f
 exchange_from : (k : KnownHistory) (form : ReplyForm) (held : Option (ℕ × ImageValue)) (t : Exchange) → IsExchange form held t → IsPublishedIfHeld k held
     → All (PinIsPublished k) (answers_in t.moves) → ReportsPublished k form t
 exchange_from k form held t (inl memory) published are = inl (ap (λ (r : ReplyValue). r.text) memory.0)
-exchange_from k form held t (inr (meaning, is, inl memory)) published are = inl (ap (λ (r : ReplyValue). r.text) memory.0)
-exchange_from k form held t (inr (meaning, is, inr met)) published are = inr (
-  meaning,
+exchange_from k form held t (inr (asked, is, inl memory)) published are = inl (ap (λ (r : ReplyValue). r.text) memory.0)
+exchange_from k form held t (inr (asked, is, inr met)) published are = inr (
+  asked,
   is,
   λ ask same.
       let profile_met = subst (λ (m : LineMeaning). Meets form held m (deed_of t.moves t.orders t.reply)) same met in
@@ -128,8 +128,8 @@ exchange_from k form held t (inr (meaning, is, inr met)) published are = inr (
 
 answers_in-append : (xs ys : List SeatMove) → answers_in (xs ++ ys) ≡ answers_in xs ++ answers_in ys
 answers_in-append [] ys = refl
-answers_in-append (called answer ∷ xs) ys = ap (λ (zs : List SeatAnswer). answer ∷ zs) (answers_in-append xs ys)
-answers_in-append (noticed version ∷ xs) ys = answers_in-append xs ys
+answers_in-append (answered answer ∷ xs) ys = ap (λ (zs : List SeatAnswer). answer ∷ zs) (answers_in-append xs ys)
+answers_in-append (joined version ∷ xs) ys = answers_in-append xs ys
 
 exchanges_from : (k : KnownHistory) (form : ReplyForm) (number : ℕ) (a b : SeatState) (exchanges : List Exchange)
     → AreExchanges form number a exchanges b → IsPublishedIfHeld k a.seat.held → All (PinIsPublished k) (answers_in (moves_of exchanges))

@@ -18,11 +18,11 @@ use Rattle.lines.proofs.StreamLemmas.{failed_consumes, fails_at_line, fails_behi
 use Rattle.session.specs.declared.fault.Ended.{Ended}
 use Rattle.session.specs.declared.fault.SessionFault.{SessionFault}
 use Rattle.shelves.specs.Seats.{SeatValue}
-use Rattle.orders.specs.Ordering.{OrderValue}
+use Rattle.session.specs.SeatSteps.{SeatReply, seat_reply}
 use Rattle.session.specs.Replies.{ReplyValue}
-use Rattle.session.specs.Sessions.{AnswerLines, AreReadFor, AreShort, AreExchanges, EndsSo, IsCutShort, SeatNote, ServeWords, Serves, SessionState}
+use Rattle.session.specs.Sessions.{AnswerLines, AreReadFor, AreShort, AreExchanges, EndsSo, IsCutShort, ServeWords, Serves, SessionState}
 use Rattle.session.specs.Sessions.{answered_by, lines_in, replies_in, replies_of, session_record_of, text_of}
-use Rattle.session.specs.Exchanges.{SeatState, Exchange, ExchangeLeadsTo, SeatReply, seat_reply, seat_state}
+use Rattle.session.specs.Exchanges.{SeatState, Exchange, ExchangeLeadsTo}
 use Rattle.session.proofs.ExchangeLemmas.{AreExchanges-more}
 
 -- what is to be read, and what was written, if that is known
@@ -62,21 +62,18 @@ module _ {R W S : Type 0} (words : ServeWords R W) where
 abbrev pub read_on : {R W S : Type 0} → SessionState R W S → Counted R (Unit {0}) → SessionState R W S
 read_on b reader = record b { reader = reader }
 
-abbrev pub answered_on : {R W S : Type 0} → SessionState R W S → Counted W (SeatNote S) → List SeatReply → SeatState → SessionState R W S
+abbrev pub answered_on : {R W S : Type 0} → SessionState R W S → Counted W S → List SeatReply → SeatState → SessionState R W S
 answered_on b writer replied at_seat = record b { writer = writer; replied = replied; at_seat = at_seat }
 
 -- the reply of an exchange is one more at the writer
-pub replied_more : {W S : Type 0} (shown : S → SeatValue) (before after : Counted W (SeatNote S)) (note : SeatNote S) (seat : S) (orders : List OrderValue)
-    (text read : List ℕ) (t : Exchange)
-    → notes_of after ≡ notes_of before ++ (note, (text, read)) ∷ [] → note.value ≡ (seat, orders) → t.shown ≡ seat_state (shown seat) orders
-    → t.reply ≡ written_line text read → replies_of shown after ≡ replies_of shown before ++ seat_reply t.shown t.reply ∷ []
-replied_more {W} {S} shown before after note seat orders text read t is noted shown_is reply_is =
-    let beside : S × List OrderValue → SeatState = λ at. seat_state (shown at.0) at.1 in
-    let reply : SeatNote S × (List ℕ × List ℕ) → SeatReply = λ note. seat_reply (beside note.0.value) (written_line note.1.0 note.1.1) in
-    let same : seat_reply (beside note.value) (written_line text read) ≡ seat_reply t.shown t.reply =
-    ap (λ (x : SeatState). seat_reply x (written_line text read)) (ap beside noted ∙ sym shown_is)
-    ∙ ap (λ (r : ReplyValue). seat_reply t.shown r) (sym reply_is) in
-    ap (λ (notes : List (SeatNote S × (List ℕ × List ℕ))). map reply notes) is ∙ map-append reply (notes_of before) ((note, (text, read)) ∷ [])
+pub replied_more : {W S : Type 0} (shown : S → SeatValue) (before after : Counted W S) (seat : S) (text read : List ℕ) (t : Exchange)
+    → notes_of after ≡ notes_of before ++ (seat, (text, read)) ∷ [] → t.shown ≡ shown seat → t.reply ≡ written_line text read
+    → replies_of shown after ≡ replies_of shown before ++ seat_reply t.shown t.reply ∷ []
+replied_more {W} {S} shown before after seat text read t is shown_is reply_is =
+    let reply : S × (List ℕ × List ℕ) → SeatReply = λ note. seat_reply (shown note.0) (written_line note.1.0 note.1.1) in
+    let same : seat_reply (shown seat) (written_line text read) ≡ seat_reply t.shown t.reply =
+    ap (λ (x : SeatValue). seat_reply x (written_line text read)) (sym shown_is) ∙ ap (λ (r : ReplyValue). seat_reply t.shown r) (sym reply_is) in
+    ap (λ (notes : List (S × (List ℕ × List ℕ))). map reply notes) is ∙ map-append reply (notes_of before) ((seat, (text, read)) ∷ [])
     ∙ ap (λ (r : SeatReply). map reply (notes_of before) ++ r ∷ []) same
 
 module _ {R W S : Type 0} {words : ServeWords R W} {number : ℕ} where
@@ -233,7 +230,7 @@ module _ {R W S : Type 0} {words : ServeWords R W} {number count : ℕ} {a b : S
       (reads_consume words.reads a.reader.inner reader.inner all (all_read reads).1)
       (all_read reads, written, so_far.many ∙ million, long, first, refl)
 
-  module _ {t : Exchange} {part : List ℕ} {writer : Counted W (SeatNote S)} {replied : List SeatReply} {at_seat : SeatState}
+  module _ {t : Exchange} {part : List ℕ} {writer : Counted W S} {replied : List SeatReply} {at_seat : SeatState}
       (one : IsAnswered words number now t part (answered_on now writer replied at_seat))
       (reads : HasRead words.reads b.reader more reader) where
     abbrev exchanges : List Exchange
@@ -308,7 +305,7 @@ module _ {R W S : Type 0} {words : ServeWords R W} {number count : ℕ} {a b : S
     cut_short n line part_is few line_is short lines failed =
         let part_written = ap (λ (xs : List ℕ). text_of so_far.exchanges ++ xs) part_is in
         let cut : IsCutShort (text_of so_far.exchanges ++ part) exchanges =
-        record { whole = so_far.exchanges; last = t; count = n; exchanges_are = refl; written_is = part_written } in
+        record { answered = so_far.exchanges; last = t; count = n; exchanges_are = refl; written_is = part_written } in
         let behind : count ≡ length exchanges - 1 = omega (arith, many) in
         let fails = subst (λ (m : ℕ). HasFailedBehind words.writes m a.writer writer) behind
         (fails_at_line words.writes count a.writer b.writer writer so_far.calls failed) in

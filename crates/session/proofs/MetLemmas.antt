@@ -9,16 +9,16 @@ use Rattle.session_texts.specs.Requests.{AskValue, pin, profile}
 use Rattle.session.specs.declared.reply_form.ReplyForm.{ReplyForm}
 use Rattle.session.specs.Lines.{LineMeaning, asks, memory_line, pin_fault_line}
 use Rattle.session.specs.Profiles.{RepliesToProfile}
-use Rattle.session.specs.SeatSteps.{AnswerStep, called}
+use Rattle.session.specs.SeatSteps.{AnswerStep, answered}
 use Rattle.session.specs.Exchanges.{IsMet, Meets, PinIsRefused, ProfileIsMet, ProfileIsMetOnce, deed_of, replied_to}
 use Rattle.session.specs.Replies.{ReplyValue, plain}
 use Rattle.session.proofs.SeatLemmas.{IsOnce, IsPinned}
 
 module _ {form : ReplyForm} {number : ℕ} {a b : SeatValue} {reply : ReplyValue} where
   -- one call at the seat meets what was asked
-  pub answer_met : (meaning : LineMeaning) (answer : SeatAnswer) → AnswerStep number a answer b
-      → Meets form a.held meaning (deed_of (called answer ∷ []) [] reply) → IsMet form number a (replied_to meaning reply) b
-  answer_met meaning answer step met = record { moves = called answer ∷ []; meets = inr met; seat = (b, step, refl) }
+  pub answer_met : (asked : LineMeaning) (answer : SeatAnswer) → AnswerStep number a answer b
+      → Meets form a.held asked (deed_of (answered answer ∷ []) [] reply) → IsMet form number a (replied_to asked reply) b
+  answer_met asked answer step met = record { moves = answered answer ∷ []; meets = inr met; seat = (b, step, refl) }
 
   -- a pin is reported, with the version and the image that are lent
   pub pin_met : (version : ℕ) (image : ImageValue) (p : IsPinned number a b) → b.held ≡ Some (version, image)
@@ -38,7 +38,7 @@ module _ {form : ReplyForm} {number : ℕ} {a b : SeatValue} {reply : ReplyValue
   pub profile_refused : (fault : PinFault) (ask : AskValue) → a.held ≡ None → KnowsItsSeats fault → ShowsPin a (Err fault) b
       → reply ≡ plain (pin_fault_line fault) → IsMet form number a (replied_to (asks (profile ask)) reply) b
   profile_refused fault ask empty known step fact =
-      let moves = called (SeatAnswer.PinRefused fault) ∷ [] in
+      let moves = answered (SeatAnswer.PinRefused fault) ∷ [] in
       let refused : PinIsRefused moves reply = record { fault = fault; moves_are = refl; reply_is = fact } in
       answer_met (asks (profile ask)) (SeatAnswer.PinRefused fault) (known, step)
       (refl, subst (λ (h : Option (ℕ × ImageValue)). ProfileIsMet form h ask moves reply) (sym empty) (inr refused))

@@ -34,7 +34,7 @@ only R x (y ∷ z ∷ zs) zip = absurd zip.1
 -- a question between single names is one between single stops
 record IsOne (names : NamesValue) (from to : List ℕ) (window : Window) (b : SetQueryValue) : Type 0 where
   query : Query
-  query_is : Asks names from to window query
+  asked : Asks names from to window query
   is : b ≡ single_set_query query
 
 one_question : (names : NamesValue) (from to : List ℕ) (froms tos : List (List ℕ)) (window : Window) (b : SetQueryValue) → froms ≡ from ∷ []
@@ -47,7 +47,7 @@ one_question names from to froms tos window b from_is to_is asks =
     let q : Query = record { source = s.0; target = t.0; from = b.from; until = b.until; by = b.by } in
     record {
       query = q;
-      query_is = record { source = s.2; target = t.2; times = asks.times };
+      asked = record { source = s.2; target = t.2; times = asks.times };
       is = ap (λ (xs : List ℕ). with_sides xs b.targets) s.1 ∙ ap (λ (ys : List ℕ). with_sides (s.0 ∷ []) ys) t.1;
     }
 
@@ -77,7 +77,7 @@ module _ (form : ReplyForm) (image : ImageValue) (version : ℕ) (one : OneAsk) 
   first_asked fault b asks first =
       let o = asks_of_one b asks in
       let first_then = subst (λ (x : SetQueryValue). IsFirstFault image.timetable.stops x fault) o.is first in
-      (o.query, o.query_is, first_of_one image.timetable.stops o.query fault first_then)
+      (o.query, o.asked, first_of_one image.timetable.stops o.query fault first_then)
 
   refused_one : (fault : QueryFault) → IsFaultBetween image one.ask.from one.ask.to (window_of one.ask) fault
       → IsRefused image one.from one.to (window_of one.ask) fault
@@ -92,18 +92,18 @@ module _ (form : ReplyForm) (image : ImageValue) (version : ℕ) (one : OneAsk) 
 
   too_long_of_one : IsTooLong form image one.ask reply → IsTooLongOne form image one reply
   too_long_of_one long =
-      let o = asks_of_one long.query long.query_is in
+      let o = asks_of_one long.query long.asked in
       let can_be = askable_one long.query o.query o.is long.can_be in
-      record { query = o.query; can_be = can_be; query_is = o.query_is; longer = long.longer; reply_is = long.reply_is }
+      record { query = o.query; can_be = can_be; asked = o.asked; longer = long.longer; reply_is = long.reply_is }
 
   answers_of_one : OneIsAnswered → AnswersQuery form image version one.ask reply → AnswersOne form image version one reply
   answers_of_one law answers =
-      let o = asks_of_one answers.query answers.query_is in
+      let o = asks_of_one answers.query answers.asked in
       let can_be = askable_one answers.query o.query o.is answers.can_be in
       let subject = subject_of form.points image version in
       let by = subst (λ (x : SetQueryValue). IsAnsweredBy one.ask.criterion subject x reply.text) o.is answers.answered in
       let answered = law one.ask.criterion subject o.query reply.text by in
-      record { query = o.query; can_be = can_be; query_is = o.query_is; short = answers.short; answered = answered }
+      record { query = o.query; can_be = can_be; asked = o.asked; short = answers.short; answered = answered }
 
   pub tells_of_one : OneIsAnswered → TellsOfOne form image version one reply
   tells_of_one law = record {

@@ -9,7 +9,7 @@ use Rattle.shelves.specs.declared.faults.PinFault.{PinFault}
 use Rattle.shelves.specs.SeatHistory.{HoldsAsKnown}
 use Rattle.shelves.specs.Seats.{SeatValue, KnowsItsSeats, ShowsPin, ShowsRelease}
 use Rattle.session.specs.Learning.{IsPublishedIfHeld, PinIsPublished}
-use Rattle.session.specs.SeatSteps.{AnswerStep, Follows, NeverFalls, PinsOnce, SeatMove, called, noticed, answers_in}
+use Rattle.session.specs.SeatSteps.{AnswerStep, Follows, NeverFalls, PinsOnce, SeatMove, answered, joined, answers_in}
 
 -- a pin that was Ok, as an answer
 pub record IsPinned (number : ℕ) (a m : SeatValue) : Type 0 where
@@ -46,7 +46,7 @@ pub is_once : (number : ℕ) (a m b : SeatValue) (r : Result (Unit {0}) PinFault
     → IsOnce number a m b
 is_once number a m b r pin back known = record {
   pin = pin;
-  moves = called (SeatAnswer.Pinned pin.version pin.shown) ∷ called SeatAnswer.Released ∷ [];
+  moves = answered (SeatAnswer.Pinned pin.version pin.shown) ∷ answered SeatAnswer.Released ∷ [];
   once = record { shown = pin.shown; image_is = refl; moves_are = refl };
   seat = (m, pin.step, (b, is_released m b r (some_is_held m (pin.version, pin.shown.value) pin.held) back known, refl));
 }
@@ -82,20 +82,20 @@ steps number a b (SeatAnswer.ReleaseRefused fault) step = release_refused a b fa
 
 pub answers_grow : (number : ℕ) (a b : SeatValue) (moves : List SeatMove) → Follows number a moves b → b.answers ≡ a.answers ++ answers_in moves
 answers_grow number a b [] same = ap (λ (s : SeatValue). s.answers) same ∙ sym (append-nil a.answers)
-answers_grow number a b (called answer ∷ moves) (m, step, rest) =
+answers_grow number a b (answered answer ∷ moves) (m, step, rest) =
     answers_grow number m b moves rest ∙ ap (λ (xs : List SeatAnswer). xs ++ answers_in moves) (steps number a m answer step).answers
     ∙ append_assoc a.answers (answer ∷ []) (answers_in moves)
-answers_grow number a b (noticed version ∷ moves) (m, step, rest) =
+answers_grow number a b (joined version ∷ moves) (m, step, rest) =
     answers_grow number m b moves rest ∙ ap (λ (s : SeatValue). s.answers ++ answers_in moves) step
 
 pub never_falls : (number least : ℕ) (a b : SeatValue) (moves : List SeatMove) → least ≤ a.seen → Follows number a moves b → NeverFalls least moves
 never_falls number least a b [] low same = tt
-never_falls number least a b (called (SeatAnswer.Pinned version image) ∷ moves) low (m, step, rest) =
+never_falls number least a b (answered (SeatAnswer.Pinned version image) ∷ moves) low (m, step, rest) =
     let seen : m.seen ≡ version = ap (λ (s : SeatValue). s.seen) step.2 in
     (omega (arith, low, step.1), never_falls number version m b moves (omega (arith, seen)) rest)
-never_falls number least a b (called answer ∷ moves) low (m, step, rest) =
+never_falls number least a b (answered answer ∷ moves) low (m, step, rest) =
     never_falls number least m b moves (omega (arith, low, (steps number a m answer step).rises)) rest
-never_falls number least a b (noticed version ∷ moves) low (m, step, rest) =
+never_falls number least a b (joined version ∷ moves) low (m, step, rest) =
     let seen : m.seen ≡ max a.seen version = ap (λ (s : SeatValue). s.seen) step in
     never_falls number (max least version) m b moves (omega (arith, low, seen)) rest
 

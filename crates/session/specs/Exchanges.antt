@@ -14,30 +14,14 @@ use Rattle.session.specs.declared.reply_form.ReplyForm.{ReplyForm}
 use Rattle.session.specs.Lines.{LineMeaning, too_long, no_json, no_request, asks, IsLineMeaning, memory_line, order_fault_line, pin_fault_line, refusal_line}
 use Rattle.session.specs.Profiles.{RepliesToProfile}
 use Rattle.session.specs.Replies.{ReplyValue, plain}
-use Rattle.session.specs.SeatSteps.{Follows, PinsOnce, SeatMove, called, noticed}
-
--- what exchanges change: the seat, and the orders that were asked for
-pub record SeatState : Type 0 where
-  pub seat : SeatValue
-  pub asked : List OrderValue
-
-abbrev pub seat_state : SeatValue → List OrderValue → SeatState
-seat_state seat asked = record { seat = seat; asked = asked }
-
--- a reply, and how the seat and the orders stood when it was written
-pub record SeatReply : Type 0 where
-  pub shown : SeatState
-  pub reply : ReplyValue
-
-abbrev pub seat_reply : SeatState → ReplyValue → SeatReply
-seat_reply shown reply = record { shown = shown; reply = reply }
+use Rattle.session.specs.SeatSteps.{Follows, PinsOnce, SeatMove, answered, joined}
 
 pub record Exchange : Type 0 where
   pub line : List ℕ  -- without its LF
   pub moves : List SeatMove  -- at the seat in this exchange
   pub orders : List OrderValue  -- that were asked for in this exchange
   pub reply : ReplyValue
-  pub shown : SeatState  -- how the seat and the orders stood when the reply was written
+  pub shown : SeatValue  -- what the seat showed when the reply was written
 
 -- what is done for a line: the moves at the seat, the orders that are asked for, and the reply
 pub record Deed : Type 0 where
@@ -51,19 +35,19 @@ deed_of moves orders reply = record { moves = moves; orders = orders; reply = re
 -- a pin is refused
 pub record PinIsRefused (moves : List SeatMove) (reply : ReplyValue) : Type 0 where
   pub fault : PinFault
-  pub moves_are : moves ≡ called (SeatAnswer.PinRefused fault) ∷ []
+  pub moves_are : moves ≡ answered (SeatAnswer.PinRefused fault) ∷ []
   pub reply_is : reply ≡ plain (pin_fault_line fault)
 
 -- a version is pinned, and the reply names it with the base from which its clock texts count
 pub record PinIsMet (moves : List SeatMove) (reply : ReplyValue) : Type 0 where
   pub version : ℕ
   pub image : Snapshot ImageValue
-  pub moves_are : moves ≡ called (SeatAnswer.Pinned version image) ∷ []
+  pub moves_are : moves ≡ answered (SeatAnswer.Pinned version image) ∷ []
   pub reply_is : reply ≡ plain (pin_text image.value.names.base version ++ 10 ∷ [])
 
 pub record ReleaseIsRefused (moves : List SeatMove) (reply : ReplyValue) : Type 0 where
   pub fault : PinFault
-  pub moves_are : moves ≡ called (SeatAnswer.ReleaseRefused fault) ∷ []
+  pub moves_are : moves ≡ answered (SeatAnswer.ReleaseRefused fault) ∷ []
   pub reply_is : reply ≡ plain (pin_fault_line fault)
 
 -- the feed is ordered, or the order is refused
@@ -75,7 +59,7 @@ OrderIsMet feed orders reply =
 -- a version came of the order: a notice of it is joined, and the reply names the version, or says that memory for such a reply ran out
 pub record VersionIsMet (feed : List ℕ) (moves : List SeatMove) (orders : List OrderValue) (reply : ReplyValue) : Type 0 where
   pub version : ℕ
-  pub moves_are : moves ≡ noticed version ∷ []
+  pub moves_are : moves ≡ joined version ∷ []
   pub orders_are : orders ≡ waited_value feed (Ok version) ∷ []
   pub reply_is : (reply ≡ plain (line_of (loaded_data feed version))) ⊎ (reply ≡ plain memory_line)
 
@@ -114,28 +98,28 @@ Meets form held no_json d = IsRefused Refusal.BadJson d
 Meets form held no_request d = IsRefused Refusal.BadRequest d
 Meets form held (asks pin) d = (d.orders ≡ []) × (PinIsMet d.moves d.reply ⊎ PinIsRefused d.moves d.reply)
 Meets form held (asks release) d =
-    (d.orders ≡ []) × (((d.moves ≡ called SeatAnswer.Released ∷ []) × (d.reply ≡ plain release_text)) ⊎ ReleaseIsRefused d.moves d.reply)
+    (d.orders ≡ []) × (((d.moves ≡ answered SeatAnswer.Released ∷ []) × (d.reply ≡ plain release_text)) ⊎ ReleaseIsRefused d.moves d.reply)
 Meets form held (asks (load feed waits)) d = LoadIsMet waits feed d.moves d.orders d.reply
 Meets form held (asks (profile ask)) d = (d.orders ≡ []) × ProfileIsMet form held ask d.moves d.reply
 
 -- there was no memory: nothing is ordered, and nothing is done at the seat; or, if a pin is asked for, a version is pinned and given back
 abbrev pub WantsMemory : LineMeaning → Deed → Type 0
-WantsMemory meaning d =
+WantsMemory asked d =
     (d.reply ≡ plain memory_line) × (d.orders ≡ [])
-    × ((d.moves ≡ []) ⊎ ((meaning ≡ asks pin) × ((version : ℕ) × (image : ImageValue) × PinsOnce d.moves version image)))
+    × ((d.moves ≡ []) ⊎ ((asked ≡ asks pin) × ((version : ℕ) × (image : ImageValue) × PinsOnce d.moves version image)))
 
 -- what was asked, and the reply
 pub record Replied : Type 0 where
-  pub meaning : LineMeaning
+  pub asked : LineMeaning
   pub reply : ReplyValue
 
 abbrev pub replied_to : LineMeaning → ReplyValue → Replied
-replied_to meaning reply = record { meaning = meaning; reply = reply }
+replied_to asked reply = record { asked = asked; reply = reply }
 
 -- what was asked is met without an order, with this reply, or the reply says that memory ran out; the moves that this takes lead the seat from `a` to `b`
 pub record IsMet (form : ReplyForm) (number : ℕ) (a : SeatValue) (replied : Replied) (b : SeatValue) : Type 0 where
   pub moves : List SeatMove
-  pub meets : WantsMemory replied.meaning (deed_of moves [] replied.reply) ⊎ Meets form a.held replied.meaning (deed_of moves [] replied.reply)
+  pub meets : WantsMemory replied.asked (deed_of moves [] replied.reply) ⊎ Meets form a.held replied.asked (deed_of moves [] replied.reply)
   pub seat : Follows number a moves b
 
 -- a load of this feed that was waited for is met by this deed, whose moves lead the seat from `a` to `b`
@@ -151,12 +135,20 @@ AgreeOnNotices {N} published_as noted = (notice : N) → published_as notice ≡
 abbrev pub IsExchange : ReplyForm → Option (ℕ × ImageValue) → Exchange → Type 0
 IsExchange form held t =
     ((t.reply ≡ plain memory_line) × (t.orders ≡ []) × (t.moves ≡ []))
-    ⊎ ((meaning : LineMeaning) × IsLineMeaning form.sets t.line meaning
-    × (WantsMemory meaning (deed_of t.moves t.orders t.reply) ⊎ Meets form held meaning (deed_of t.moves t.orders t.reply)))
+    ⊎ ((asked : LineMeaning) × IsLineMeaning form.sets t.line asked
+    × (WantsMemory asked (deed_of t.moves t.orders t.reply) ⊎ Meets form held asked (deed_of t.moves t.orders t.reply)))
 
--- the exchange's moves lead the seat from `a` to `b`, and the list of orders grows by the exchange's orders; so both stood when the reply was written
+-- what exchanges change: the seat, and the orders that were asked for
+pub record SeatState : Type 0 where
+  pub seat : SeatValue
+  pub asked : List OrderValue
+
+abbrev pub seat_state : SeatValue → List OrderValue → SeatState
+seat_state seat asked = record { seat = seat; asked = asked }
+
+-- the exchange's moves lead the seat from `a` to `b`, as which it is shown at the reply, and the list of orders grows by the exchange's orders
 pub record ExchangeLeadsTo (form : ReplyForm) (number : ℕ) (a : SeatState) (t : Exchange) (b : SeatState) : Type 0 where
   pub is : IsExchange form a.seat.held t
   pub seat : Follows number a.seat t.moves b.seat
-  pub shown : t.shown ≡ b
+  pub shown : t.shown ≡ b.seat
   pub orders : b.asked ≡ a.asked ++ t.orders

@@ -43,8 +43,8 @@ IsFromPublished known form ask reply =
 
 -- if a profile is asked for in this exchange, it is answered so, or want of memory is replied
 abbrev pub ReportsPublished : KnownHistory → ReplyForm → Exchange → Type 0
-ReportsPublished known form t = (t.reply.text ≡ memory_line) ⊎ ((meaning : LineMeaning) × IsLineMeaning form.sets t.line meaning
-    × ((ask : AskValue) → meaning ≡ asks (profile ask) → IsFromPublished known form ask t.reply))
+ReportsPublished known form t = (t.reply.text ≡ memory_line) ⊎ ((asked : LineMeaning) × IsLineMeaning form.sets t.line asked
+    × ((ask : AskValue) → asked ≡ asks (profile ask) → IsFromPublished known form ask t.reply))
 
 abbrev pub AreFromPublished : KnownHistory → ReplyForm → List Exchange → Type 0
 AreFromPublished known form [] = Unit {0}

@@ -32,7 +32,7 @@ pub record IsRefusedOne (image : ImageValue) (one : OneAsk) (reply : ReplyValue)
 pub record IsTooLongOne (form : ReplyForm) (image : ImageValue) (one : OneAsk) (reply : ReplyValue) : Type 0 where
   pub query : Query
   pub can_be : IsAskable image.timetable.stops query
-  pub query_is : Asks image.names one.from one.to (window_of one.ask) query
+  pub asked : Asks image.names one.from one.to (window_of one.ask) query
   pub longer : IsLonger form.longest (one.ask.by - one.ask.after)
   pub reply_is : reply ≡ plain (query_fault_line QueryFault.BadWindow)
 
@@ -40,7 +40,7 @@ pub record IsTooLongOne (form : ReplyForm) (image : ImageValue) (one : OneAsk) (
 pub record AnswersOne (form : ReplyForm) (image : ImageValue) (version : ℕ) (one : OneAsk) (reply : ReplyValue) : Type 0 where
   pub query : Query
   pub can_be : IsAskable image.timetable.stops query
-  pub query_is : Asks image.names one.from one.to (window_of one.ask) query
+  pub asked : Asks image.names one.from one.to (window_of one.ask) query
   pub short : ¬ (IsLonger form.longest (one.ask.by - one.ask.after))
   pub answered : IsAnsweredOneBy one.ask.criterion (subject_of form.points image version) query reply.text
 

@@ -26,7 +26,7 @@ pub record IsNoQuery (image : ImageValue) (ask : AskValue) (reply : ReplyValue) 
 pub record IsTooLong (form : ReplyForm) (image : ImageValue) (ask : AskValue) (reply : ReplyValue) : Type 0 where
   pub query : SetQueryValue
   pub can_be : IsAskableBetween image.timetable.stops query
-  pub query_is : AsksBetween image.names ask.from ask.to (window_of ask) query
+  pub asked : AsksBetween image.names ask.from ask.to (window_of ask) query
   pub longer : IsLonger form.longest (ask.by - ask.after)
   pub reply_is : reply ≡ plain (query_fault_line QueryFault.BadWindow)
 
@@ -35,7 +35,7 @@ pub record IsTooLong (form : ReplyForm) (image : ImageValue) (ask : AskValue) (r
 pub record AnswersQuery (form : ReplyForm) (image : ImageValue) (version : ℕ) (ask : AskValue) (reply : ReplyValue) : Type 0 where
   pub query : SetQueryValue
   pub can_be : IsAskableBetween image.timetable.stops query
-  pub query_is : AsksBetween image.names ask.from ask.to (window_of ask) query
+  pub asked : AsksBetween image.names ask.from ask.to (window_of ask) query
   pub short : ¬ (IsLonger form.longest (ask.by - ask.after))
   pub answered : IsAnsweredBy ask.criterion (subject_of form.points image version) query reply.text
   pub reads : reply.read ≡ reverse (window_between image.timetable query)
@@ -49,7 +49,7 @@ pub record IsProfileReply (form : ReplyForm) (image : ImageValue) (version : ℕ
 pub record ReadsPart (form : ReplyForm) (image : ImageValue) (ask : AskValue) (read : List ℕ) : Type 0 where
   pub query : SetQueryValue
   pub can_be : IsAskableBetween image.timetable.stops query
-  pub query_is : AsksBetween image.names ask.from ask.to (window_of ask) query
+  pub asked : AsksBetween image.names ask.from ask.to (window_of ask) query
   pub short : ¬ (IsLonger form.longest (ask.by - ask.after))
   pub count : ℕ
   pub read_is : read ≡ take count (reverse (window_between image.timetable query))

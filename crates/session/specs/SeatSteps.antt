@@ -5,12 +5,13 @@ use Rattle.image_layout.specs.Image.{ImageValue}
 use Rattle.shelf_steps.specs.declared.views.KnownHistory.{KnownHistory}
 use Rattle.shelves.specs.declared.answers.SeatAnswer.{SeatAnswer}
 use Rattle.shelves.specs.SeatHistory.{HoldsAsKnown}
+use Rattle.session.specs.Replies.{ReplyValue}
 use Rattle.shelves.specs.Seats.{SeatValue, KnowsItsSeats, ShowsPin, ShowsRelease, ShowsJoin, pinned}
 
--- a call that is answered so, or a notice of this version that is joined
+-- a call is answered, or a notice of this version is joined
 pub data SeatMove : Type 0 where
-  called : SeatAnswer → SeatMove
-  noticed : ℕ → SeatMove
+  answered : SeatAnswer → SeatMove
+  joined : ℕ → SeatMove
 
 -- in some history of versions the worker with this number holds this
 abbrev pub HoldsInSomeHistory : ℕ → Option (ℕ × ImageValue) → Type 0
@@ -27,8 +28,8 @@ AnswerStep number a (SeatAnswer.ReleaseRefused fault) b = KnowsItsSeats fault ×
 
 -- from one value of a worker's seat to the next, by an answer, or by a notice, after which the seat has seen that version
 abbrev pub MoveStep : ℕ → SeatValue → SeatMove → SeatValue → Type 0
-MoveStep number a (called answer) b = AnswerStep number a answer b
-MoveStep number a (noticed version) b = ShowsJoin a version b
+MoveStep number a (answered answer) b = AnswerStep number a answer b
+MoveStep number a (joined version) b = ShowsJoin a version b
 
 -- from one value of a worker's seat to another, by these moves in order
 abbrev pub Follows : ℕ → SeatValue → List SeatMove → SeatValue → Type 0
@@ -37,18 +38,26 @@ Follows number a (first ∷ moves) b = (m : SeatValue) × MoveStep number a firs
 
 abbrev pub answers_in : List SeatMove → List SeatAnswer
 answers_in [] = []
-answers_in (called answer ∷ moves) = answer ∷ answers_in moves
-answers_in (noticed version ∷ moves) = answers_in moves
+answers_in (answered answer ∷ moves) = answer ∷ answers_in moves
+answers_in (joined version ∷ moves) = answers_in moves
+
+-- a reply, and what the seat showed when it was written
+pub record SeatReply : Type 0 where
+  pub shown : SeatValue
+  pub reply : ReplyValue
+
+abbrev pub seat_reply : SeatValue → ReplyValue → SeatReply
+seat_reply shown reply = record { shown = shown; reply = reply }
 
 -- a version is pinned and given back
 pub record PinsOnce (moves : List SeatMove) (version : ℕ) (image : ImageValue) : Type 0 where
   pub shown : Snapshot ImageValue
   pub image_is : shown.value ≡ image
-  pub moves_are : moves ≡ called (SeatAnswer.Pinned version shown) ∷ called SeatAnswer.Released ∷ []
+  pub moves_are : moves ≡ answered (SeatAnswer.Pinned version shown) ∷ answered SeatAnswer.Released ∷ []
 
 -- no version that is pinned is older than `least`, than one that was pinned before, or than that of a notice that was joined before
 abbrev pub NeverFalls : ℕ → List SeatMove → Type 0
 NeverFalls least [] = Unit {0}
-NeverFalls least (called (SeatAnswer.Pinned version image) ∷ moves) = (least ≤ version) × NeverFalls version moves
-NeverFalls least (called answer ∷ moves) = NeverFalls least moves
-NeverFalls least (noticed version ∷ moves) = NeverFalls (max least version) moves
+NeverFalls least (answered (SeatAnswer.Pinned version image) ∷ moves) = (least ≤ version) × NeverFalls version moves
+NeverFalls least (answered answer ∷ moves) = NeverFalls least moves
+NeverFalls least (joined version ∷ moves) = NeverFalls (max least version) moves

@@ -7,13 +7,12 @@ use Rattle.orders.specs.Ordering.{OrderValue}
 use Rattle.lines.specs.LineReads.{written_line}
 use Rattle.lines.specs.Streams.{AreReadWhile, HasFailedBehind, HasFailedToRead, HasRead, HasWritten, StreamWords, all_of, inner_of, notes_of}
 use Rattle.lines.specs.declared.counted.Counted.{Counted}
-use Rattle.reasoning.specs.declared.ghost_value.GhostValue.{GhostValue}
 use Rattle.lines.specs.Cutting.{lines_of, rest_of, whole_lines}
 use Rattle.session.specs.declared.reply_form.ReplyForm.{ReplyForm}
 use Rattle.session.specs.declared.fault.Ended.{Ended}
 use Rattle.session.specs.declared.fault.SessionFault.{SessionFault}
-use Rattle.session.specs.SeatSteps.{AnswerStep, SeatMove}
-use Rattle.session.specs.Exchanges.{SeatState, Exchange, ExchangeLeadsTo, SeatReply, seat_reply, seat_state}
+use Rattle.session.specs.SeatSteps.{AnswerStep, SeatMove, SeatReply, seat_reply}
+use Rattle.session.specs.Exchanges.{SeatState, Exchange, ExchangeLeadsTo}
 
 -- exchanges one after the other: each begins with the seat and the orders as the one before left them
 abbrev pub AreExchanges : ReplyForm → ℕ → SeatState → List Exchange → SeatState → Type 0
@@ -27,7 +26,7 @@ lines_in exchanges = map (λ t. t.line) exchanges
 abbrev pub text_of : List Exchange → List ℕ
 text_of exchanges = flat_map (λ t. t.reply.text) exchanges
 
--- the replies, each with how the seat and the orders stood when it was written, and what was read for it
+-- the replies, each with what the seat showed when it was written, and what was read for it
 abbrev pub replies_in : List Exchange → List SeatReply
 replies_in exchanges = map (λ t. seat_reply t.shown t.reply) exchanges
 
@@ -44,11 +43,11 @@ AreShort (t ∷ exchanges) = (length t.line ≤ 16_777_216) × AreShort exchange
 
 -- all replies but the last are written, and of the last one its first `count` bytes, perhaps all; no exchange follows it
 pub record IsCutShort (written : List ℕ) (exchanges : List Exchange) : Type 0 where
-  pub whole : List Exchange
+  pub answered : List Exchange
   pub last : Exchange
   pub count : ℕ  -- of the bytes of the last reply
-  pub exchanges_are : exchanges ≡ whole ++ last ∷ []
-  pub written_is : written ≡ text_of whole ++ take count last.reply.text
+  pub exchanges_are : exchanges ≡ answered ++ last ∷ []
+  pub written_is : written ≡ text_of answered ++ take count last.reply.text
 
 -- what contracts say of a session: the form of its replies, its reader and its writer
 pub record ServeWords (R W : Type 0) : Type 1 where
@@ -59,23 +58,19 @@ pub record ServeWords (R W : Type 0) : Type 1 where
 abbrev pub serve_words : {R W : Type 0} → ReplyForm → StreamWords R → StreamWords W → ServeWords R W
 serve_words form reads writes = record { form = form; reads = reads; writes = writes }
 
--- what is noted beside a reply: the seat, and the orders that were asked for by then
-abbrev pub SeatNote : Type 0 → Type 0
-SeatNote S = GhostValue (S × List OrderValue)
-
--- what a session changes: its reader and its writer, what was replied, with how the seat and the orders stood then, the seat and the orders
+-- what a session changes: its reader and its writer, what was replied, with what the seat showed then, the seat and the orders
 pub record SessionState (R W S : Type 0) : Type 0 where
   pub reader : Counted R (Unit {0})
-  pub writer : Counted W (SeatNote S)
+  pub writer : Counted W S
   pub replied : List SeatReply
   pub at_seat : SeatState
 
--- the replies that this writer was given, each with what was read for it, and how its seat and the orders stood when it was written
-abbrev pub replies_of : {W S : Type 0} → (S → SeatValue) → Counted W (SeatNote S) → List SeatReply
-replies_of shown writer = map (λ note. seat_reply (seat_state (shown note.0.value.0) note.0.value.1) (written_line note.1.0 note.1.1)) (notes_of writer)
+-- the replies that this writer was given, each with what was read for it, and what its seat showed when it was written
+abbrev pub replies_of : {W S : Type 0} → (S → SeatValue) → Counted W S → List SeatReply
+replies_of shown writer = map (λ note. seat_reply (shown note.0) (written_line note.1.0 note.1.1)) (notes_of writer)
 
 -- over this reader and this writer, by what a seat shows
-abbrev pub state_of : {R W S : Type 0} → (S → SeatValue) → Counted R (Unit {0}) → Counted W (SeatNote S) → SeatState → SessionState R W S
+abbrev pub state_of : {R W S : Type 0} → (S → SeatValue) → Counted R (Unit {0}) → Counted W S → SeatState → SessionState R W S
 state_of shown reader writer at_seat = record { reader = reader; writer = writer; replied = replies_of shown writer; at_seat = at_seat }
 
 -- what was read and written in a session and its exchanges, from one state to another
@@ -107,7 +102,7 @@ answered_by _ exchanges = length exchanges
 -- reads were made only while no more whole lines had come than are answered when the session ends. This binds each read, since any write may be the one that
 -- fails and ends the session: so code that is right with every writer has answered each whole line before it reads on
 abbrev pub AreReadFor : ℕ → List (List ℕ) → Type 0
-AreReadFor count blocks = AreReadWhile (λ read. length (whole_lines read) ≤ count) blocks
+AreReadFor answered blocks = AreReadWhile (λ read. length (whole_lines read) ≤ answered) blocks
 
 -- lines of what was read are answered, from the first on: some of those that have a line end; or, if the reader is at its end, all of them, of
 -- which the last needs no line end
@@ -145,7 +140,7 @@ module _ {R W S : Type 0} (words : ServeWords R W) where
       ReadsWork e × WritesWork e × (length e.exchanges ≡ 1_000_000) × (1_000_000 < length (lines_of (read_in e)))
       × (lines_in e.exchanges ≡ take 1_000_000 (lines_of (read_in e))) × (e.written ≡ text_of e.exchanges)
 
-  -- what a session reads, does and writes: a million lines at most. At each reply the seat and the orders are as the exchanges up to that one made them
+  -- what a session reads, does and writes: a million lines at most. The seat shows at each reply what the exchanges up to that one made of it
   pub record Serves (number : ℕ) (result : Result Ended SessionFault) (a b : SessionState R W S) : Type 0 where
     pub blocks : List (List ℕ)  -- what each read gave
     pub written : List ℕ

@@ -17,9 +17,9 @@ use session_texts::laws::{one_request, one_value};
 
 /// A line asks one thing.
 pub fn one_thing_is_asked()
-    ensures { (sets : Bool) (line : List ℕ) (meaning other : LineMeaning) → IsLineMeaning sets line meaning
+    ensures { (sets : Bool) (line : List ℕ) (asked other : LineMeaning) → IsLineMeaning sets line asked
         → IsLineMeaning sets line other
-        → meaning ≡ other }
+        → asked ≡ other }
 {
     one_value();
     one_request();

@@ -19,4 +19,4 @@ pub use lines::Counted;
 pub use orders::{Gate, OpenGate, OrderFault, Orders};
 pub use reply_form::ReplyForm;
 pub use serving::{MOST_REQUESTS, serve};
-pub use session_server::{SeatNote, SessionServer, Streams};
+pub use session_server::{SessionServer, Streams};

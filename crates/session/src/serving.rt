@@ -7,12 +7,13 @@ ghost use Rattle.lines.specs.Streams.{HasFailed, HasFlushed, inner_of};
 ghost use Rattle.shelves.specs.Seats.{SeatValue};
 ghost use Rattle.session.specs.Forms.{bare};
 ghost use Rattle.session.specs.Learning.{GoesOn, AnswerFromPublished};
+ghost use Rattle.session.specs.SeatSteps.{seat_reply};
 ghost use Rattle.session.specs.Sessions.{LastRelease, Serves, replies_of, serve_words, state_of};
-ghost use Rattle.session.specs.Exchanges.{AgreeOnNotices, Exchange, ExchangeLeadsTo, seat_reply, seat_state};
+ghost use Rattle.session.specs.Exchanges.{AgreeOnNotices, Exchange, ExchangeLeadsTo, seat_state};
 
 use crate::fault::{Ended, SessionFault};
 use crate::reply::SessionReply;
-use crate::session_server::{SeatNote, SessionServer, Streams, seat_note};
+use crate::session_server::{SessionServer, Streams};
 use lines::{Counted, Line, LineReader, NextLine, ReadStream, WriteFailed, WriteStream};
 use orders::{Gate, Orders};
 use shelves::Versions;
@@ -33,7 +34,7 @@ pub fn serve<
 >(
     alloc: Global,
     reader: &mut Counted<In>,
-    writer: &mut Counted<Out, SeatNote<T::Seat>>,
+    writer: &mut Counted<Out, T::Seat>,
     shelves: &T,
     seat: &mut T::Seat,
     orders: &mut O,
@@ -101,7 +102,7 @@ impl<'a, N: Drop, T: Versions<Notice = N>, G: Gate> SessionServer<'a, T, G> {
     fn answer_lines<In: ReadStream, Out: WriteStream, O: Orders<Notice = N>>(
         &self,
         reader: &mut Counted<In>,
-        writer: &mut Counted<Out, SeatNote<T::Seat>>,
+        writer: &mut Counted<Out, T::Seat>,
         seat: &mut T::Seat,
         orders: &mut O,
     ) -> Result<Ended, SessionFault>
@@ -148,7 +149,7 @@ impl<'a, N: Drop, T: Versions<Notice = N>, G: Gate> SessionServer<'a, T, G> {
     fn answer_line<Out: WriteStream, O: Orders<Notice = N>>(
         &self,
         line: Line<'_>,
-        writer: &mut Counted<Out, SeatNote<T::Seat>>,
+        writer: &mut Counted<Out, T::Seat>,
         seat: &mut T::Seat,
         orders: &mut O,
     ) -> Result<(), WriteFailed>
@@ -175,8 +176,7 @@ impl<'a, N: Drop, T: Versions<Notice = N>, G: Gate> SessionServer<'a, T, G> {
             has_scanned,
             log,
         } = self.exchange(line, seat, orders);
-        let beside = seat_note(seat, orders);
-        let written = writer.write_line(reply.bytes(), log.into_reads(), &beside);
+        let written = writer.write_line(reply.bytes(), log.into_reads(), seat);
         if has_scanned {
             self.gate.leave();
         }

@@ -6,10 +6,7 @@ ghost use Rattle.session.specs.Forms.{bare};
 use crate::reply_form::ReplyForm;
 use answer_replies::PointForm;
 use lines::Counted;
-use orders::{OrderRecord, Orders};
-use reasoning::GhostValue;
 use std::alloc::Global;
-use std::collections::LinkedList;
 
 /// What sessions are answered from: memory, the shelves with the versions, the gate that hears of
 /// scans, and the form in which profiles are replied.
@@ -36,22 +33,12 @@ impl<'a, T, G> SessionServer<'a, T, G> {
     }
 }
 
-/// What is noted beside a reply: the seat, and the orders that were asked for by then. Only contracts see it.
-pub type SeatNote<S> = GhostValue<(S, LinkedList<OrderRecord>)>;
-
-// The seat and the orders as they are now.
-pub(crate) fn seat_note<S, O: Orders>(seat: &S, orders: &O) -> SeatNote<S>
-    ensures { result.value ≡ (seat.now, O.asked orders.now) }
-{
-    GhostValue::at(seat, orders)
-}
-
 /// Where a session's requests are read and its replies are written, each with the number of its calls that failed; each
-/// reply is noted with the seat and the orders as they were then.
+/// reply is noted with the seat as it was then.
 #[derive(Drop)]
 pub struct Streams<I, O, S> {
     pub reader: Counted<I>,
-    pub writer: Counted<O, SeatNote<S>>,
+    pub writer: Counted<O, S>,
 }
 
 impl<I, O, S> Streams<I, O, S> {

@@ -3,7 +3,7 @@ use Rattle.shelves.specs.Seats.{SeatValue, ShowsJoin}
 use Rattle.orders.specs.Ordering.{waited_value}
 use Rattle.session_texts.specs.Replies.{line_of, loaded_data}
 use Rattle.session.specs.Lines.{memory_line}
-use Rattle.session.specs.SeatSteps.{noticed}
+use Rattle.session.specs.SeatSteps.{joined}
 use Rattle.session.specs.Exchanges.{IsLoaded, deed_of}
 use Rattle.session.specs.Replies.{ReplyValue, plain}
 use Rattle.session.proofs.session_server.SessionServer.load_feed.Goals as goal
@@ -11,7 +11,7 @@ use Rattle.session.proofs.session_server.SessionServer.load_feed.Goals as goal
 -- the notice is of the version that is reported
 version_met : (number : ℕ) (a b : SeatValue) (feed : List ℕ) (version noted : ℕ) (reply : ReplyValue) → noted ≡ version → ShowsJoin a noted b
     → (reply ≡ plain (line_of (loaded_data feed version))) ⊎ (reply ≡ plain memory_line)
-    → IsLoaded number a feed (deed_of (noticed version ∷ []) (waited_value feed (Ok version) ∷ []) reply) b
+    → IsLoaded number a feed (deed_of (joined version ∷ []) (waited_value feed (Ok version) ∷ []) reply) b
 version_met number a b feed version noted reply same step fact = record {
   meets = inl (record { version = version; moves_are = refl; orders_are = refl; reply_is = fact });
   seat = (b, subst (λ (n : ℕ). ShowsJoin a n b) same step, refl);
