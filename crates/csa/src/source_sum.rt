@@ -2,4 +2,4 @@
 
 /// The sum of all sources but this file, as `release/sources --program` prints it. `release/stamp` writes it, and
 /// `.ci/run` compares it with the sources.
-pub const SOURCES: &str = "32e7b674abe808469e60763f6268288ec7c8e9c67c15db8fd34cf2892b5f339e";
+pub const SOURCES: &str = "36caab72f1806dcc516b7826fc31a045304ae50daa78a4efc9fcf0234c8524d4";
