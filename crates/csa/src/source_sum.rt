@@ -2,4 +2,4 @@
 
 /// The sum of all sources but this file, as `release/sources --program` prints it. `release/stamp` writes it, and
 /// `.ci/run` compares it with the sources.
-pub const SOURCES: &str = "36caab72f1806dcc516b7826fc31a045304ae50daa78a4efc9fcf0234c8524d4";
+pub const SOURCES: &str = "22a79c534fad995a7d03aa8e6b56380d8e5a0f85c87477204265a79186b70564";
