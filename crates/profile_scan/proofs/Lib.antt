@@ -40,6 +40,8 @@ pub mod LanesLeft
 pub mod LanesBoarded
 pub mod TripLaws
 pub mod Together
+pub mod KeptLemmas
+pub mod ByArrivalLemmas
 pub mod BeyondLemmas
 pub mod ByTripsLeft
 pub mod ByTripsBoarded

@@ -128,25 +128,24 @@ with_missed Excused Missed tags i time xs old mid new admitted q is late better 
 }
 
 -- each way to leave is covered, or excused
-covered_either : (q : SetQueryValue) (place : ℕ) (c : Connection) (way : Option FinalWalk) (Excused : TimeTrips → Type 0) (tags : Spellings)
-    (bag new : List (Point TimeTrips))
-    → ((walk : Option Footpath) → IsEnding c q way walk
-    → Covers trip_rules new 0 (started trip_rules walk (trip_rules.arrive (c.arr + start_secs walk))))
-    → ((p : Point TimeTrips) → Contains bag p × (c.arr ≤ p.departure) → Covers trip_rules new 0 p.value ⊎ Excused p.value)
-    → (w : Option Footpath ⊎ Point TimeTrips) → (only_if (c.alight ≡ true) (endings_and_changes trip_rules tags place c q way bag)).is_open w
-    → Covers trip_rules new ((only_if (c.alight ≡ true) (endings_and_changes trip_rules tags place c q way bag)).departure w)
-    ((only_if (c.alight ≡ true) (endings_and_changes trip_rules tags place c q way bag)).value w) ⊎ NoChange Excused w
-covered_either q place c way Excused tags bag new ends changes (inl walk) opened = inl (ends walk opened.1)
-covered_either q place c way Excused tags bag new ends changes (inr p) opened = changes p opened.1
+covered_either : {V : Type 0} (rules : Rules V) (q : SetQueryValue) (place : ℕ) (c : Connection) (way : Option FinalWalk) (Excused : V → Type 0)
+    (tags : Spellings) (bag new : List (Point V))
+    → ((walk : Option Footpath) → IsEnding c q way walk → Covers rules new 0 (started rules walk (rules.arrive (c.arr + start_secs walk))))
+    → ((p : Point V) → Contains bag p × (c.arr ≤ p.departure) → Covers rules new 0 p.value ⊎ Excused p.value)
+    → (w : Option Footpath ⊎ Point V) → (only_if (c.alight ≡ true) (endings_and_changes rules tags place c q way bag)).is_open w
+    → Covers rules new ((only_if (c.alight ≡ true) (endings_and_changes rules tags place c q way bag)).departure w)
+    ((only_if (c.alight ≡ true) (endings_and_changes rules tags place c q way bag)).value w) ⊎ NoChange Excused w
+covered_either rules q place c way Excused tags bag new ends changes (inl walk) opened = inl (ends walk opened.1)
+covered_either rules q place c way Excused tags bag new ends changes (inr p) opened = changes p opened.1
 
 -- to end, and then to change
-pub ends_and_changes : (q : SetQueryValue) (place : ℕ) (c : Connection) (way : Option FinalWalk) (Excused : TimeTrips → Type 0) (tags : Spellings)
-    (bag old mid new : List (Point TimeTrips))
-    → ((walk : Option Footpath) → IsEnding c q way walk → Admits trip_rules (started trip_rules walk (trip_rules.arrive (c.arr + start_secs walk))))
-    → c.alight ≡ true → TakesInBut trip_rules (λ _. ⊥) (endings trip_rules tags place c q way) old mid
-    → TakesInBut trip_rules (λ p. Excused p.value) (changes_from tags place c.arr bag) mid new
-    → TakesInBut trip_rules (NoChange Excused) (only_if (c.alight ≡ true) (endings_and_changes trip_rules tags place c q way bag)) old new
-ends_and_changes q place c way Excused tags bag old mid new admits alights first second = record {
+pub ends_and_changes : {V : Type 0} (rules : Rules V) (q : SetQueryValue) (place : ℕ) (c : Connection) (way : Option FinalWalk) (Excused : V → Type 0)
+    (tags : Spellings) (bag old mid new : List (Point V))
+    → ((walk : Option Footpath) → IsEnding c q way walk → Admits rules (started rules walk (rules.arrive (c.arr + start_secs walk))))
+    → c.alight ≡ true → TakesInBut rules (λ _. ⊥) (endings rules tags place c q way) old mid
+    → TakesInBut rules (λ p. Excused p.value) (changes_from tags place c.arr bag) mid new
+    → TakesInBut rules (NoChange Excused) (only_if (c.alight ≡ true) (endings_and_changes rules tags place c q way bag)) old new
+ends_and_changes rules q place c way Excused tags bag old mid new admits alights first second = record {
   only = λ p h. elim (second.only p h) [
     | inl in_mid ↦ elim (first.only p in_mid) [
       | inl in_old ↦ inl in_old
@@ -155,7 +154,7 @@ ends_and_changes q place c way Excused tags bag old mid new admits alights first
     | inr o ↦ inr (record { way = inr o.way; is_open = (alights, o.is_open); departs = o.departs; worth = o.worth; fits = o.fits })
   ];
   kept = λ d v a cover. second.kept d v a (first.kept d v a cover);
-  covered = covered_either q place c way Excused tags bag new
+  covered = covered_either rules q place c way Excused tags bag new
       (λ walk opened. elim (first.covered walk opened) [
         | inl cover ↦ second.kept 0 _ (admits walk opened) cover
         | inr none ↦ absurd none

@@ -16,7 +16,9 @@ pub mod Starts
 pub mod Hops
 pub mod ScanState
 pub mod Keeping
+pub mod KeptParts
 pub mod InLists
+pub mod ByArrival
 pub mod InLanes
 pub mod ByTrips
 pub mod TakenByTrips

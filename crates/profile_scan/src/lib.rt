@@ -75,6 +75,8 @@
 mod answering;
 mod at_source;
 mod bound;
+mod by_arrival;
+mod by_arrival_taking;
 mod by_trips;
 mod by_trips_taking;
 mod destination;

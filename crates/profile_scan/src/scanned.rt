@@ -1,5 +1,6 @@
 //! In which form a scan keeps trips and stops, by criterion.
 
+use crate::by_arrival::ByArrival;
 use crate::by_trips::ByTrips;
 use crate::in_lists::InLists;
 use crate::keeping::Keeping;
@@ -16,7 +17,7 @@ pub trait Scanned: Criterion {
 }
 
 impl Scanned for Arrival {
-    type Kept = InLists<Self>;
+    type Kept = ByArrival;
 }
 
 impl Scanned for ArrivalTrips {
