@@ -361,8 +361,7 @@ module _ (hop : Hop ℕ) (old : ByArrival) (are : AreByArrival old) (excludes : 
 alone : (ride : RiddenLabel ℕ) → AreRidden arrival_rules (ridden_point ride ∷ []) (ride ∷ [])
 alone ride = record {
   of_label = λ r h.
-      let same : r ≡ ride = contains_only ride r h in
-      (
+      let same : r ≡ ride = contains_only ride r h in (
         ridden_point ride,
         contains_first (ridden_point ride) [],
         ap (λ (x : RiddenLabel ℕ). x.value) same,

@@ -4,7 +4,7 @@ use Rattle.std.proofs.Common.{get_or, set, replicate, get_or-set_same, get_or-se
 use Rattle.std.proofs.Common.{refl, sym, ◌∙◌, ap, subst, arith}
 use Rattle.std.proofs.lemmas.Bool.{cases_eq, cases_lt, le-leb, ltb-false, ltb-true}
 use Rattle.std.proofs.lemmas.List.{length-map, length-replicate, map-set}
-use Rattle.std.proofs.lemmas.Option.{same_Some, slice_get-get_or, slice_get-map, slice_get_read, slice_get_within}
+use Rattle.std.proofs.lemmas.Option.{none-some, same_Some, slice_get-get_or, slice_get-map, slice_get_read, slice_get_within}
 use Rattle.std.specs.Prelude.{option_map, nat_lt, Bool, true, false}
 use Rattle.reasoning.proofs.OptionLemmas.{some-none}
 use Rattle.reasoning.proofs.ListLemmas.{at_contains, contains_at, contains_only}
@@ -15,6 +15,7 @@ use Rattle.timetable.specs.Legal.{At, IsLegal}
 use Rattle.timetable.proofs.LegalLemmas.{Contains-At, At-Contains}
 use Rattle.profile_scan.specs.Adding.{StandsBetween}
 use Rattle.profile_scan.specs.SetQuery.{SetQueryValue, IsDirect, IsDirectWalk, IsTakenBefore, secs_of}
+use Rattle.profile_scan.specs.FinalWalkEntries.{is_walk}
 use Rattle.profile_scan.specs.ScanState.{IsNearest, IsDirectSecs, IsFinalWalk, AreFinalWalks, walk_by, final_walk_if, final_walk_in}
 use Rattle.profile_scan.specs.Nearest.{AreNearest, IsDoneTo, IsDoneWalk, IsInto, IsNearestDone, IsShortestWalk, Replaces, TakesWalk, if_shorter}
 use Rattle.profile_scan.specs.Nearest.{no_entry, shorter_of, way_by}
@@ -432,3 +433,10 @@ shortest_more final_walks sources n stop at best is = by (get_or final_walks sto
                 | inr before ↦ was.4 k other way (omega (arith, lt_k, before)) there says
               ],
             )
+
+-- a stop that isn't noted has no footpath
+pub not_noted : (entries : List FinalWalk) (stop : ℕ) → slice_get (map is_walk entries) stop ≡ Some false
+    → get_or (map final_walk_in entries) stop None ≡ None
+not_noted [] stop at = absurd (none-some false at)
+not_noted (e ∷ es) zero at = ap (λ b. final_walk_if b e) (same_Some (is_walk e) false at)
+not_noted (e ∷ es) (suc k) at = not_noted es k at

@@ -156,55 +156,55 @@ module _ {V : Type 0} (rules : Rules V) where
   -- footpaths one after another, with the same labels
   module _ (t : TimetableValue) (hop : Hop V) (labels : List (Point V)) (begin : ℕ)
       (admits : (l : Point V) → Contains labels l → (walk : Footpath) → Contains t.footpaths walk → Admits rules (rules.walk walk.secs (rules.ride l.value)))
-      where
-    abbrev After : ℕ → ℕ → Spellings → Offer (Footpath × Point V) V
-    After end stop tags = each_of (StandsBetween t.footpaths begin end) (boardings_by rules tags hop.place hop.connection stop labels)
+    where
+      abbrev After : ℕ → ℕ → Spellings → Offer (Footpath × Point V) V
+      After end stop tags = each_of (StandsBetween t.footpaths begin end) (boardings_by rules tags hop.place hop.connection stop labels)
 
-    pub bags_first : (kept : KeptValue V) → BagsTake rules (λ walks. walks ≡ t.footpaths) (λ _. ⊥) (After begin) kept kept
-    bags_first kept = bags_none (λ walks. walks ≡ t.footpaths) (λ _. ⊥) (After begin) kept
-        (λ walks are stop before all grows. but_none rules (λ _. ⊥) (After begin stop (from_to (spelling_of walks before) (spelling_of walks all)))
-        (kept.bag stop) (λ way opened. absurd (omega (arith, opened.0.1, opened.0.2))))
+      pub bags_first : (kept : KeptValue V) → BagsTake rules (λ walks. walks ≡ t.footpaths) (λ _. ⊥) (After begin) kept kept
+      bags_first kept = bags_none (λ walks. walks ≡ t.footpaths) (λ _. ⊥) (After begin) kept
+          (λ walks are stop before all grows. but_none rules (λ _. ⊥) (After begin stop (from_to (spelling_of walks before) (spelling_of walks all)))
+          (kept.bag stop) (λ way opened. absurd (omega (arith, opened.0.1, opened.0.2))))
 
-    pub bags_next : (k : ℕ) (walk : Footpath) (old mid new : KeptValue V) → begin ≤ k → At t.footpaths k walk
-        → BagsTake rules (λ walks. walks ≡ t.footpaths) (λ _. ⊥) (After k) old mid
-        → BagsTake rules (λ walks. slice_get walks k ≡ Some walk) (λ _. ⊥)
-        (λ stop tags. boardings_by rules tags hop.place hop.connection stop labels walk) mid new
-        → BagsTake rules (λ walks. walks ≡ t.footpaths) (λ _. ⊥) (After (k + 1)) old new
-    bags_next k walk old mid new low at before here = record {
-      exits = here.exits ∙ before.exits;
-      steps = extends_on old.steps mid.steps new.steps before.steps here.steps;
-      labels = λ trip. here.labels trip ∙ before.labels trip;
-      takes = λ walks are stop set_outs was all first_grows then_grows.
-          let s0 = scan_records old.exits old.steps set_outs in
-          let s1 = scan_records mid.exits mid.steps set_outs in
-          let s2 = scan_records new.exits new.steps set_outs in
-          let tags = from_to (spelling_of walks was) (spelling_of walks all) in
-          but_more rules (StandsBetween t.footpaths begin k) (StandsBetween t.footpaths begin (k + 1))
-          (boardings_by rules tags hop.place hop.connection stop labels) (λ _. ⊥) walk (old.bag stop) (mid.bag stop) (new.bag stop)
-          (between_more t.footpaths begin k) (k, low, omega arith, at) (λ y. between_split t.footpaths begin k walk y at)
-          (λ y label there opened. admits label opened.1 y (Contains-At t.footpaths there.0 y there.3))
-          (before.takes walks are stop set_outs was all first_grows
-          (grows_on s1 s2 all (grown mid new set_outs (as_more mid.exits new.exits here.exits) here.steps) then_grows))
-          (here.takes walks (subst (λ (ws : List Footpath). slice_get ws k ≡ Some walk) (sym are) at) stop set_outs was all
-          (grows_on was s0 s1 first_grows (grown old mid set_outs (as_more old.exits mid.exits before.exits) before.steps)) then_grows);
-    }
+      pub bags_next : (k : ℕ) (walk : Footpath) (old mid new : KeptValue V) → begin ≤ k → At t.footpaths k walk
+          → BagsTake rules (λ walks. walks ≡ t.footpaths) (λ _. ⊥) (After k) old mid
+          → BagsTake rules (λ walks. slice_get walks k ≡ Some walk) (λ _. ⊥)
+          (λ stop tags. boardings_by rules tags hop.place hop.connection stop labels walk) mid new
+          → BagsTake rules (λ walks. walks ≡ t.footpaths) (λ _. ⊥) (After (k + 1)) old new
+      bags_next k walk old mid new low at before here = record {
+        exits = here.exits ∙ before.exits;
+        steps = extends_on old.steps mid.steps new.steps before.steps here.steps;
+        labels = λ trip. here.labels trip ∙ before.labels trip;
+        takes = λ walks are stop set_outs was all first_grows then_grows.
+            let s0 = scan_records old.exits old.steps set_outs in
+            let s1 = scan_records mid.exits mid.steps set_outs in
+            let s2 = scan_records new.exits new.steps set_outs in
+            let tags = from_to (spelling_of walks was) (spelling_of walks all) in
+            but_more rules (StandsBetween t.footpaths begin k) (StandsBetween t.footpaths begin (k + 1))
+            (boardings_by rules tags hop.place hop.connection stop labels) (λ _. ⊥) walk (old.bag stop) (mid.bag stop) (new.bag stop)
+            (between_more t.footpaths begin k) (k, low, omega arith, at) (λ y. between_split t.footpaths begin k walk y at)
+            (λ y label there opened. admits label opened.1 y (Contains-At t.footpaths there.0 y there.3))
+            (before.takes walks are stop set_outs was all first_grows
+            (grows_on s1 s2 all (grown mid new set_outs (as_more mid.exits new.exits here.exits) here.steps) then_grows))
+            (here.takes walks (subst (λ (ws : List Footpath). slice_get ws k ≡ Some walk) (sym are) at) stop set_outs was all
+            (grows_on was s0 s1 first_grows (grown old mid set_outs (as_more old.exits mid.exits before.exits) before.steps)) then_grows);
+      }
 
-    -- these are all footpaths to where a connection that passengers may board begins
-    pub bags_all : (end : ℕ) (Excused : Point V → Type 0) (old new : KeptValue V) → StandsAt t hop.place hop.connection → hop.connection.board ≡ true
-        → ((k : ℕ) (f : Footpath) → At t.footpaths k f → (f.to ≡ hop.connection.from) ↔ ((begin ≤ k) × (k < end)))
-        → BagsTake rules (λ walks. walks ≡ t.footpaths) (λ _. ⊥) (After end) old new
-        → BagsTake rules (λ walks. walks ≡ t.footpaths) (λ way. Excused way.label)
-        (λ stop tags. boardings rules t tags hop.place stop labels) old new
-    bags_all end Excused old new stands boards into taken = record {
-      exits = taken.exits;
-      steps = taken.steps;
-      labels = taken.labels;
-      takes = λ walks are stop set_outs before all first_grows then_grows.
-          let tags = from_to (spelling_of walks before) (spelling_of walks all) in
-          let each = taken.takes walks are stop set_outs before all first_grows then_grows in
-          boardings_but rules t tags hop.place hop.connection stands.is boards begin end into labels Excused stop (old.bag stop) (new.bag stop)
-          (record { only = each.only; kept = each.kept; covered = λ way opened. elim (each.covered way opened) [ inl c ↦ inl c | inr none ↦ absurd none ] });
-    }
+      -- these are all footpaths to where a connection that passengers may board begins
+      pub bags_all : (end : ℕ) (Excused : Point V → Type 0) (old new : KeptValue V) → StandsAt t hop.place hop.connection → hop.connection.board ≡ true
+          → ((k : ℕ) (f : Footpath) → At t.footpaths k f → (f.to ≡ hop.connection.from) ↔ ((begin ≤ k) × (k < end)))
+          → BagsTake rules (λ walks. walks ≡ t.footpaths) (λ _. ⊥) (After end) old new
+          → BagsTake rules (λ walks. walks ≡ t.footpaths) (λ way. Excused way.label)
+          (λ stop tags. boardings rules t tags hop.place stop labels) old new
+      bags_all end Excused old new stands boards into taken = record {
+        exits = taken.exits;
+        steps = taken.steps;
+        labels = taken.labels;
+        takes = λ walks are stop set_outs before all first_grows then_grows.
+            let tags = from_to (spelling_of walks before) (spelling_of walks all) in
+            let each = taken.takes walks are stop set_outs before all first_grows then_grows in
+            boardings_but rules t tags hop.place hop.connection stands.is boards begin end into labels Excused stop (old.bag stop) (new.bag stop)
+            (record { only = each.only; kept = each.kept; covered = λ way opened. elim (each.covered way opened) [ inl c ↦ inl c | inr none ↦ absurd none ] });
+      }
 
   module _ {O : Type 0} (t : TimetableValue) (sources : List ℕ → ℕ → List ℕ) (kept : O → ℕ → SourceValue V) (q : SetQueryValue) (hop : Hop V) where
     -- one has set out, and boarded

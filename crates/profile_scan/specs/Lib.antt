@@ -14,6 +14,7 @@ pub mod ScanRecords
 pub mod Adding
 pub mod Starts
 pub mod Hops
+pub mod FinalWalkEntries
 pub mod ScanState
 pub mod Keeping
 pub mod KeptParts

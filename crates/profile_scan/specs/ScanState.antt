@@ -1,9 +1,8 @@
 -- What the vectors of a scan keep for each stop and each trip.
 use Rattle.std.specs.Prelude.{◌≡◌, ◌⊎◌, ℕ, ◌<◌, ◌≤◌, List, length, vec_len, Contains, slice_get, slice_index, slice_index_or}
-use Rattle.std.specs.Prelude.{Option, Some, None, Bool, true, false, nat_le, map}
+use Rattle.std.specs.Prelude.{Option, Some, None, Bool, true, false, map}
 use Rattle.bags.specs.declared.point.Point.{Point}
 use Rattle.timetable.specs.declared.network.Footpath.{Footpath}
-use Rattle.timetable.specs.declared.limits.TheConstants.{MAX_WALK_SECS}
 use Rattle.timetable.specs.TimetableValue.{TimetableValue}
 use Rattle.bags.specs.Dominance.{IsCovered}
 use Rattle.criteria.specs.Laws.{Rules, Admits}
@@ -19,7 +18,8 @@ use Rattle.profile_scan.specs.declared.last_offers.LastOffer.{LastOffer}
 use Rattle.profile_scan.specs.declared.stops.Stops.{Stops}
 use Rattle.profile_scan.specs.declared.scan.State.{State}
 use Rattle.profile_scan.specs.declared.final_walks.FinalWalk.{FinalWalk}
-use Rattle.profile_scan.specs.declared.final_walks.FinalWalks.{FinalWalks}
+use Rattle.profile_scan.specs.declared.final_walk_table.FinalWalks.{FinalWalks}
+use Rattle.profile_scan.specs.FinalWalkEntries.{is_walk}
 
 -- the points of a stop's list
 abbrev pub points_at : {K V : Type 0} → Stops K V → ℕ → List (Point V)
@@ -51,13 +51,13 @@ abbrev pub IsDirectSecs : TimetableValue → ℕ → ℕ → Option ℕ → Type
 IsDirectSecs t target stop None = (f : Footpath) → Contains t.footpaths f → f.from ≡ stop → f.to ≡ target → ⊥
 IsDirectSecs t target stop (Some secs) = Contains t.footpaths (record { from = stop; to = target; secs = secs })
 
--- what an entry says: a way, or that there is none, if its seconds are more than a footpath takes
+-- what an entry says: a way, or that there is none
 abbrev pub final_walk_if : Bool → FinalWalk → Option FinalWalk
 final_walk_if true entry = Some entry
 final_walk_if false entry = None
 
 abbrev pub final_walk_in : FinalWalk → Option FinalWalk
-final_walk_in entry = final_walk_if (nat_le entry.secs MAX_WALK_SECS) entry
+final_walk_in entry = final_walk_if (is_walk entry) entry
 
 -- the way from each stop
 abbrev pub final_walks_of : FinalWalks → List (Option FinalWalk)

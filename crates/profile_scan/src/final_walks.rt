@@ -4,8 +4,10 @@ ghost use Rattle.std.specs.Prelude.{◌≡◌, ◌+◌, ◌<◌, ℕ, IfOk, Cont
 ghost use Rattle.std.specs.Prelude.{slice_index_or};
 ghost use Rattle.criteria.specs.Laws.{IsSecs};
 ghost use Rattle.profile_scan.specs.ScanState.{AreFinalWalks, final_walk_in, final_walks_of};
+ghost use Rattle.profile_scan.specs.FinalWalkEntries.{is_walk};
 ghost use Rattle.profile_scan.specs.Nearest.{AreNearest, IsDoneTo, Replaces, TakesWalk, shorter_of};
 
+use crate::final_walk_table::FinalWalks;
 use fronts::copies;
 use sources::ConnSource;
 use std::alloc::{AllocError, Global};
@@ -19,14 +21,11 @@ pub struct FinalWalk {
     pub secs: u32,
 }
 
-/// For each stop the footpath from there to the nearest target, if there is one; for a target this is its loop. Each
-/// stop has an entry, also if no footpath leads from there to a target: so a scan, which looks one up at each
-/// connection, finds it by the stop's number.
-#[derive(Drop)]
-pub struct FinalWalks {
-    // a stop without such a footpath has an entry with more seconds than a footpath can take
-    entries: Vec<FinalWalk>,
-}
+// No footpath takes as long.
+const NO_WALK: FinalWalk = FinalWalk {
+    to: 0,
+    secs: u32::MAX,
+};
 
 impl FinalWalks {
     ghost use Rattle.std.specs.Prelude.{◌≡◌, ◌<◌, ℕ, Contains, None, length, slice_index_or};
@@ -39,6 +38,9 @@ impl FinalWalks {
         requires { stop < length (final_walks_of self.now) }
         ensures { final_walk_in result ≡ slice_index_or (final_walks_of self.now) stop None }
     {
+        if !self.ends[stop as usize] {
+            return NO_WALK;
+        }
         self.entries[stop as usize]
     }
 
@@ -158,6 +160,17 @@ fn take_target<S: ConnSource>(source: &S, targets: &[u32], k: usize, entries: &m
     }
 }
 
+// Whether each entry is a footpath.
+fn which_are_walks(alloc: Global, entries: &[FinalWalk]) -> Result<Vec<bool>, AllocError>
+    ensures { IfOk result (λ ends. ends.items ≡ map is_walk entries.now) }
+{
+    let mut ends = Vec::with_capacity(alloc, entries.len())?;
+    for k in 0..entries.len() {
+        ends.push(entries[k].secs <= MAX_WALK_SECS)?;
+    }
+    Ok(ends)
+}
+
 /// Finds for each stop the footpath from it to the nearest target, if there is one.
 pub fn final_walks_to<S: ConnSource>(
     alloc: Global,
@@ -168,14 +181,10 @@ pub fn final_walks_to<S: ConnSource>(
     ensures { IfOk result (λ final_walks. AreFinalWalks (S.timetable source.now) targets.now
         (final_walks_of final_walks)) }
 {
-    // no footpath takes as long
-    let none = FinalWalk {
-        to: 0,
-        secs: u32::MAX,
-    };
-    let mut entries = copies(alloc, none, source.stops() as usize)?;
+    let mut entries = copies(alloc, NO_WALK, source.stops() as usize)?;
     for k in 0..targets.len() {
         take_target(source, targets, k, &mut entries);
     }
-    Ok(FinalWalks { entries })
+    let ends = which_are_walks(alloc, &entries)?;
+    Ok(FinalWalks { entries, ends })
 }

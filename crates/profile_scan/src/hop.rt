@@ -1,6 +1,7 @@
 //! What a scan is asked, and one connection of it.
 
-use crate::final_walks::{FinalWalk, FinalWalks};
+use crate::final_walk_table::FinalWalks;
+use crate::final_walks::FinalWalk;
 use crate::set_query::SetQuery;
 use crate::starts::{Starts, StopAccess};
 use timetable::Connection;

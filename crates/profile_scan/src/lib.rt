@@ -81,6 +81,7 @@ mod by_trips;
 mod by_trips_taking;
 mod destination;
 mod destinations;
+mod final_walk_table;
 mod final_walks;
 mod found;
 mod found_between;

@@ -11,8 +11,7 @@ returns-then-front_len-eq0 c = (
 
 pub returns : goal.returns
 returns c =
-    let p = c.front_point-point.result in
-    (
+    let p = c.front_point-point.result in (
       refl,
       shows_one c.args.lists.now c.requires.sound c.args.entry _ p c.requires.within c.front_point-point.ensures
           (ap (λ n. record { departure = p.departure; value = p.value; tag = n }) (sym c.in_ok-tag.ensures)),

@@ -5,7 +5,7 @@ use Rattle.profile_scan.specs.ScanState.{final_walks_of}
 use Rattle.profile_scan.specs.Nearest.{IsShortestWalk, shorter_of}
 use Rattle.profile_scan.specs.declared.final_walks.FinalWalk.{FinalWalk}
 use Rattle.profile_scan.proofs.FinalWalkLemmas.{shortest_more}
-use Rattle.profile_scan.proofs.final_walks.FinalWalks.direct_walk.Goals as goal
+use Rattle.profile_scan.proofs.final_walk_table.FinalWalks.direct_walk.Goals as goal
 
 pub loop-k-init : goal.loop-k-init
 loop-k-init c = λ k stop lt at. absurd (omega (arith, lt))
