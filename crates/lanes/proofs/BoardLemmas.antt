@@ -89,3 +89,18 @@ least_are words behind new are are_behind long least = record {
         | inr higher ↦ let x = are_behind.times k lt (omega (arith, p, higher, less)) in omega (arith, p, higher, x)
       ];
 }
+
+-- lanes none of which is less than the bound's word of one trip more
+pub all_outdone : (times : List ℕ) (tag : ℕ → ℕ) → AreLanes 8 times → (bound : List ℕ) → AreLanes 9 bound
+    → ((k : ℕ) → k < 8 → slice_index bound (k + 1) ≤ slice_index times k)
+    → (l : Label TimeTrips) → Contains (lane_labels tag times) l → IsOutdone (lane_labels (λ _. 0) bound) l.value
+all_outdone times tag are bound are_bound each l is =
+    let s = stands tag times l is in
+    let at = s.at in
+    let below = s.below in
+    let long = are.long in
+    let bound_long = are_bound.long in
+    let k = l.value.trips in
+    let lt : k < 8 = omega (arith, below, long) in
+    let e = each k lt in
+    beaten_at (λ _. 0) bound (trip_rules.ride l.value) (k + 1) (omega (arith, lt, bound_long)) (omega (arith, lt)) (omega (arith, e, at)) s.less

@@ -1,8 +1,8 @@
 -- What labels of trips become by an offer.
-use Rattle.std.specs.Prelude.{Option, Some, None, ◌≡◌, ◌⊎◌, ◌+◌, ℕ, List, [], ◌∷◌, Contains, slice_get, length}
+use Rattle.std.specs.Prelude.{◌≡◌, ◌⊎◌, ◌+◌, ℕ, List, [], ◌∷◌, Contains, slice_get, length}
 use Rattle.criteria.specs.declared.arrival_trips.TimeTrips.{TimeTrips}
 use Rattle.fronts.specs.declared.labels.Label.{Label}
-use Rattle.lanes.specs.Lanes.{trip_rules, IsBeaten, IsOutdone, lane_labels}
+use Rattle.lanes.specs.Lanes.{IsBeaten, IsOutdone, lane_labels}
 use Rattle.lanes.specs.LanesWithTags.{labels_in}
 use Rattle.lanes.specs.declared.trip_lanes.TripLanes.{TripLanes}
 use Rattle.lanes.specs.declared.trip_lanes.Taken.{Taken}

@@ -3,7 +3,7 @@
 ghost use Rattle.std.specs.Prelude.{◌≡◌, min, nat_lt, slice_index};
 ghost use Rattle.lanes.specs.LanesWithTags.{AreAllTagged, AreMarked};
 
-use crate::words::{NEVER, Words, are_news, least_of, retagged};
+use crate::words::{NEVER, Words, are_below, are_news, least_of, retagged};
 use criteria::TimeTrips;
 use fronts::{Label, copies};
 use std::alloc::{AllocError, Global};
@@ -37,9 +37,9 @@ pub struct TripLanes {
 }
 
 impl TripLanes {
-    ghost use Rattle.std.specs.Prelude.{◌≡◌, ◌<◌, ◌+◌, ◌≤◌, [], ℕ, IfOk, OnOk, false, true, slice_get, Some};
+    ghost use Rattle.std.specs.Prelude.{◌≡◌, ◌<◌, ◌+◌, ◌≤◌, [], ℕ, Contains, IfOk, OnOk, false, true, slice_get, Some};
     ghost use Rattle.criteria.specs.Laws.{IsTime};
-    ghost use Rattle.lanes.specs.Lanes.{IsBeaten};
+    ghost use Rattle.lanes.specs.Lanes.{IsBeaten, IsOutdone};
     ghost use Rattle.lanes.specs.TripLanes.{labels_at, trips_of, front_labels, offered_by, ending, IsTaken};
 
     /// Makes `count` trips without labels.
@@ -79,6 +79,16 @@ impl TripLanes {
         ensures { result ≡ false → labels_at self.now trip ≡ [] }
     {
         self.labelled[trip as usize]
+    }
+
+    /// Returns false only if the trip has no labels but those that the bound outdoes.
+    #[inline(always)]
+    pub fn may_board(&self, trip: u32, bound: &Words) -> bool
+        requires { trip < trips_of self.now }
+        ensures { result ≡ false → (l : _) → Contains (labels_at self.now trip) l
+            → IsOutdone (front_labels bound.now) l.value }
+    {
+        are_below(&self.lanes[trip as usize].times, &bound.times)
     }
 
     /// Whether one of a trip's labels is no worse than a value of at least seven trips.

@@ -160,6 +160,20 @@ pub fn are_boarding(times: &[u32; 8], front: &[u32; 9], bound: &[u32; 9]) -> boo
     any
 }
 
+/// Whether a lane, with one trip more, is less than the word of a bound.
+#[inline(always)]
+pub fn are_below(times: &[u32; 8], bound: &[u32; 9]) -> bool
+    ensures { MatchBool result
+        ((k : ℕ) × (k < 8) × (slice_index times.now k < slice_index bound.now (k + 1)))
+        ((k : ℕ) → k < 8 → slice_index bound.now (k + 1) ≤ slice_index times.now k) }
+{
+    let mut any = false;
+    for k in 0..8 {
+        any |= times[k] < bound[k + 1];
+    }
+    any
+}
+
 /// The words of a front, or the lane of one trip less where that is less.
 #[inline(always)]
 pub fn boarded(times: &[u32; 8], front: &[u32; 9]) -> [u32; 9]

@@ -1,5 +1,5 @@
 -- Passengers board with the labels of a trip in lanes.
-use Rattle.std.proofs.Common.{◌≡◌, ℕ, suc, ◌+◌, ◌-◌, ◌<◌, ◌≤◌, List, [], ◌∷◌, Some, slice_get, inl, inr, refl, sym, ap, ◌∙◌, subst, arith}
+use Rattle.std.proofs.Common.{◌≡◌, ℕ, suc, ◌+◌, ◌-◌, ◌<◌, ◌≤◌, List, [], ◌∷◌, Contains, Some, slice_get, inl, inr, refl, sym, ap, ◌∙◌, subst, arith}
 use Rattle.std.proofs.Common.{min, nat_le, nat_lt, true, false, ◌↔◌}
 use Rattle.std.proofs.lemmas.Bool.{cases_eq, and_parts, and_from, le-leb, true≢false}
 use Rattle.reasoning.specs.Lists.{Extends}
@@ -14,7 +14,7 @@ use Rattle.timetable.specs.Legal.{At}
 use Rattle.timetable.specs.declared.network.Connection.{Connection}
 use Rattle.fronts.specs.declared.entry.Boarding.{Boarding}
 use Rattle.fronts.specs.declared.labels.Label.{Label}
-use Rattle.lanes.specs.Lanes.{trip_rules}
+use Rattle.lanes.specs.Lanes.{trip_rules, IsOutdone}
 use Rattle.lanes.specs.TripLanes.{front_labels, labels_at}
 use Rattle.lanes.specs.StopLanes.{IsBoardedAt, entries_of, points_at, steps_of, stops_of, tags_at}
 use Rattle.lanes.specs.declared.stop_lanes.StopLanes.{StopLanes}
@@ -234,6 +234,23 @@ module _ (t : TimetableValue) (q : SetQueryValue) (known : Starts) (hop : Hop Ti
         (boardings trip_rules t (from_to (spelling_of t.footpaths before) (spelling_of t.footpaths all)) hop.place stop
         (label_points (labels_at old.trips hop.connection.trip))) (points_at old.stops stop)
         (λ way may. true≢false (sym may.boards ∙ subst (λ (x : Connection). x.board ≡ false) can.hop.stands.is closed));
+  }
+
+  -- the bound outdoes all labels of the trip
+  pub all_excluded : ((l : Label TimeTrips) → Contains (labels_at old.trips hop.connection.trip) l → IsOutdone (front_labels old.bound) l.value)
+      → LaneBoardsHop t hop old old
+  all_excluded outdone = record {
+    are = can.are;
+    trips = refl;
+    writes = record { exits = extends_none (value_of old).exits; steps = extends_none (value_of old).steps };
+    takes = λ stop set_outs before all first_grows then_grows. record {
+      only = λ p h. inl h;
+      kept = λ d v a c. c;
+      covered = λ way may.
+          let l = from_map as_point (labels_at old.trips hop.connection.trip) way.label may.is_label in
+          inr (subst (λ (p : Point TimeTrips). Excludes trip_rules hop.bound.now p.value) l.2
+          (can.are.excludes l.0.value (label_admits old.trips hop.connection.trip l.0 l.1) (outdone l.0 l.1)));
+    };
   }
 
   pub hop_boarded : hop.connection.board ≡ true → (begin end : ℕ)

@@ -76,9 +76,6 @@ impl Keeping<ArrivalTrips> for ByTrips {
     ) -> Result<(), AllocError> {
         self.lanes.renew(hop);
         self.alight(asked, hop)?;
-        if !self.has_labels(hop.connection.trip) {
-            return Ok(());
-        }
         self.set_out(asked, source, hop, origin)?;
         self.board(asked, source, hop)?;
         Ok(())

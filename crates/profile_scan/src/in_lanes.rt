@@ -191,7 +191,8 @@ impl InLanes {
         Ok(())
     }
 
-    /// Boards the hop's connection, if passengers may get on there.
+    /// Boards the hop's connection, if passengers may get on there. Mostly the bound outdoes all labels of its trip, or the
+    /// trip has none, and then nothing more is read.
     #[inline(always)]
     pub fn board<S: ConnSource>(
         &mut self,
@@ -203,6 +204,9 @@ impl InLanes {
         ensures { OnOk result (LaneBoardsHop (S.timetable source.now) hop.now self.old self.new) }
     {
         if !hop.connection.board {
+            return Ok(());
+        }
+        if !self.trips.may_board(hop.connection.trip, &self.bound) {
             return Ok(());
         }
         let (begin, end) = source.walks_into(hop.connection.from as usize);

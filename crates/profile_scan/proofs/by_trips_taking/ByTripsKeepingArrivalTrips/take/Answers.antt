@@ -7,7 +7,7 @@ use Rattle.profile_scan.specs.Keeping.{Leaves}
 use Rattle.profile_scan.specs.ByTrips.{AreByTrips, value_by_trips}
 use Rattle.profile_scan.specs.declared.by_trips.ByTrips.{ByTrips}
 use Rattle.profile_scan.proofs.PartLemmas.{hop_within}
-use Rattle.profile_scan.proofs.ByTripsTaken.{admits_kept, as_counted, can_leave, can_renew, labels_admitted, nobody_goes_on}
+use Rattle.profile_scan.proofs.ByTripsTaken.{admits_kept, as_counted, can_leave, can_renew, labels_admitted}
 use Rattle.profile_scan.proofs.ByTripsTaken.{renewed_are, renewed_value, went_on}
 use Rattle.profile_scan.proofs.by_trips_taking.ByTripsKeepingArrivalTrips.take.Given as given
 use Rattle.profile_scan.proofs.by_trips_taking.ByTripsKeepingArrivalTrips.take.Goals.{In_ok-alight}
@@ -45,11 +45,6 @@ mid_leaves g c =
     (renewed_value t.stops t.trips c.requires.bound c.args.hop.now.bound.now c.args.self.now c.requires.keeping.are c.renew.new.self c.renew.ensures)
     c.in_ok-alight.ensures.leaves
 
-pub has_labels-requires : goal.has_labels-requires
-has_labels-requires g c =
-    let are = mid_are g (goal.at.has_labels-requires g c).In_ok-alight in
-    subst (λ (n : ℕ). c.args.hop.now.connection.trip < n) (sym are.in_lanes.trips_are) c.requires.hop.on_trip
-
 pub set_out-requires-clause-trip : goal.set_out-requires-clause-trip
 set_out-requires-clause-trip g c =
     let are = mid_are g (goal.at.set_out-requires-clause-trip g c).In_ok-alight in
@@ -81,21 +76,4 @@ returns g c =
       leaves = mid_leaves g point;
       goes_on = went_on t g.O.AtSource.sources g.O.AtSource.kept (question c.args.asked.now.query) hop c.alight.new.self c.board.new.self
           c.args.origin.now c.set_out.new.origin c.in_ok-set_out.ensures.set_outs c.in_ok-set_out.ensures.takes boards;
-    }
-
--- the trip has no labels
-pub returns-then-not-has_labels : goal.returns-then-not-has_labels
-returns-then-not-has_labels g c =
-    let point = (goal.at.returns-then-not-has_labels g c).In_ok-alight in
-    let t = g.S.ConnSource.timetable c.args.source.now in
-    let hop = c.args.hop.now in
-    let mid = c.alight.new.self in
-    let are = mid_are g point in
-    record {
-      keeping = record { are = are; admitted = admits_kept t.stops t.trips hop.bound.now mid are };
-      source = c.requires.source;
-      between = value_by_trips mid;
-      leaves = mid_leaves g point;
-      goes_on = nobody_goes_on t g.O.AtSource.sources g.O.AtSource.kept (question c.args.asked.now.query) hop mid c.args.origin.now
-          (c.has_labels.ensures c.if-not-has_labels.true);
     }

@@ -1,12 +1,21 @@
+use Rattle.std.proofs.Common.{◌<◌, ℕ, sym, subst}
 use Rattle.profile_scan.specs.SetQuery.{question}
 use Rattle.profile_scan.proofs.BoardLemmas.{walks_into_it}
-use Rattle.profile_scan.proofs.LanesBoarded.{hop_boarded, not_boarded}
+use Rattle.profile_scan.proofs.LanesBoarded.{all_excluded, hop_boarded, not_boarded}
 use Rattle.profile_scan.proofs.in_lanes.InLanes.board.Goals as goal
 
 pub returns-then-not-hop : goal.returns-then-not-hop
 returns-then-not-hop g c =
     not_boarded (g.S.ConnSource.timetable c.args.source.now) (question c.args.asked.now.query) c.args.asked.now.starts c.args.hop.now c.args.self.now c.requires
     c.if-not-hop.true
+
+pub may_board-requires : goal.may_board-requires
+may_board-requires g c = subst (λ (n : ℕ). c.args.hop.now.connection.trip < n) (sym c.requires.are.trips_are) c.requires.hop.on_trip
+
+pub returns-then-not-may_board : goal.returns-then-not-may_board
+returns-then-not-may_board g c =
+    all_excluded (g.S.ConnSource.timetable c.args.source.now) (question c.args.asked.now.query) c.args.asked.now.starts c.args.hop.now c.args.self.now
+    c.requires (c.may_board.ensures c.if-not-may_board.true)
 
 pub walks_into-begin-requires : goal.walks_into-begin-requires
 walks_into-begin-requires g c = c.requires.hop.begins
