@@ -36,13 +36,14 @@ use Rattle.profile_scan.specs.Bound.{Excludes, ExcludesMore, any_no_worse}
 use Rattle.profile_scan.specs.Adding.{AreRidden, IsEnding, StandsBetween, boardings_after, boardings_by, changes_from, each_of, endings, label_points, one_way}
 use Rattle.profile_scan.specs.ScanRecords.{IsExit, ScanRecords, Grows, scan_records, spelling_of}
 use Rattle.profile_scan.specs.Hops.{StandsAt}
-use Rattle.profile_scan.specs.Keeping.{AdmitsKept}
+use Rattle.profile_scan.specs.Keeping.{AdmitsKept, IsIdle}
 use Rattle.profile_scan.specs.KeptParts.{BagsTake}
 use Rattle.profile_scan.specs.ByArrival.{AreByArrival, AreUnderByArrival, BoardsByArrival, BoundExcludes, CanBoardAfterByArrival, CanLeaveByArrival, CanRenewByArrival, IsBestFrom, IsFirst}
 use Rattle.profile_scan.specs.ByArrival.{IsLikeByArrival, RelabelsByArrival, RenewsByArrival, ShowsFront, arrival_rules, arrival_rules_of, as_point, heads_of}
 use Rattle.profile_scan.specs.ByArrival.{label_if, label_in, labels_of, never, ridden_point, stops_of, trips_of, value_by_arrival}
 use Rattle.profile_scan.specs.declared.by_arrival.ByArrival.{ByArrival}
 use Rattle.profile_scan.specs.declared.by_arrival.FirstPoint.{FirstPoint}
+use Rattle.profile_scan.specs.declared.final_walks.FinalWalk.{FinalWalk}
 use Rattle.profile_scan.specs.declared.hop.Hop.{Hop}
 use Rattle.profile_scan.specs.declared.scan_records.Exit.{Exit}
 use Rattle.profile_scan.specs.declared.scan_records.Exit.TheVariants.{Changes, Ends}
@@ -356,6 +357,23 @@ module _ (hop : Hop ℕ) (old : ByArrival) (are : AreByArrival old) (excludes : 
           takes)
           taken.takes;
     }
+
+-- a connection adds nothing whose trip has no label, and whose stop no point that isn't excluded
+module _ (kept : ByArrival) (are : AreByArrival kept) (values : List ℕ) (excludes : BoundExcludes values kept) where
+  pub is_idle : (trip stop : ℕ) (l : Label ℕ) (first : FirstPoint) → slice_get kept.labels.items trip ≡ Some l
+      → slice_get kept.firsts.items stop ≡ Some first → never ≤ l.value → kept.bound ≤ first.time
+      → (c : Connection) (way : Option FinalWalk) → way ≡ None
+      → IsIdle arrival_rules values c way ((value_by_arrival kept).labels trip) ((value_by_arrival kept).bag stop)
+  is_idle trip stop l first at there none late c way no_way = record {
+    no_labels = ap label_points (labels_are kept trip l at ∙ lacks_label l none);
+    leads_nowhere = λ alights. (
+      no_way,
+      λ p h.
+          let is = subst (λ ps. Contains ps p) (ap (list_points kept.lists) (head_at kept.firsts.items stop first there)) h in
+          let least = (are.firsts stop first there).best.least p is (omega arith) in
+          excludes p.value ((admits_kept kept are).bags stop p h) (omega (arith, late, least)),
+    );
+  }
 
 -- a ridden value stands for one label
 alone : (ride : RiddenLabel ℕ) → AreRidden arrival_rules (ridden_point ride ∷ []) (ride ∷ [])

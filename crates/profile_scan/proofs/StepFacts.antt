@@ -1,8 +1,8 @@
 -- If the same is kept, the same matches; and if nothing is offered, nothing changes.
-use Rattle.std.proofs.Common.{◌≡◌, ◌<◌, ℕ, List, [], length, Contains, Option, None, refl, sym, ap, subst, arith}
+use Rattle.std.proofs.Common.{◌≡◌, ◌<◌, ℕ, List, [], length, Contains, Option, None, ◌+◌, inl, inr, refl, sym, ap, subst, arith}
 use Rattle.timetable.specs.Legal.{IsLegal}
 use Rattle.timetable.proofs.LegalLemmas.{connection_at-stands}
-use Rattle.criteria.specs.Laws.{Rules}
+use Rattle.criteria.specs.Laws.{Rules, Laws, Admits}
 use Rattle.bags.specs.declared.point.Point.{Point}
 use Rattle.timetable.specs.declared.network.Connection.{Connection}
 use Rattle.timetable.specs.TimetableValue.{TimetableValue}
@@ -12,9 +12,13 @@ use Rattle.profile_scan.specs.Values.{journey_value}
 use Rattle.profile_scan.specs.Continuations.{IsOnward, CountsFrom, onward_value, aboard_value}
 use Rattle.profile_scan.specs.Plain.{IsPlainOnward, IsPlainAboard, IsPlainOf}
 use Rattle.profile_scan.specs.Matching.{Spelling, from_to, ScanValue, Matches, MatchesBut, MatchesFrom, IsLabelled, IsOutdone}
-use Rattle.profile_scan.specs.Steps.{Leaving, ends, ends_after, changes, MayLeave, leavings, boardings, settings_out, IsIdle, IsStep}
+use Rattle.profile_scan.specs.Steps.{Leaving, ends, ends_after, changes, MayLeave, MayNotChange, IsOutdoneRidden, boardings, settings_out, IsStep}
+use Rattle.profile_scan.specs.Bound.{AreBounds}
+use Rattle.profile_scan.specs.Keeping.{IsIdle}
 use Rattle.profile_scan.specs.ScanState.{IsFinalWalk}
 use Rattle.profile_scan.specs.declared.final_walks.FinalWalk.{FinalWalk}
+use Rattle.profile_scan.proofs.Admitted.{AreAdmitted}
+use Rattle.profile_scan.proofs.BoundLemmas.{outdone_by_bounds}
 use Rattle.profile_scan.proofs.Offers.{takes_but, takes_none}
 use Rattle.profile_scan.proofs.StepLemmas.{keeps_none}
 
@@ -45,27 +49,35 @@ none_in : {X : Type 0} (xs : List X) → xs ≡ [] → (x : X) → Contains xs x
 none_in xs e x h = let long = ap length e in omega (arith, h.1, long)
 
 no_leave : {V : Type 0} (t : TimetableValue) (q : SetQueryValue) (i : ℕ) (bag : List (Point V)) (way : Option FinalWalk)
-    → IsFinalWalk t q.targets (connection_at t i).to way → (way ≡ None) × (bag ≡ [])
-    → (leaving : Leaving V) → MayLeave t q i bag leaving → ⊥
-no_leave t q i bag way is none ends may = (subst (IsFinalWalk t q.targets (connection_at t i).to) none.0 is).0 may.0
-no_leave t q i bag way is none (ends_after f) may = (subst (IsFinalWalk t q.targets (connection_at t i).to) none.0 is).1 f may.0 may.1 may.2
-no_leave t q i bag way is none (changes p) may = none_in bag none.1 p may.0
+    → IsFinalWalk t q.targets (connection_at t i).to way → way ≡ None → (Excused : V → Type 0)
+    → ((p : Point V) → Contains bag p → Excused p.value)
+    → (leaving : Leaving V) → MayLeave t q i bag leaving → MayNotChange Excused leaving
+no_leave t q i bag way is none Excused excused ends may = (subst (IsFinalWalk t q.targets (connection_at t i).to) none is).0 may.0
+no_leave t q i bag way is none Excused excused (ends_after f) may = (subst (IsFinalWalk t q.targets (connection_at t i).to) none is).1 f may.0 may.1 may.2
+no_leave t q i bag way is none Excused excused (changes p) may = excused p may.0
 
 -- where nothing is offered, all stays
-step_idle : {V : Type 0} (rules : Rules V) (t : TimetableValue) (q : SetQueryValue) (a : Spelling) (i : ℕ) (scan : ScanValue V)
-    (way : Option FinalWalk) → IsFinalWalk t q.targets (connection_at t i).to way
-    → IsIdle (connection_at t i) way (scan.labels (connection_at t i).trip) (scan.bag (connection_at t i).to)
+step_idle : {V : Type 0} (rules : Rules V) (laws : Laws rules) (t : TimetableValue) (q : SetQueryValue) (a : Spelling) (i : ℕ) (scan : ScanValue V)
+    (values : List V) → AreAdmitted rules scan.found → AreBounds rules t scan.found (i + 1) values
+    → ((p : Point V) → Contains (scan.bag (connection_at t i).to) p → Admits rules p.value)
+    → (way : Option FinalWalk) → IsFinalWalk t q.targets (connection_at t i).to way
+    → IsIdle rules values (connection_at t i) way (scan.labels (connection_at t i).trip) (scan.bag (connection_at t i).to)
     → IsStep rules t q (from_to a a) i scan scan
-step_idle rules t q a i scan way is idle =
+step_idle {V} rules laws t q a i scan values found_admitted bounds admitted way is idle =
     let trip = (connection_at t i).trip in
     let stop = (connection_at t i).to in
     record {
       between = a;
       kept_first = keeps_none a;
       kept_then = keeps_none a;
-      leaves = takes_but rules _ (leavings rules t q (from_to a a) i (scan.bag stop)) (scan.labels trip) (scan.labels trip)
-          (takes_none rules (leavings rules t q (from_to a a) i (scan.bag stop)) (scan.labels trip)
-          (λ leaving opened. no_leave t q i (scan.bag stop) way is (idle.leads_nowhere opened.0) leaving opened.1));
+      leaves = record {
+        only = λ p h. inl h;
+        kept = λ d v admits c. c;
+        covered = λ leaving opened.
+            let nowhere = idle.leads_nowhere opened.0 in
+            inr (no_leave t q i (scan.bag stop) way is nowhere.0 (IsOutdoneRidden rules t scan.found i)
+            (λ p h. outdone_by_bounds rules laws t scan.found found_admitted i values bounds p.value (admitted p h) (nowhere.1 p h)) leaving opened.1);
+      };
       other_trips = λ k other. refl;
       boards = λ k lt. takes_but rules _ (boardings rules t (from_to a a) i k (scan.labels trip)) (scan.bag k) (scan.bag k)
           (takes_none rules (boardings rules t (from_to a a) i k (scan.labels trip)) (scan.bag k)
@@ -75,12 +87,15 @@ step_idle rules t q a i scan way is idle =
     }
 
 -- the same, of the connection by another name
-pub step_idle_at : {V : Type 0} (rules : Rules V) (t : TimetableValue) (q : SetQueryValue) (a : Spelling) (i : ℕ)
-    (scan : ScanValue V) (way : Option FinalWalk) (c : Connection) → c ≡ connection_at t i → IsFinalWalk t q.targets c.to way
-    → IsIdle c way (scan.labels c.trip) (scan.bag c.to) → IsStep rules t q (from_to a a) i scan scan
-step_idle_at rules t q a i scan way c e is idle =
-    step_idle rules t q a i scan way (subst (λ (x : Connection). IsFinalWalk t q.targets x.to way) e is)
-    (subst (λ (x : Connection). IsIdle x way (scan.labels x.trip) (scan.bag x.to)) e idle)
+pub step_idle_at : {V : Type 0} (rules : Rules V) (laws : Laws rules) (t : TimetableValue) (q : SetQueryValue) (a : Spelling) (i : ℕ)
+    (scan : ScanValue V) (values : List V) → AreAdmitted rules scan.found → AreBounds rules t scan.found (i + 1) values
+    → ((stop : ℕ) (p : Point V) → Contains (scan.bag stop) p → Admits rules p.value)
+    → (way : Option FinalWalk) (c : Connection) → c ≡ connection_at t i → IsFinalWalk t q.targets c.to way
+    → IsIdle rules values c way (scan.labels c.trip) (scan.bag c.to) → IsStep rules t q (from_to a a) i scan scan
+step_idle_at rules laws t q a i scan values found_admitted bounds admitted way c e is idle =
+    step_idle rules laws t q a i scan values found_admitted bounds (admitted (connection_at t i).to) way
+    (subst (λ (x : Connection). IsFinalWalk t q.targets x.to way) e is)
+    (subst (λ (x : Connection). IsIdle rules values x way (scan.labels x.trip) (scan.bag x.to)) e idle)
 
 -- where a connection of a legal timetable begins and ends, and its trip, are of that timetable
 module _ (t : TimetableValue) (legal : IsLegal t) (i : ℕ) (in_i : i < length t.connections) (c : Connection) (is : c ≡ connection_at t i) where

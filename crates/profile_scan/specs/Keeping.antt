@@ -1,7 +1,8 @@
 -- What one connection makes of what a scan keeps of trips and stops, in whatever form.
-use Rattle.std.specs.Prelude.{◌≡◌, ◌≢◌, ◌<◌, ℕ, List, [], Contains, true}
+use Rattle.std.specs.Prelude.{◌≡◌, ◌≢◌, ◌<◌, ℕ, List, [], Contains, true, Option, None}
 use Rattle.criteria.specs.Laws.{Rules, Admits}
 use Rattle.bags.specs.declared.point.Point.{Point}
+use Rattle.timetable.specs.declared.network.Connection.{Connection}
 use Rattle.timetable.specs.declared.network.Footpath.{Footpath}
 use Rattle.timetable.specs.TimetableValue.{TimetableValue}
 use Rattle.fronts.specs.Front.{Extends}
@@ -13,6 +14,7 @@ use Rattle.profile_scan.specs.Bound.{Excludes, ExcludesMore}
 use Rattle.profile_scan.specs.Adding.{NoChange, endings_and_changes, only_if}
 use Rattle.profile_scan.specs.ScanRecords.{KeptValue, SourceValue, spelled_by}
 use Rattle.profile_scan.specs.Hops.{IsHopOf}
+use Rattle.profile_scan.specs.declared.final_walks.FinalWalk.{FinalWalk}
 use Rattle.profile_scan.specs.declared.hop.Hop.{Hop}
 use Rattle.profile_scan.specs.declared.hop.ScanQuery.{ScanQuery}
 use Rattle.profile_scan.specs.declared.scan_records.SetOut.{SetOut}
@@ -38,6 +40,12 @@ pub record HasTripAndStop {K L V : Type 0} (IsUnder : K → ℕ → ℕ → List
   pub under : IsUnder criterion stops trips bound kept
   pub trip : of_trip < trips
   pub stop : of_stop < stops
+
+-- a connection at which nothing is offered but what these values exclude: its trip has no labels, and who gets off is neither at a target nor a footpath
+-- away, and finds at the stop only points that they exclude
+pub record IsIdle {V : Type 0} (rules : Rules V) (values : List V) (c : Connection) (way : Option FinalWalk) (labels bag : List (Point V)) : Type 0 where
+  pub no_labels : labels ≡ []
+  pub leads_nowhere : c.alight ≡ true → (way ≡ None) × ((p : Point V) → Contains bag p → Excludes rules values p.value)
 
 -- exits and steps are only added
 pub record WritesOn {V : Type 0} (old new : KeptValue V) : Type 0 where

@@ -11,7 +11,6 @@ use Rattle.profile_scan.specs.SetQuery.{SetQueryValue}
 use Rattle.profile_scan.specs.Values.{started}
 use Rattle.profile_scan.specs.Points.{Covers}
 use Rattle.profile_scan.specs.Continuations.{Onward, Aboard}
-use Rattle.profile_scan.specs.declared.final_walks.FinalWalk.{FinalWalk}
 use Rattle.profile_scan.specs.Matching.{Spelling, Spellings, Keeps, from_to, IsOutdone, ScanValue}
 
 -- an offer to a list of points. Each element of A is something that could be offered; `is_open` says which are; the other fields give the point's departure,
@@ -174,9 +173,3 @@ pub record IsStep {V : Type 0} (rules : Rules V) (t : TimetableValue) (q : SetQu
       (boardings rules t (from_to between tags.later) i stop (new.labels (connection_at t i).trip)) (old.bag stop) (new.bag stop)
   pub sets_out : TakesIn rules
       (settings_out rules t q (from_to between tags.later) i (new.labels (connection_at t i).trip)) old.found new.found
-
--- a connection at which nothing is offered: its trip has no labels, and who gets off is neither at a target nor a footpath away, and finds no point at the stop
-pub record IsIdle {V : Type 0} (c : Connection) (way : Option FinalWalk)
-    (labels bag : List (Point V)) : Type 0 where
-  pub no_labels : labels ≡ []
-  pub leads_nowhere : c.alight ≡ true → (way ≡ None) × (bag ≡ [])

@@ -30,6 +30,21 @@ pub struct FirstPoint {
     pub head: u32,
 }
 
+impl FirstPoint {
+    ghost use Rattle.std.specs.Prelude.{◌≡◌, ◌<◌, if◌then◌else◌, nat_lt};
+
+    /// Its time, or `NEVER` if a bound excludes it.
+    #[inline(always)]
+    pub fn unless_excluded(self, bound: u32) -> u32
+        ensures { result ≡ if nat_lt self.time bound then self.time else 4294967295 }
+    {
+        if self.time < bound {
+            return self.time;
+        }
+        NEVER
+    }
+}
+
 /// The label of each trip, and of each stop's list the first point.
 #[derive(Drop)]
 pub struct ByArrival {

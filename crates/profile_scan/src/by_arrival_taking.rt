@@ -2,7 +2,7 @@
 
 use crate::at_source::AtSource;
 use crate::by_arrival::{ByArrival, FirstPoint, NEVER};
-use crate::final_walks::FinalWalk;
+use crate::final_walks::{FinalWalk, final_walk_of};
 use crate::hop::{Hop, ScanQuery};
 use crate::keeping::Keeping;
 use crate::scan_records::Exit;
@@ -47,16 +47,23 @@ impl Keeping<Arrival> for ByArrival {
         })
     }
 
-    // To take a connection in that adds nothing costs two comparisons, and branches that tell one from others are often
-    // mispredicted.
+    // One comparison tells whether the trip has a label or the stop a point that the bound doesn't exclude: branches on
+    // each by itself are often mispredicted.
     #[inline(always)]
     fn is_idle(
         &self,
         _asked: &ScanQuery<Arrival>,
-        _connection: &Connection,
-        _entry: FinalWalk,
+        connection: &Connection,
+        entry: FinalWalk,
     ) -> bool {
-        false
+        match final_walk_of(entry) {
+            Some(_way) => false,
+            None => {
+                let label = self.labels[connection.trip as usize];
+                let point = self.firsts[connection.to as usize];
+                label.value.min(point.unless_excluded(self.bound)) >= NEVER
+            },
+        }
     }
 
     fn take<S: ConnSource, O: AtSource<Arrival>>(

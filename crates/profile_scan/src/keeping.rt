@@ -2,9 +2,8 @@
 
 ghost use Rattle.std.specs.Prelude.{◌≡◌, ℕ, List, true, slice_get, IfOk, OnOk};
 ghost use Rattle.profile_scan.specs.ScanState.{final_walk_in};
-ghost use Rattle.profile_scan.specs.Steps.{IsIdle};
 ghost use Rattle.profile_scan.specs.ScanRecords.{KeptValue};
-ghost use Rattle.profile_scan.specs.Keeping.{AdmitsKept, CanTake, HasTripAndStop, IsNewKeeping, TakesHop};
+ghost use Rattle.profile_scan.specs.Keeping.{AdmitsKept, CanTake, HasTripAndStop, IsIdle, IsNewKeeping, TakesHop};
 
 use crate::at_source::AtSource;
 use crate::final_walks::FinalWalk;
@@ -38,11 +37,13 @@ pub trait Keeping<C: Criterion>: Drop {
     ) -> Result<Self, AllocError>
         ensures { IfOk result (IsNewKeeping IsUnder value criterion.now stops trips) };
 
-    /// Returns true only if the connection can add nothing; false is always safe. `entry` is what `FinalWalks` has for
-    /// the stop where the connection ends.
+    /// Returns true only if the connection can add nothing, but for what the bound excludes; false is always safe.
+    /// `entry` is what `FinalWalks` has for the stop where the connection ends.
     fn is_idle(&self, asked: &ScanQuery<C>, connection: &Connection, entry: FinalWalk) -> bool
         requires { HasTripAndStop IsUnder asked.now.criterion connection.now.trip connection.now.to self.now }
-        ensures { result ≡ true → IsIdle connection.now (final_walk_in entry)
+        ensures { result ≡ true → (stops trips : ℕ) (bound : List C.V)
+            → IsUnder asked.now.criterion stops trips bound self.now
+            → IsIdle (C.rules asked.now.criterion) bound connection.now (final_walk_in entry)
             ((value self.now).labels connection.now.trip) ((value self.now).bag connection.now.to) };
 
     /// Takes one connection in: passengers leave the trip where the connection ends; then, by the labels that the trip

@@ -1,5 +1,6 @@
-use Rattle.std.proofs.Common.{◌≡◌, ◌<◌, ℕ, arith, slice_index, sym, ◌∙◌, ap, map, subst}
+use Rattle.std.proofs.Common.{◌≡◌, ◌<◌, ℕ, Contains, arith, slice_index, sym, ◌∙◌, ap, map, subst}
 use Rattle.std.proofs.lemmas.List.{nil_from_length}
+use Rattle.reasoning.proofs.ListLemmas.{not_in_nil}
 use Rattle.fronts.specs.Lists.{entries_of, items_of, list_points, lists_criterion, point_of}
 use Rattle.fronts.proofs.Points.{none_at_end}
 use Rattle.fronts.specs.Labels.{labels_at}
@@ -16,7 +17,7 @@ label_count-requires g c = record {
 }
 
 pub returns : goal.returns
-returns g c is =
+returns g c is stops_are trips_are values under =
     let stops = c.args.self.now.stops in
     let lists = stops.lists in
     let cn = c.args.connection.now in
@@ -31,5 +32,5 @@ returns g c is =
       leads_nowhere = λ alights.
           let here = nothing alights in
           let head_is : slice_index stops.heads.items cn.to ≡ 0 = sym c.head-head.ensures ∙ here.1 in
-          (here.0, ap (list_points lists) head_is ∙ empty);
+          (here.0, λ p h. absurd (not_in_nil p (subst (λ ps. Contains ps p) (ap (list_points lists) head_is ∙ empty) h)));
     }

@@ -79,10 +79,14 @@ returns-then-is_idle g c =
             (c.requires.scan.bound index);
       };
       step = λ index.
-          step_idle_at rules t (asked_from g.O.AtSource.sources (question c.args.asked.now.query) index)
-          (spelling_of t.footpaths (scan_records_of value kept scan.state index)) c.args.place (scan_value_of value kept scan.state index) _
+          let criterion = c.args.asked.now.criterion in
+          let values = scan.bound.values.items in
+          step_idle_at rules (g.met.C.Criterion.laws criterion) t (asked_from g.O.AtSource.sources (question c.args.asked.now.query) index)
+          (spelling_of t.footpaths (scan_records_of value kept scan.state index)) c.args.place (scan_value_of value kept scan.state index) values
+          (g.met.O.AtSource.bags criterion t.stops scan.state.origin c.requires.scan.source index).admitted (c.requires.scan.bound index)
+          (g.met.K.Keeping.admitted criterion t.stops t.trips values scan.state.keeping c.requires.scan.keeping).bags _
           c.args.connection.now c.requires.stands.is (way_is g (goal.at.returns-then-is_idle g c).After-entry_of-final_entry)
-          (c.is_idle.ensures c.if-is_idle.true);
+          (c.is_idle.ensures c.if-is_idle.true t.stops t.trips values c.requires.scan.keeping);
     }
 
 -- the values of the bound, renewed
