@@ -1,12 +1,31 @@
 -- The times of a trip, one row at a time.
-use Rattle.std.proofs.Common.{◌≡◌, ℕ, suc, ◌+◌, ◌<◌, ◌^◌, ◌==◌, ◌&&◌, ◌||◌, ◌++◌, ◌∷◌, [], inl, inr, not, List, length, Bool, false, Option, Some, None, IfSome}
+use Rattle.std.proofs.Common.{◌≡◌, ℕ, zero, suc, ◌+◌, ◌<◌, ◌^◌, ◌==◌, ◌&&◌, ◌||◌, ◌++◌, ◌∷◌, [], inl, inr, not, List, length, Bool, false}
+use Rattle.std.proofs.Common.{Option, Some, None, IfSome, IsSome}
 use Rattle.std.proofs.Common.{refl, sym, ap, ◌∙◌, arith}
+use Rattle.std.specs.Prelude.{is_none}
+use Rattle.std.specs.List.{list_any}
 use Rattle.std.proofs.lemmas.Bool.{cases_eq}
 use Rattle.std.proofs.lemmas.List.{get_or_append_left, get_or_push, length_push}
 use Rattle.gtfs_rows.specs.declared.rows.StopTimeRow.{StopTimeRow}
+use Rattle.gtfs_tables.specs.Spread.{arrival_at, arrival_of}
 use Rattle.gtfs_tables.specs.Times.{arrives_spread, departs_spread}
 use Rattle.connections.specs.Times.{AreTimesBefore, arrives, departs, is_moved, is_moved_before, lifted_by, row_times}
 use Rattle.connections.specs.declared.times.RowTimes.{RowTimes}
+
+-- if no row is blank, each has a time
+timed_first : (time : Option ℕ) (rest : Bool) → (is_none time || rest) ≡ false → IsSome time
+timed_first None rest none = cc
+timed_first (Some t) rest none = refl
+
+timed_rest : (time : Option ℕ) (rest : Bool) → (is_none time || rest) ≡ false → rest ≡ false
+timed_rest None rest none = cc
+timed_rest (Some t) rest none = none
+
+pub all_timed : (rows : List StopTimeRow) → list_any (λ row. is_none (arrival_of row)) rows ≡ false → (k : ℕ) → k < length rows → IsSome (arrival_at rows k)
+all_timed [] none k lt = absurd (omega (arith, lt))
+all_timed (row ∷ rows) none zero lt = timed_first (arrival_of row) (list_any (λ r. is_none (arrival_of r)) rows) none
+all_timed (row ∷ rows) none (suc k) lt =
+    all_timed rows (timed_rest (arrival_of row) (list_any (λ r. is_none (arrival_of r)) rows) none) k (omega (arith, lt))
 
 -- the departure before a row, where there is one, which is no later than a second for each row
 abbrev pub IsLeft : List StopTimeRow → Option ℕ → ℕ → Type 0

@@ -2,6 +2,7 @@
 use Rattle.std.specs.Prelude.{◌≡◌}
 use Rattle.gtfs_rows.specs.declared.fault.FaultKind.TheVariants.{OutOfMemory as TableMemory, TooMany}
 use Rattle.gtfs_rows.specs.declared.fault.Table.{Table}
+use Rattle.gtfs_rows.specs.declared.fault.Table.TheVariants as tables
 use Rattle.gtfs_rows.specs.declared.values.Day.{Day}
 use Rattle.service_days.specs.declared.fault.DayFault.TheVariants.{OutOfMemory as DayMemory}
 use Rattle.connections.specs.declared.fault.OutOfRange.TheVariants as ranges
@@ -21,8 +22,8 @@ day_fault day = faults.Range (ranges.Day day)
 abbrev pub run_fault : Run → RunsFault
 run_fault run = faults.Range (ranges.Run run)
 
--- memory ran out
+-- memory ran out: for the days, or for anything else, which names stop_times.txt as a whole
 abbrev pub IsWantOfMemory : RunsFault → Type 0
-IsWantOfMemory (faults.Table fault) = fault.kind ≡ TableMemory
+IsWantOfMemory (faults.Table fault) = fault ≡ record { file = tables.StopTimes; row = 0; kind = TableMemory }
 IsWantOfMemory (faults.Day fault) = fault ≡ DayMemory
 IsWantOfMemory (faults.Range range) = ⊥

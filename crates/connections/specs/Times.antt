@@ -1,13 +1,20 @@
 -- When the rows of a trip arrive and depart: their times are spread over the blank rows, and then lifted, so that each
 -- arrival is at least a second after the departure before it. (Lifting is our own.)
-use Rattle.std.specs.Prelude.{◌≡◌, ◌==◌, ◌&&◌, ◌||◌, ◌+◌, ◌<◌, not, max, ℕ, zero, suc, List, length, Bool, true, false, Option, Some, None, slice_get}
+use Rattle.std.specs.Prelude.{◌≡◌, ◌==◌, ◌&&◌, ◌||◌, ◌+◌, ◌<◌, not, max, ℕ, zero, suc, List, length, Bool, true, false, Option, Some, None, IsSome, slice_get}
 use Rattle.std.specs.Prelude.{slice_index_or}
+use Rattle.std.specs.Global.{Vec}
 use Rattle.gtfs_rows.specs.declared.rows.StopTimeRow.{StopTimeRow}
 use Rattle.gtfs_tables.specs.Joined.{makes_connections, rows_of}
 use Rattle.gtfs_tables.specs.declared.tables.Trip.{Trip}
+use Rattle.gtfs_tables.specs.Spread.{IsSpread, arrival_at}
 use Rattle.gtfs_tables.specs.Times.{arrives_spread, departs_spread}
 use Rattle.connections.specs.declared.times.RowTimes.{RowTimes}
 use Rattle.connections.specs.declared.times.TripTimes.{TripTimes}
+
+-- these are the spread times of a trip's rows; none if no row is blank
+abbrev pub AreSpread : List StopTimeRow → Option (Vec (ℕ × ℕ)) → Type 0
+AreSpread rows None = (k : ℕ) → k < length rows → IsSome (arrival_at rows k)
+AreSpread rows (Some times) = IsSpread rows times.items
 
 -- a row's arrival, or one second after the departure before it, whichever is later
 abbrev pub lifted_arrival : List StopTimeRow → ℕ → ℕ → ℕ

@@ -10,7 +10,7 @@ use Rattle.gtfs_rows.specs.declared.rows.CalendarDateRow.{CalendarDateRow}
 use Rattle.gtfs_rows.specs.declared.rows.CalendarRow.{CalendarRow}
 use Rattle.gtfs_rows.specs.declared.values.Day.{Day}
 use Rattle.gtfs_tables.specs.declared.tables.Feed.{Feed}
-use Rattle.service_days.specs.Services.{adds, exception_of, is_added, is_not_after, is_same_day, weekday_on}
+use Rattle.service_days.specs.Services.{is_added, is_not_after, is_same_day, weekday_on}
 use Rattle.feed_days.specs.Service.{HoldsOfNone, IsSpan, SpansDays, give_once, give_weekly, gives_once, gives_weekly, has_service}
 use Rattle.feed_days.specs.declared.span.DaySpan.{DaySpan}
 use Rattle.feed_days.proofs.Order.{after_first, before_last, first_day, last_day, not_after_itself, number_by_not_after, same_parts}
@@ -126,5 +126,5 @@ service_civil feed d is =
     elim (either (give_weekly feed.calendar.items d) (give_once feed.calendar_dates.items d) is) [
       | inl weekly ↦ some_row (λ (row : CalendarRow). gives_weekly row d) (is_civil d) (λ row holds. (of_row row d holds).civil) feed.calendar.items weekly
       | inr once ↦ some_row (λ (row : CalendarDateRow). gives_once row d) (is_civil d)
-          (λ row holds. (and_parts (is_civil d) (adds d (exception_of row)) holds).0) feed.calendar_dates.items once
+          (λ row holds. (and_parts (is_civil d) (is_same_day row.day d && is_added row.exception) holds).0) feed.calendar_dates.items once
     ]

@@ -1,5 +1,5 @@
 -- The days on which a feed's rows give service, and how many of its trips run on a day.
-use Rattle.std.specs.Prelude.{◌≡◌, ◌&&◌, ◌||◌, ℕ, List, Bool, true, false, pos, Option, MatchOption}
+use Rattle.std.specs.Prelude.{◌≡◌, ◌&&◌, ◌||◌, get_or, ℕ, List, Bool, true, false, pos, Option, MatchOption}
 use Rattle.std.specs.List.{count_by, list_any}
 use Rattle.jiff_core.specs.Calendar.{day_count}
 use Rattle.gtfs_rows.specs.Values.{is_civil}
@@ -7,17 +7,18 @@ use Rattle.gtfs_rows.specs.declared.values.Day.{Day}
 use Rattle.gtfs_rows.specs.declared.rows.CalendarRow.{CalendarRow}
 use Rattle.gtfs_rows.specs.declared.rows.CalendarDateRow.{CalendarDateRow}
 use Rattle.gtfs_tables.specs.declared.tables.Feed.{Feed}
-use Rattle.service_days.specs.Services.{adds, exception_of, is_not_after, runs_in, week_of, weekday_on}
+use Rattle.service_days.specs.Services.{is_added, is_not_after, is_same_day, weekday_on}
 use Rattle.connections.specs.Runs.{runs_on}
 use Rattle.feed_days.specs.declared.span.DaySpan.{DaySpan}
 
 -- the row of calendar.txt gives service on the day: a civil day on one of its weekdays, from its start to its end
 abbrev pub gives_weekly : CalendarRow → Day → Bool
-gives_weekly row day = is_civil day && runs_in (weekday_on day) day (week_of row)
+gives_weekly row day =
+    is_civil day && (get_or row.weekdays (weekday_on day) false && is_not_after row.start day && is_not_after day row.end)
 
 -- the row of calendar_dates.txt gives service on the day: a civil day that it adds
 abbrev pub gives_once : CalendarDateRow → Day → Bool
-gives_once row day = is_civil day && adds day (exception_of row)
+gives_once row day = is_civil day && (is_same_day row.day day && is_added row.exception)
 
 -- one of the rows gives service on the day
 abbrev pub give_weekly : List CalendarRow → Day → Bool

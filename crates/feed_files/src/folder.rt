@@ -81,9 +81,10 @@ impl<H: Files + RandomSource + OpenDisk<Opened = H::File>> Disk for H {
 
 /// The files of a folder. No contract says what a disk holds, so contracts only know the bytes that were read.
 ///
-/// All reads are of the folder as it is when this value is made: once the folder has been exchanged for another, or a
-/// file in it added, removed or replaced, each further read fails, unless the file's change falls into the same tick of
-/// the file system's clock as the folder's last change before this value was made.
+/// All reads are of the folder as it is when this value is made: while another folder has its place, and once a file in
+/// it was added, removed or replaced, no further read gives a file's bytes or that it is missing. Such a change isn't
+/// seen in the same tick of the file system's clock as the folder's last change before this value was made. The target
+/// of a link in the folder may change between two reads.
 #[derive(Drop)]
 pub struct FolderFiles<'a, H: Disk> {
     disk: &'a H,
@@ -241,8 +242,10 @@ fn file_at<D: OpenDisk>(
 }
 
 /// Returns the bytes of a file in a folder, or none if there is no such file: also if there is no such folder, or
-/// if its path isn't that of a folder. They are those that the file held while the folder was in the given state:
-/// neither of the two changed until the file had been read.
+/// if its path isn't that of a folder. They are those that the file held while the folder was in the given state: the
+/// folder's state and the file's were the same before and after the file was read. What changes no state isn't seen: a
+/// write in the same tick of the file system's clock as the one before it, or a link outside the folder that led
+/// elsewhere for a while.
 ///
 /// # Errors
 ///

@@ -12,6 +12,7 @@ use Rattle.image_layout.specs.Spelling.{text}
 use Rattle.image_writer.specs.Writable.{IsWritable}
 use Rattle.gtfs_rows.specs.declared.fault.Table.TheVariants as tables
 use Rattle.image_verifier.specs.declared.fault.ImageFault.TheVariants as images
+use Rattle.gtfs_rows.specs.declared.fault.TableFault.{TableFault}
 use Rattle.gtfs_tables.specs.declared.tables.Feed.{Feed}
 use Rattle.footpaths.specs.Closure.{HasLegalFootpaths}
 use Rattle.connections.specs.Faults.{IsWantOfMemory as RunsWantMemory}
@@ -29,7 +30,7 @@ use Rattle.feed_loader.specs.declared.fault.LoadFault.TheVariants as faults
 use Rattle.feed_loader.specs.declared.plan.Plan.{Plan}
 
 wants_memory : (fault : RunsFault) → RunsWantMemory fault → IsWantOfMemory (load_fault_of_runs fault)
-wants_memory (runs.Table fault) wants = wants
+wants_memory (runs.Table fault) wants = ap (λ (f : TableFault). f.kind) wants
 wants_memory (runs.Day fault) wants = wants
 wants_memory (runs.Range range) wants = elim wants [ ]
 

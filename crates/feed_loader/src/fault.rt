@@ -18,10 +18,10 @@ use thiserror::Error;
 /// `101 FileFailed trips.txt`.
 #[derive(Clone, Copy, Debug, PartialEq, Eq, Error)]
 pub enum LoadFault {
-    /// A file is refused, or there are too many stops, runs or connections, or too long names.
+    /// A file is refused, there are too many stops, runs or connections, or too long names, or memory ran out (17).
     #[error("{} {} {} {}", self.number(), self.name(), .0.file.file_name(), .0.row)]
     Table(TableFault),
-    /// The zone is refused, or memory ran out for the days.
+    /// Memory ran out for the days. A plan has a zone already, so no load refuses one.
     #[error("{} {}", self.number(), self.name())]
     Day(DayFault),
     /// A day has no start, or a run has a time out of range.

@@ -1,7 +1,7 @@
 -- The rows of the tables, one row at a time.
 use Rattle.std.proofs.Common.{◌≡◌, ℕ, ap, subst, ◌+◌, ◌-◌, ◌<◌, List, [], ◌∷◌, ◌++◌, length, get_or, get_or-set_other}
 use Rattle.std.proofs.Common.{map, set, take, Bool, true, false, eqb, ◌||◌, Option, Some, None, refl, ◌∙◌, sym, arith, inl, inr, ◌⊎◌}
-use Rattle.std.specs.Prelude.{filter, is_some, option_to_list, IfSome}
+use Rattle.std.specs.Prelude.{filter, is_none, is_some, option_to_list, IfSome}
 use Rattle.std.specs.List.{AllZip}
 use Rattle.std.specs.String.{string_bytes}
 use Rattle.std.proofs.lemmas.Bool.{cases_eq, cases_lt, eq-eqb, ne_eqb, or_right}
@@ -15,7 +15,8 @@ use Rattle.gtfs_rows.specs.declared.rows.FrequencyRow.{FrequencyRow}
 use Rattle.gtfs_rows.specs.declared.rows.StopTimeRow.{StopTimeRow}
 use Rattle.gtfs_rows.specs.declared.rows.TransferRow.{TransferRow}
 use Rattle.gtfs_tables.specs.Order.{no_row, numbers_from, row_of}
-use Rattle.gtfs_tables.specs.Rows.{IsTransferOf, ends_fault, is_flex_id, is_kept, is_place, is_repeated, linked_fault, linked_row, transfer_fault}
+use Rattle.gtfs_tables.specs.Rows.{IsTransferOf, ends_fault, is_flex_id, is_kept, is_place, is_repeated, lack_stops, linked_fault, linked_row}
+use Rattle.gtfs_tables.specs.Rows.{transfer_fault}
 use Rattle.gtfs_tables.specs.declared.names.StopIdTarget.{StopIdTarget}
 use Rattle.gtfs_tables.specs.declared.order.SortKey.{SortKey}
 use Rattle.gtfs_tables.specs.declared.tables.Transfer.{Transfer}
@@ -57,6 +58,17 @@ by_mark shown trips rows flex id same unknown = elim (cases_lt id (length trips)
   | inl lt ↦ ap shown (same id lt)
   | inr le ↦ unknown (get_or_past trips id None le)
 ]
+
+-- if each row has a stop, no trip_id has a row without one
+neither : (a b : Bool) → (a || b) ≡ false → (a ≡ false) × (b ≡ false)
+neither true b none = cc
+neither false b none = (refl, none)
+
+pub no_flex : (rows : List StopTimeRow) (id : ℕ) → lack_stops rows ≡ false → is_flex_id rows id ≡ false
+no_flex [] id none = refl
+no_flex (row ∷ rows) id none =
+    let both = neither (is_none row.stop) (lack_stops rows) none in
+    rw (both.0, no_flex rows id both.1) refl
 
 -- a trip that isn't known is a fault, and gives no stop, flex or not
 pub fault_same : (trips : List (Option ℕ)) (stops : List (Option StopIdTarget)) (rows : List StopTimeRow) (flex : List Bool) (row : StopTimeRow)

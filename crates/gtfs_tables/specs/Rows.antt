@@ -50,6 +50,10 @@ parent_fault named row = if has_parent row then fault_unless (station_index (nam
 abbrev pub is_flex_id : List StopTimeRow → ℕ → Bool
 is_flex_id rows id = list_any (λ row. is_none row.stop && (row.trip == id)) rows
 
+-- some row has a blank stop_id
+abbrev pub lack_stops : List StopTimeRow → Bool
+lack_stops rows = list_any (λ row. is_none row.stop) rows
+
 -- what a row's stop_id names
 abbrev pub stop_of : List (Option StopIdTarget) → StopTimeRow → Option StopIdTarget
 stop_of stops row = option_and_then (named_at stops) row.stop

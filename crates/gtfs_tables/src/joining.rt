@@ -10,7 +10,7 @@ ghost use Rattle.gtfs_rows.specs.Tables.{is_stop};
 ghost use Rattle.gtfs_tables.specs.First.{first_below, first_fault_of};
 ghost use Rattle.gtfs_tables.specs.Names.{held_at, stop_named, trip_named};
 ghost use Rattle.gtfs_tables.specs.Order.{comes_before, first_row_of, sort_keys_by, sort_keys_in};
-ghost use Rattle.gtfs_tables.specs.Rows.{is_flex_id, linked_fault, linked_row, station_of};
+ghost use Rattle.gtfs_tables.specs.Rows.{is_flex_id, lack_stops, linked_fault, linked_row, station_of};
 ghost use Rattle.std.specs.String.{string_bytes};
 ghost use Rattle.gtfs_tables.specs.Times.{first_wrong as wrong_first};
 ghost use Rattle.gtfs_tables.specs.Feeds.{IsFirstFault, IsJoined, IsLinked, IsNamingFault, feed_stop, feed_trips};
@@ -101,14 +101,15 @@ fn link_by(
     let Ok(trips) = named_each(alloc, &tables.stop_times.trips, indices) else {
         return Err(out_of_memory());
     };
-    let Ok(order) = order_of_rows(alloc, &tables.stop_times.rows, &trips) else {
+    let Ok((order, may_lack_stops)) = order_of_rows(alloc, &tables.stop_times.rows, &trips) else {
         return Err(out_of_memory());
     };
     let stations = match stations(alloc, &tables.stops, names) {
         Ok(stations) => stations,
         Err(fault) => return Err(fault),
     };
-    let (stops, flex) = match judged_times(alloc, &tables.stop_times, names, &trips) {
+    let judged = judged_times(alloc, &tables.stop_times, names, &trips, may_lack_stops);
+    let (stops, flex) = match judged {
         Ok(judged) => judged,
         Err(fault) => return Err(fault),
     };
@@ -137,7 +138,9 @@ fn judged_times(
     stop_times: &StopTimes,
     names: &IndexMap<&str, StopIdTarget, IdHash>,
     trips: &[Option<u32>],
+    may_lack_stops: bool,
 ) -> Result<(Vec<Option<StopIdTarget>>, Vec<bool>), TableFault>
+    requires { may_lack_stops ≡ false → lack_stops stop_times.now.rows.items ≡ false }
     ensures fine { IfOk result (λ judged. first_fault_of Table.StopTimes (λ row. linked_fault trips.now
         (map (λ id. held_at names.now (string_bytes id)) stop_times.now.stops.keys)
         (is_flex_id stop_times.now.rows.items row.trip) row) stop_times.now.rows.items ≡ None) }
@@ -153,7 +156,7 @@ fn judged_times(
     let Ok(stops) = named_each(alloc, &stop_times.stops, names) else {
         return Err(out_of_memory());
     };
-    let Ok(flex) = flex_ids(alloc, &stop_times.rows, trips.len()) else {
+    let Ok(flex) = flex_ids(alloc, &stop_times.rows, trips.len(), may_lack_stops) else {
         return Err(out_of_memory());
     };
     match judge_rows(&stop_times.rows, trips, &stops, &flex) {

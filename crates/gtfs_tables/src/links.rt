@@ -7,8 +7,8 @@ ghost use Rattle.gtfs_tables.specs.First.{fault_at as fault_of, first_fault_of};
 ghost use Rattle.gtfs_tables.specs.Names.{held_at, named_at};
 ghost use Rattle.gtfs_tables.specs.Order.{row_of, sort_keys_in};
 ghost use Rattle.gtfs_tables.specs.Rows.{IsTransferOf, ends_fault, end_fault, frequency_fault, frequency_of};
-ghost use Rattle.gtfs_tables.specs.Rows.{is_flex_id, is_kept, is_repeated, linked_fault, linked_row, named_by};
-ghost use Rattle.gtfs_tables.specs.Rows.{parent_fault, station_of, stop_number, stop_of};
+ghost use Rattle.gtfs_tables.specs.Rows.{is_flex_id, is_kept, is_repeated, lack_stops, linked_fault, linked_row};
+ghost use Rattle.gtfs_tables.specs.Rows.{named_by, parent_fault, station_of, stop_number, stop_of};
 ghost use Rattle.gtfs_tables.specs.Rows.{transfer_fault};
 
 use crate::names::{StopIdTarget, stop_fault};
@@ -124,15 +124,20 @@ fn station(
     }
 }
 
-// Returns for each trip_id whether some row with it has a blank stop_id.
+// Returns for each trip_id whether some row with it has a blank stop_id. If no row may lack a stop, none is looked at.
 pub(crate) fn flex_ids(
     alloc: Global,
     rows: &[StopTimeRow],
     ids: usize,
+    may_lack_stops: bool,
 ) -> Result<Vec<bool>, AllocError>
+    requires { may_lack_stops ≡ false → lack_stops rows.now ≡ false }
     ensures { IfOk result (λ flex. (id : ℕ) → id < ids → slice_index_or flex.items id false ≡ is_flex_id rows.now id) }
 {
     let mut flex = vec![in alloc; false; ids]?;
+    if !may_lack_stops {
+        return Ok(flex);
+    }
     for row in rows {
         let id = row.trip as usize;
         if row.stop.is_none() && id < flex.len() {

@@ -1,9 +1,11 @@
 //! The order of the rows of stop_times.txt: by trip, then by stop_sequence, then by record.
 
-ghost use Rattle.std.specs.Prelude.{◌≡◌, ◌<◌, ◌+◌, List, length, map, IfOk, IsSortedBy, slice_index_or, true};
+ghost use Rattle.std.specs.Prelude.{◌≡◌, ◌<◌, ◌+◌, List, length, map, IfOk, IfSome, IsSortedBy, false};
+ghost use Rattle.std.specs.Prelude.{slice_index_or};
 ghost use Rattle.gtfs_rows.specs.declared.rows.StopTimeRow.{StopTimeRow as FiledRow};
 ghost use Rattle.gtfs_tables.specs.Order.{IsInOrder, comes_before, sort_key_of};
 ghost use Rattle.gtfs_tables.specs.Order.{sort_keys_by, sort_keys_from, sort_keys_in};
+ghost use Rattle.gtfs_tables.specs.Rows.{lack_stops};
 
 use crate::links::index_at;
 use gtfs_rows::StopTimeRow;
@@ -24,19 +26,21 @@ pub enum RowOrder {
     ByKeys(Vec<SortKey>),
 }
 
-// Returns the order of the rows. A list of sort keys is made only if the rows aren't already in order.
+// Returns the order of the rows, and whether any may lack a stop. A list of sort keys is made only if the rows aren't
+// already in order; whether they lack stops isn't known then.
 pub(crate) fn order_of_rows(
     alloc: Global,
     rows: &[StopTimeRow],
     trips: &[Option<u32>],
-) -> Result<RowOrder, AllocError>
-    ensures { IfOk result (λ order. IsInOrder trips.now rows.now (sort_keys_in trips.now order rows.now)) }
+) -> Result<(RowOrder, bool), AllocError>
+    ensures order { IfOk result (λ found. IsInOrder trips.now rows.now (sort_keys_in trips.now found.0 rows.now)) }
+    ensures stops { IfOk result (λ found. found.1 ≡ false → lack_stops rows.now ≡ false) }
 {
-    if are_in_order(rows, trips) {
-        return Ok(RowOrder::Filed);
+    if let Some(lack_stops) = in_file_order(rows, trips) {
+        return Ok((RowOrder::Filed, lack_stops));
     }
     let sort_keys = sorted_keys(alloc, rows, trips)?;
-    Ok(RowOrder::ByKeys(sort_keys))
+    Ok((RowOrder::ByKeys(sort_keys), true))
 }
 
 // Returns the sort keys of the rows, in order.
@@ -79,22 +83,26 @@ fn sort_key_of(trips: &[Option<u32>], row: &StopTimeRow, index: usize) -> SortKe
     }
 }
 
-// Returns whether the rows are already in the order of their sort keys.
-fn are_in_order(rows: &[StopTimeRow], trips: &[Option<u32>]) -> bool
-    ensures { result ≡ true → IsSortedBy comes_before (sort_keys_from trips.now 1 rows.now) }
+// Returns whether any row lacks a stop, if the rows are already in the order of their sort keys. One pass over the rows
+// finds out both.
+fn in_file_order(rows: &[StopTimeRow], trips: &[Option<u32>]) -> Option<bool>
+    ensures order { IfSome result (λ lack. IsSortedBy comes_before (sort_keys_from trips.now 1 rows.now)) }
+    ensures stops { IfSome result (λ lack. lack ≡ lack_stops rows.now) }
 {
     if rows.is_empty() {
-        return true;
+        return Some(false);
     }
     let mut last = sort_key_of(trips, &rows[0], 0);
+    let mut lack_stops = rows[0].stop.is_none();
     for at in 1..rows.len() {
         let sort_key = sort_key_of(trips, &rows[at], at);
         if sort_key < last {
-            return false;
+            return None;
         }
         last = sort_key;
+        lack_stops |= rows[at].stop.is_none();
     }
-    true
+    Some(lack_stops)
 }
 
 // Returns the trip of the row at an index; the rows are in order.

@@ -31,7 +31,7 @@ pub fn time_faults(
 ) -> Result<Vec<TableFault>, AllocError>
     ensures { IfOk result (λ faults. AreTimeFaults trips.items stops.items rows.now count strict faults.items) }
 {
-    let flex = flex_ids(alloc, rows, trips.len())?;
+    let flex = flex_ids(alloc, rows, trips.len(), true)?;
     let sort_keys = sorted_keys(alloc, rows, &trips)?;
     let names = RowNames { trips, stops, flex };
     let ordered = linked_by_sort_keys(alloc, rows, &sort_keys, &names)?;

@@ -31,6 +31,13 @@ in_month d civil = record {
   day_to = grind (arith, nat_tests);
 }
 
+-- the month and the day of a civil day are small
+pub in_short_month : (d : Day) → is_civil d ≡ true → (d.month < 256) × (d.day < 256)
+in_short_month d civil =
+    let is = in_month d civil in
+    let long = days_in_month_bounds (pos d.year) d.month in
+    (omega (arith, is.month_to), omega (arith, is.day_to, long))
+
 -- a day that isn't civil in a month that is lies behind its end
 behind_month : (d : Day) → is_civil d ≡ false → 1 ≤ d.year → d.year ≤ 9999 → 1 ≤ d.month → d.month ≤ 12 → 1 ≤ d.day → days_in_month (pos d.year) d.month < d.day
 behind_month d none a b e f g = grind (arith, nat_tests)

@@ -1,5 +1,5 @@
 -- The days on which a service runs.
-use Rattle.std.specs.Prelude.{◌≡◌, ◌==◌, ◌&&◌, ◌||◌, not, if◌then◌else◌, ℕ, List, [], pos, map, filter, get_or, nat_le, nat_lt, Bool, true, false}
+use Rattle.std.specs.Prelude.{◌≡◌, ◌==◌, ◌+◌, ◌*◌, ◌&&◌, ◌||◌, not, if◌then◌else◌, ℕ, List, [], pos, map, filter, get_or, nat_le, nat_lt, Bool, true, false}
 use Rattle.std.specs.Prelude.{Option, None, Some}
 use Rattle.std.specs.List.{list_any}
 use Rattle.std.specs.Option.{option_map_or}
@@ -27,9 +27,13 @@ weekday_on d = weekday_number (days_from_civil (pos d.year) d.month d.day)
 abbrev pub civil_weekday : Day → Option ℕ
 civil_weekday d = if is_civil d then Some (weekday_on d) else None
 
--- a day with its weekday
+-- a date as one number; civil dates are in the order of their numbers, by the law dates_are_numbered
+abbrev pub date_number : Day → ℕ
+date_number d = (d.year * 256 + d.month) * 256 + d.day
+
+-- a day with its weekday and its number
 abbrev pub dated : Day → DatedDay
-dated d = record { day = d; weekday = civil_weekday d }
+dated d = record { day = d; weekday = civil_weekday d; number = date_number d }
 
 -- the first day is no later than the second
 abbrev pub is_not_after : Day → Day → Bool
@@ -41,29 +45,30 @@ is_same_day a b = (a.year == b.year) && (a.month == b.month) && (a.day == b.day)
 
 -- the week of a row of calendar.txt, and the exception of a row of calendar_dates.txt
 abbrev pub week_of : CalendarRow → Week
-week_of row = record { weekdays = row.weekdays; start = row.start; end = row.end }
+week_of row = record { weekdays = row.weekdays; first = date_number row.start; last = date_number row.end }
 
 abbrev pub exception_of : CalendarDateRow → DayException
-exception_of row = record { day = row.day; exception = row.exception }
+exception_of row = record { number = date_number row.day; exception = row.exception }
 
--- the weekday's flag is set, and the day is in the range
-abbrev pub runs_in : ℕ → Day → Week → Bool
-runs_in weekday day week = get_or week.weekdays weekday false && is_not_after week.start day && is_not_after day week.end
+-- the weekday's flag is set, and the date of a number is in the range
+abbrev pub runs_in : ℕ → ℕ → Week → Bool
+runs_in weekday number week = get_or week.weekdays weekday false && nat_le week.first number && nat_le number week.last
 
 abbrev pub is_added : Exception → Bool
 is_added Added = true
 is_added Removed = false
 
-abbrev pub adds : Day → DayException → Bool
-adds day e = is_same_day e.day day && is_added e.exception
+abbrev pub adds : ℕ → DayException → Bool
+adds number e = (e.number == number) && is_added e.exception
 
-abbrev pub removes : Day → DayException → Bool
-removes day e = is_same_day e.day day && not (is_added e.exception)
+abbrev pub removes : ℕ → DayException → Bool
+removes number e = (e.number == number) && not (is_added e.exception)
 
 -- the day isn't removed, and either it is added or a week has it
 abbrev pub is_running : List Week → List DayException → Day → Bool
 is_running weeks exceptions day =
-    (list_any (runs_in (weekday_on day) day) weeks || list_any (adds day) exceptions) && not (list_any (removes day) exceptions)
+    (list_any (runs_in (weekday_on day) (date_number day)) weeks || list_any (adds (date_number day)) exceptions)
+    && not (list_any (removes (date_number day)) exceptions)
 
 -- the weeks and the exceptions of a service in the tables
 abbrev pub weeks_in : List CalendarRow → List ℕ → List Week

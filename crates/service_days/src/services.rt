@@ -1,6 +1,6 @@
 //! The days on which a service runs: its weekdays between two dates, and the days that are added or removed.
 
-ghost use Rattle.std.specs.Prelude.{◌≡◌, ◌<◌, ◌+◌, ◌*◌, ◌++◌, ◌∷◌, if◌then◌else◌, ℕ, List, [], IfOk, OnOk};
+ghost use Rattle.std.specs.Prelude.{◌≡◌, ◌<◌, ◌++◌, ◌∷◌, if◌then◌else◌, ℕ, List, [], IfOk, OnOk};
 ghost use Rattle.std.specs.List.{list_any};
 ghost use Rattle.std.specs.Option.{option_map_or};
 ghost use Rattle.indexmap.specs.IndexMap.{get_by_text, hasher_of};
@@ -9,26 +9,26 @@ ghost use Rattle.std.specs.String.{string_bytes};
 ghost use Rattle.gtfs_rows.specs.declared.rows.CalendarRow.{CalendarRow};
 ghost use Rattle.gtfs_rows.specs.declared.rows.CalendarDateRow.{CalendarDateRow};
 ghost use Rattle.gtfs_rows.specs.declared.values.Day.{Day as CalendarDay};
-ghost use Rattle.service_days.specs.Services.{HoldsServices, adds, exceptions_in, is_active, is_not_after};
-ghost use Rattle.service_days.specs.Services.{is_same_day, removes, runs_in, service_runs, weeks_in};
+ghost use Rattle.service_days.specs.Services.{HoldsServices, adds, exceptions_in, is_active, removes, runs_in};
+ghost use Rattle.service_days.specs.Services.{service_runs, weeks_in};
 
-use crate::day::DatedDay;
+use crate::day::{DatedDay, date_number};
 use gtfs_rows::{CalendarDateRow, CalendarRow, Day, Exception, IdHash};
 use indexmap::IndexMap;
 use std::alloc::{AllocError, Global};
 
-// The weekdays on which a service runs, Monday first, and its first and last day.
+// The weekdays on which a service runs, Monday first, and the numbers of its first and its last day.
 #[derive(Clone, Copy, Debug)]
 struct Week {
     weekdays: [bool; 7],
-    start: Day,
-    end: Day,
+    first: u32,
+    last: u32,
 }
 
-// A day that is added to a service or removed from it.
+// A day that is added to a service or removed from it, by its number.
 #[derive(Clone, Copy, Debug)]
 struct DayException {
-    day: Day,
+    number: u32,
     exception: Exception,
 }
 
@@ -106,8 +106,8 @@ fn weeks_of(
     for row in rows {
         let week = Week {
             weekdays: row.weekdays,
-            start: row.start,
-            end: row.end,
+            first: date_number(row.start),
+            last: date_number(row.end),
         };
         add(alloc, &mut weeks, row.service.clone()?, week)?;
     }
@@ -126,7 +126,7 @@ fn exceptions_of(
     let mut exceptions = IndexMap::with_hasher(alloc, hash);
     for row in rows {
         let exception = DayException {
-            day: row.day,
+            number: date_number(row.day),
             exception: row.exception,
         };
         add(alloc, &mut exceptions, row.service.clone()?, exception)?;
@@ -153,8 +153,9 @@ impl Service<'_> {
         let Some(weekday) = day.weekday else {
             return false;
         };
-        let regular = runs(self.weeks, weekday, day.day);
-        (regular || is_added(self.exceptions, day.day)) && !is_removed(self.exceptions, day.day)
+        let regular = runs(self.weeks, weekday, day.number);
+        (regular || is_added(self.exceptions, day.number))
+            && !is_removed(self.exceptions, day.number)
     }
 }
 
@@ -178,45 +179,21 @@ fn held<'a, T>(all: &'a IndexMap<String, Vec<T>, IdHash>, service: &str) -> &'a 
     }
 }
 
-fn runs(weeks: &[Week], weekday: usize, day: Day) -> bool
+fn runs(weeks: &[Week], weekday: usize, number: u32) -> bool
     requires { weekday < 7 }
-    ensures { result ≡ list_any (runs_in weekday day) weeks.now }
+    ensures { result ≡ list_any (runs_in weekday number) weeks.now }
 {
-    weeks.iter().any(|week| week.weekdays[weekday]
-        && not_after(week.start, day)
-        && not_after(day, week.end))
+    weeks.iter().any(|week| week.weekdays[weekday] && week.first <= number && number <= week.last)
 }
 
-fn is_added(exceptions: &[DayException], day: Day) -> bool
-    ensures { result ≡ list_any (adds day) exceptions.now }
+fn is_added(exceptions: &[DayException], number: u32) -> bool
+    ensures { result ≡ list_any (adds number) exceptions.now }
 {
-    exceptions.iter().any(|e| same_day(e.day, day) && matches!(e.exception, Exception::Added))
+    exceptions.iter().any(|e| e.number == number && matches!(e.exception, Exception::Added))
 }
 
-fn is_removed(exceptions: &[DayException], day: Day) -> bool
-    ensures { result ≡ list_any (removes day) exceptions.now }
+fn is_removed(exceptions: &[DayException], number: u32) -> bool
+    ensures { result ≡ list_any (removes number) exceptions.now }
 {
-    exceptions.iter().any(|e| same_day(e.day, day) && matches!(e.exception, Exception::Removed))
-}
-
-// Returns a date as one number, which is compared faster than three: a later date has a greater one.
-fn date_number(day: Day) -> u32
-    ensures { result ≡ (day.year * 256 + day.month) * 256 + day.day }
-{
-    (day.year as u32 * 256 + day.month as u32) * 256 + day.day as u32
-}
-
-// Returns whether the first day is no later than the second.
-#[tactic(auto, using(crate::proofs::DateLemmas::compared))]
-fn not_after(a: Day, b: Day) -> bool
-    ensures { result ≡ is_not_after a b }
-{
-    date_number(a) <= date_number(b)
-}
-
-#[tactic(auto, using(crate::proofs::DateLemmas::same))]
-fn same_day(a: Day, b: Day) -> bool
-    ensures { result ≡ is_same_day a b }
-{
-    date_number(a) == date_number(b)
+    exceptions.iter().any(|e| e.number == number && matches!(e.exception, Exception::Removed))
 }

@@ -1,5 +1,6 @@
+use Rattle.connections.specs.Times.{AreSpread}
 use Rattle.connections.proofs.TimeSteps.{IsLiftedTo}
 use Rattle.connections.proofs.times.trip_times.Given as goal
 
-abbrev pub invariant-loop-arrival : goal.invariant-loop-arrival
-invariant-loop-arrival l = IsLiftedTo l.rows l.times.items l.lifted l.left l.arrival-index
+abbrev pub invariant-loop-index : goal.invariant-loop-index
+invariant-loop-index l = record { lifted : IsLiftedTo l.rows l.times.items l.lifted l.left l.index; spread : AreSpread l.rows l.spread }
