@@ -27,12 +27,12 @@ out_once_more a = record a { view = record a.view { out = a.view.out + 1 } }
 abbrev pub with_sent : {C : Type 0} → DealerValue C → C → DealerValue C
 with_sent a client = record a { view = record a.view { sent = a.view.sent ++ client ∷ [] } }
 
-abbrev pub closed_once_more : {C : Type 0} → DealerValue C → DealerValue C
-closed_once_more a = record a { view = record a.view { closings = a.view.closings + 1 } }
+abbrev pub closed_for_taker : {C : Type 0} → DealerValue C → DealerValue C
+closed_for_taker a = record a { view = record a.view { closings = a.view.closings + 1 } }
 
 -- a taker is back, with what it had taken
-abbrev pub with_back : {C : Type 0} → DealerValue C → TakerValue C → DealerValue C
-with_back a taker = record a {
+abbrev pub with_taker_back : {C : Type 0} → DealerValue C → TakerValue C → DealerValue C
+with_taker_back a taker = record a {
   view = record a.view {
     out = a.view.out - 1;
     taken = a.view.taken ++ taker.taken;
@@ -41,5 +41,5 @@ with_back a taker = record a {
 }
 
 -- once no taker is out, and each came back because the queue was closed for it, what they took is what was put, each client once
-abbrev pub AllWereTaken : {C : Type 0} → DealerView C → Type 0
-AllWereTaken d = d.out ≡ 0 → 0 < d.closings → d.ended ≡ d.closings → IsPermutation d.sent d.taken
+abbrev pub AllClientsWereTaken : {C : Type 0} → DealerView C → Type 0
+AllClientsWereTaken d = d.out ≡ 0 → 0 < d.closings → d.ended ≡ d.closings → IsPermutation d.sent d.taken

@@ -1,9 +1,9 @@
 //! The end of the queue where clients are put, and the ends where they are taken.
 
 ghost use Rattle.std.specs.Prelude.{◌≡◌, IfOk};
-ghost use Rattle.handoff.specs.Ends.{SendsOut, closed_once_more as keeper_closed, unused_taker};
-ghost use Rattle.client_queue.specs.Ends.{AllWereTaken, DealerValue, closed_once_more, nothing_put};
-ghost use Rattle.client_queue.specs.Ends.{out_once_more, with_back, with_sent};
+ghost use Rattle.handoff.specs.Ends.{SendsOut, closed_once_more, unused_taker};
+ghost use Rattle.client_queue.specs.Ends.{AllClientsWereTaken, DealerValue, closed_for_taker, nothing_put};
+ghost use Rattle.client_queue.specs.Ends.{out_once_more, with_sent, with_taker_back};
 
 use handoff::{EachItemOnce, Keeper, TakeEnd, empty_queue};
 use std::alloc::{AllocError, Global};
@@ -57,7 +57,7 @@ impl<C: Drop> Dealer<C> {
 
     /// Closes the queue for one taker, once there is room. No client can be put after it.
     pub fn close<R: Wait>(&mut self, rt: &R)
-        ensures { self.new ≡ closed_once_more self.old }
+        ensures { self.new ≡ closed_for_taker self.old }
     {
         close_once(rt, &mut self.keeper);
     }
@@ -65,7 +65,7 @@ impl<C: Drop> Dealer<C> {
     /// Takes back a taker, with what it had taken.
     pub fn take_back(&mut self, taker: Taker<C>)
         requires { taker.queue ≡ self.old.queue }
-        ensures { self.new ≡ with_back self.old taker }
+        ensures { self.new ≡ with_taker_back self.old taker }
     {
         drop(self.keeper.take_back(taker));
     }
@@ -74,7 +74,7 @@ impl<C: Drop> Dealer<C> {
     /// by a taker that came back, what the takers took is what was put, each client once.
     pub fn all_were_taken(&mut self)
         ensures same { self.new ≡ self.old }
-        ensures all { AllWereTaken self.old.view }
+        ensures all { AllClientsWereTaken self.old.view }
     {
         self.keeper.all_were_taken();
     }
@@ -83,7 +83,7 @@ impl<C: Drop> Dealer<C> {
 // Closes the queue once. While the end that keeps it can send out takers, it can be closed, but no contract says so.
 fn close_once<R: Wait, C: Drop>(rt: &R, keeper: &mut Keeper<C, 1>)
     requires { keeper.old.view.putting ≡ 0 }
-    ensures { keeper.new ≡ keeper_closed keeper.old }
+    ensures { keeper.new ≡ closed_once_more keeper.old }
 {
     for _ in rt.forever() {
         if keeper.close(rt) {

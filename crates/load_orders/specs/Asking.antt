@@ -66,8 +66,8 @@ abbrev pub awaited_order : {N : Type 0} → ℕ → AnswerChannelId → Order N
 awaited_order index channel = record { feed = index; answer_channel = Some channel }
 
 -- there is a feed of this name
-abbrev pub IsNamed : List (List ℕ) → List ℕ → Type 0
-IsNamed names name = (index : ℕ) × IsFirst names name index
+abbrev pub IsFeedName : List (List ℕ) → List ℕ → Type 0
+IsFeedName names name = (index : ℕ) × IsFirst names name index
 
 -- an order of the first feed of this name is put
 abbrev pub IsPut : {N : Type 0} → List ℕ → Dealings N → Dealings N → Type 0
@@ -81,8 +81,8 @@ Receives name answer before after =
     × (after.end ≡ with_item before.end (awaited_order index channel)) × (after.received ≡ before.received ++ received_at channel answer ∷ [])
 
 -- the order is added to those that were asked for; the names and the queue stay the same
-abbrev pub IsNoted : {N : Type 0} → OrderValue → WorkerOrdersValue N → WorkerOrdersValue N → Type 0
-IsNoted order before after = (route_of after ≡ route_of before) × (after.asked ≡ before.asked ++ order ∷ [])
+abbrev pub AddsOrder : {N : Type 0} → OrderValue → WorkerOrdersValue N → WorkerOrdersValue N → Type 0
+AddsOrder order before after = (route_of after ≡ route_of before) × (after.asked ≡ before.asked ++ order ∷ [])
 
 -- the room of the queue
 abbrev pub four_wait : ◌≡◌ {A = ℕ} 4 4
@@ -91,27 +91,27 @@ four_wait = refl
 -- over the rule of the queue
 module _ {N : Type 0} (rule : QueueRule (Order N)) where
   -- why the queue takes no order: it held four at one moment since this try began; of a loader that is gone nothing is said
-  abbrev pub IsTurnedAway : EndValue N → OrderFault → Type 0
-  IsTurnedAway end OrderFault.OrdersFull = Held rule 4 (EndView.Putting end.items (end.tries + 1))
-  IsTurnedAway end OrderFault.LoaderGone = ⊤
-  IsTurnedAway end _ = ⊥
+  abbrev pub TakesNoOrder : EndValue N → OrderFault → Type 0
+  TakesNoOrder end OrderFault.OrdersFull = Held rule 4 (EndView.Putting end.items (end.tries + 1))
+  TakesNoOrder end OrderFault.LoaderGone = ⊤
+  TakesNoOrder end _ = ⊥
 
   -- why an order that would be waited for isn't put: there was no memory for an answer channel, and nothing was tried; or the queue took no order
   abbrev pub IsNotAwaited : EndValue N → OrderFault → EndValue N → Type 0
   IsNotAwaited end OrderFault.OutOfMemory end_then = end_then ≡ end
-  IsNotAwaited end fault end_then = IsTurnedAway end fault × (end_then ≡ once_tried end)
+  IsNotAwaited end fault end_then = TakesNoOrder end fault × (end_then ≡ once_tried end)
 
   -- why an order of a feed of this name is refused, and what that did
   abbrev pub RefusesOrder : List ℕ → OrderFault → Dealings N → Dealings N → Type 0
   RefusesOrder name OrderFault.UnknownFeed before after = IsNoName before.names name × (after.end ≡ before.end) × (after.received ≡ before.received)
   RefusesOrder name fault before after =
-      IsNamed before.names name × IsTurnedAway before.end fault × (after.end ≡ once_tried before.end) × (after.received ≡ before.received)
+      IsFeedName before.names name × TakesNoOrder before.end fault × (after.end ≡ once_tried before.end) × (after.received ≡ before.received)
 
   -- why no version came of an order that was waited for: it wasn't put, or what was received by its answer channel says so
   abbrev pub RefusesVersion : List ℕ → OrderFault → Dealings N → Dealings N → Type 0
   RefusesVersion name OrderFault.UnknownFeed before after = RefusesOrder name OrderFault.UnknownFeed before after
   RefusesVersion name fault before after =
-      (IsNamed before.names name × IsNotAwaited before.end fault after.end × (after.received ≡ before.received))
+      (IsFeedName before.names name × IsNotAwaited before.end fault after.end × (after.received ≡ before.received))
       ⊎ ((answer : Option (LoadAnswer N)) × (fault_of_answer answer ≡ Some fault) × Receives name answer before after)
 
   -- what an order that nobody waits for did
@@ -140,18 +140,18 @@ module _ {N : Type 0} (words : OrderWords N) where
       (came : Result (ℕ × N) OrderFault) × (version_alone came ≡ version) × Waits feed came before after
 
   -- an order was asked for
-  abbrev pub Asks : OrderValue → WorkerOrdersValue N → WorkerOrdersValue N → Type 0
-  Asks order before after = Does order.feed order.outcome (dealings_of before) (dealings_of after) × IsNoted order before after
+  abbrev pub AsksOrder : OrderValue → WorkerOrdersValue N → WorkerOrdersValue N → Type 0
+  AsksOrder order before after = Does order.feed order.outcome (dealings_of before) (dealings_of after) × AddsOrder order before after
 
   -- an order of this feed was asked for and waited for
   abbrev pub AsksAndWaits : List ℕ → Result (ℕ × N) OrderFault → WorkerOrdersValue N → WorkerOrdersValue N → Type 0
   AsksAndWaits feed came before after =
-      Waits feed came (dealings_of before) (dealings_of after) × IsNoted (waited_value feed (version_alone came)) before after
+      Waits feed came (dealings_of before) (dealings_of after) × AddsOrder (waited_value feed (version_alone came)) before after
 
   -- each of these orders was asked for, one after the other
   abbrev pub AreAsked : List OrderValue → WorkerOrdersValue N → WorkerOrdersValue N → Type 0
   AreAsked [] before after = after ≡ before
-  AreAsked (order ∷ orders) before after = (between : WorkerOrdersValue N) × Asks order before between × AreAsked orders between after
+  AreAsked (order ∷ orders) before after = (between : WorkerOrdersValue N) × AsksOrder order before between × AreAsked orders between after
 
   -- each order that was asked for here did this, from the first on: so all that was put at the queue and received of it comes from these orders.
   -- How often the end had tried before is nothing that an order shows

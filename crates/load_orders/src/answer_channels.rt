@@ -33,7 +33,7 @@ pub enum AnswerView<N> {
 }
 
 /// A rule of answer channels, which stays true whenever an answer is received. Nothing here says that it is true of a
-/// new way back. So only the channel itself can say that it was true while no answer was in the channel.
+/// new channel. So only the channel itself can say that it was true while no answer was in the channel.
 pub trait AnswerRule<N: Drop>: Protocol<LoadAnswer<N>, AnswerView<N>> {
     ghost use Rattle.load_orders.specs.AnswerChannels.{IsKeptByReceiving};
 

@@ -3,7 +3,8 @@
 ghost use Rattle.std.specs.Prelude.{◌≡◌, IfOk, IfSome, IsPermutation, MatchBool};
 ghost use Rattle.handoff.specs.Ends.{SendsOut, unused_putter};
 ghost use Rattle.load_orders.specs.Answering.{nothing_taken};
-ghost use Rattle.load_orders.specs.Keeping.{KeeperValue, closed_once_more, nothing_ordered, with_one_out, with_orders};
+ghost use Rattle.load_orders.specs.Keeping.{OrderKeeperValue, closed_for_loader, nothing_ordered, with_one_out};
+ghost use Rattle.load_orders.specs.Keeping.{with_orders};
 
 use crate::ghost_list::GhostList;
 use crate::loader::{LoaderOrders, UsedLoader};
@@ -24,9 +25,9 @@ pub struct OrderKeeper<N: Drop> {
 }
 
 impl<N: Drop> Model for OrderKeeper<N> {
-    ghost use Rattle.load_orders.specs.Keeping.{IsOrderKeeper, KeeperValue};
+    ghost use Rattle.load_orders.specs.Keeping.{IsOrderKeeper, OrderKeeperValue};
 
-    ghost Value = { KeeperValue N };
+    ghost Value = { OrderKeeperValue N };
 
     ghost view = { λ s. record {
       queue = s.keeper.queue;
@@ -79,7 +80,7 @@ impl<N: Drop> OrderKeeper<N> {
     /// loader is gone.
     pub fn close<R: Wait>(&mut self, rt: &R) -> bool
         requires { self.old.out ≡ 0 }
-        ensures { MatchBool result (self.new ≡ closed_once_more self.old) (self.new ≡ self.old) }
+        ensures { MatchBool result (self.new ≡ closed_for_loader self.old) (self.new ≡ self.old) }
     {
         self.keeper.close(rt)
     }

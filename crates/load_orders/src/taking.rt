@@ -3,8 +3,9 @@
 ghost use Rattle.std.specs.Prelude.{◌≡◌, ◌++◌, ◌∷◌, [], map, string_bytes, List, Some, IfErr, IfOk, MatchResult};
 ghost use Rattle.orders.specs.Ordering.{IsNotTaken, order_value};
 ghost use Rattle.handoff.specs.Ends.{after_try, with_item};
-ghost use Rattle.load_orders.specs.Asking.{Asks, AsksAndWaits, HasAsked, IsNotAwaited, IsTurnedAway, OrderRoute, Puts};
-ghost use Rattle.load_orders.specs.Asking.{Waits, awaited_order, dealings, fault_of_answer, order_words, route_of};
+ghost use Rattle.load_orders.specs.Asking.{AsksAndWaits, AsksOrder, HasAsked, IsNotAwaited, OrderRoute, Puts};
+ghost use Rattle.load_orders.specs.Asking.{TakesNoOrder, Waits, awaited_order, dealings, fault_of_answer};
+ghost use Rattle.load_orders.specs.Asking.{order_words, route_of};
 ghost use Rattle.load_orders.specs.AnswerChannels.{AnswerChannelId, AnswerEndValue, received_at};
 ghost use Rattle.load_orders.specs.declared.answer_channels.LoadAnswer.{LoadAnswer};
 
@@ -134,7 +135,7 @@ fn put<R: Wait, N: Drop, P: OrderRule<N>>(
     order: Order<N>,
 ) -> Result<(), OrderFault>
     ensures tried { end.new ≡ after_try end.old order result }
-    ensures refused { IfErr result (IsTurnedAway P.Protocol.holds end.old) }
+    ensures refused { IfErr result (TakesNoOrder P.Protocol.holds end.old) }
 {
     match end.try_put(rt, order) {
         Ok(()) => Ok(()),
@@ -251,7 +252,7 @@ impl<'a, R: Wait, N: Drop, T: Versions<Notice = N>, P: OrderRule<N>> Orders
     /// Puts an order of the first feed of that name: `UnknownFeed` exactly where there is none,
     /// `OrdersFull` where four orders waited in the queue at one moment of the call.
     fn order(&mut self, feed: &str) -> Result<(), OrderFault>
-        ensures asked { Asks (order_words P.Protocol.holds T.words.version) (order_value feed.now result)
+        ensures asked { AsksOrder (order_words P.Protocol.holds T.words.version) (order_value feed.now result)
             self.old self.new }
         ensures plain { IfErr result IsNotTaken }
     {

@@ -17,8 +17,8 @@ use Rattle.session.specs.Lines.{LineMeaning}
 use Rattle.session.specs.SeatSteps.{AnswerStep, Follows, SeatMove, answered, joined, answers_in}
 use Rattle.session.specs.Sessions.{AreExchanges, LastRelease, moves_of}
 use Rattle.session.specs.Exchanges.{Exchange, IsExchange, Meets, ProfileIsMet, SeatState, deed_of, seat_state}
-use Rattle.session.specs.Learning.{AreFromPublished, GoesOn, IsFromPublished, IsPublishedIfHeld, Learns, LearningTells, ReportsPublished}
-use Rattle.session.specs.Learning.{PinIsPublished}
+use Rattle.session.specs.Learning.{ExchangeIsFromPublished, ExchangesAreFromPublished, GoesOn, IsPublishedIfHeld, Learns, LearningTells}
+use Rattle.session.specs.Learning.{PinIsPublished, ReplyIsFromPublished}
 use Rattle.session.proofs.SeatLemmas.{answers_grow, is_pinned, pin_refused, release_refused, steps}
 use Rattle.session.specs.Replies.{ReplyValue}
 use Rattle.session.proofs.ExchangeLemmas.{moves_follow}
@@ -106,7 +106,7 @@ held_published number k a b (joined version ∷ moves) (m, step, rest) held are 
 
 -- a profile is answered from what was published
 profile_from : (k : KnownHistory) (form : ReplyForm) (held : Option (ℕ × ImageValue)) (ask : AskValue) (moves : List SeatMove) (reply : ReplyValue)
-    → ProfileIsMet form held ask moves reply → IsPublishedIfHeld k held → All (PinIsPublished k) (answers_in moves) → IsFromPublished k form ask reply
+    → ProfileIsMet form held ask moves reply → IsPublishedIfHeld k held → All (PinIsPublished k) (answers_in moves) → ReplyIsFromPublished k form ask reply
 profile_from k form (Some h) ask moves reply met held are = inl (h.0, h.1, held, met.1)
 profile_from k form None ask moves reply (inl met) held are =
     let once = subst (λ (xs : List SeatMove). All (PinIsPublished k) (answers_in xs)) met.once.moves_are are in
@@ -115,7 +115,7 @@ profile_from k form None ask moves reply (inl met) held are =
 profile_from k form None ask moves reply (inr refused) held are = inr (refused.fault, refused.reply_is)
 
 exchange_from : (k : KnownHistory) (form : ReplyForm) (held : Option (ℕ × ImageValue)) (t : Exchange) → IsExchange form held t → IsPublishedIfHeld k held
-    → All (PinIsPublished k) (answers_in t.moves) → ReportsPublished k form t
+    → All (PinIsPublished k) (answers_in t.moves) → ExchangeIsFromPublished k form t
 exchange_from k form held t (inl memory) published are = inl (ap (λ (r : ReplyValue). r.text) memory.0)
 exchange_from k form held t (inr (asked, is, inl memory)) published are = inl (ap (λ (r : ReplyValue). r.text) memory.0)
 exchange_from k form held t (inr (asked, is, inr met)) published are = inr (
@@ -133,7 +133,7 @@ answers_in-append (joined version ∷ xs) ys = answers_in-append xs ys
 
 exchanges_from : (k : KnownHistory) (form : ReplyForm) (number : ℕ) (a b : SeatState) (exchanges : List Exchange)
     → AreExchanges form number a exchanges b → IsPublishedIfHeld k a.seat.held → All (PinIsPublished k) (answers_in (moves_of exchanges))
-    → AreFromPublished k form exchanges
+    → ExchangesAreFromPublished k form exchanges
 exchanges_from k form number a b [] same held are = tt
 exchanges_from k form number a b (t ∷ exchanges) (m, exchange, rest) held are =
     let parts = parts_of (PinIsPublished k) (answers_in t.moves) (answers_in (moves_of exchanges))

@@ -21,7 +21,7 @@ use Rattle.shelves.specs.Seats.{SeatValue}
 use Rattle.session.specs.SeatSteps.{SeatReply, seat_reply}
 use Rattle.session.specs.Replies.{ReplyValue}
 use Rattle.session.specs.Sessions.{AnswerLines, AreReadFor, AreShort, AreExchanges, EndsSo, IsCutShort, ServeWords, Serves, SessionState}
-use Rattle.session.specs.Sessions.{answered_by, lines_in, replies_in, replies_of, session_record_of, text_of}
+use Rattle.session.specs.Sessions.{answered_by, lines_in, replies_in, replies_of, replies_text, session_record_of}
 use Rattle.session.specs.Exchanges.{SeatState, Exchange, ExchangeLeadsTo}
 use Rattle.session.proofs.ExchangeLemmas.{AreExchanges-more}
 
@@ -39,7 +39,7 @@ module _ {R W S : Type 0} (words : ServeWords R W) where
     pub cut : IsCut (all_of blocks) (lines_in exchanges) unread
     pub in_turn : AreReadFor count blocks
     pub calls : HasWritten words.writes count a.writer b.writer
-    pub writes : Appends (written_in words a.writer) (written_in words b.writer) (text_of exchanges)
+    pub writes : Appends (written_in words a.writer) (written_in words b.writer) (replies_text exchanges)
     pub replies : b.replied ≡ a.replied ++ replies_in exchanges
     pub does : AreExchanges words.form number a.at_seat exchanges b.at_seat
     pub many : length exchanges ≡ count
@@ -177,10 +177,10 @@ module _ {R W S : Type 0} {words : ServeWords R W} {number count : ℕ} {a b : S
   -- a session that ends so behind the lines that are answered
   serves_so_far : (result : Result Ended SessionFault) → count ≤ 1_000_000 → count ≤ answered_by result so_far.exchanges
       → Consumes (unread_in words a.reader) (unread_in words reader) (all_of all)
-      → EndsSo words result (session_record_of all (text_of so_far.exchanges) so_far.exchanges a now) → Serves words number result a now
+      → EndsSo words result (session_record_of all (replies_text so_far.exchanges) so_far.exchanges a now) → Serves words number result a now
   serves_so_far result few answered consumed ends = record {
     blocks = all;
-    written = text_of so_far.exchanges;
+    written = replies_text so_far.exchanges;
     exchanges = so_far.exchanges;
     reads = consumed;
     in_turn = AreReadFor-more count (answered_by result so_far.exchanges) all answered so_far.in_turn;
@@ -250,15 +250,15 @@ module _ {R W S : Type 0} {words : ServeWords R W} {number count : ℕ} {a b : S
     more_lines : (line : List ℕ) → t.line ≡ line → lines_in exchanges ≡ lines_in so_far.exchanges ++ line ∷ []
     more_lines line is = map-append (λ (u : Exchange). u.line) so_far.exchanges (t ∷ []) ∙ ap (λ (l : List ℕ). lines_in so_far.exchanges ++ l ∷ []) is
 
-    more_text : part ≡ t.reply.text → text_of so_far.exchanges ++ part ≡ text_of exchanges
-    more_text whole = ap (λ (xs : List ℕ). text_of so_far.exchanges ++ xs) whole ∙ flat_map_more (λ (u : Exchange). u.reply.text) [] so_far.exchanges t
+    more_text : part ≡ t.reply.text → replies_text so_far.exchanges ++ part ≡ replies_text exchanges
+    more_text whole = ap (λ (xs : List ℕ). replies_text so_far.exchanges ++ xs) whole ∙ flat_map_more (λ (u : Exchange). u.reply.text) [] so_far.exchanges t
 
     more_short : (line : List ℕ) → t.line ≡ line → length line ≤ 16_777_216 → AreShort exchanges
     more_short line is short = AreShort-more so_far.exchanges t so_far.short (subst (λ (l : List ℕ). length l ≤ 16_777_216) (sym is) short)
 
-    more_writes : Appends (written_in words a.writer) (written_in words writer) (text_of so_far.exchanges ++ part)
+    more_writes : Appends (written_in words a.writer) (written_in words writer) (replies_text so_far.exchanges ++ part)
     more_writes = Appends-trans (written_in words a.writer) (written_in words b.writer) (written_in words writer)
-        (text_of so_far.exchanges) part so_far.writes one.writes
+        (replies_text so_far.exchanges) part so_far.writes one.writes
 
     -- the line was given of the bytes that were in none
     more_cut : {new : LineReader} (gives : GivesEnded bytes new) → t.line ≡ gives.line → IsCut (all_of all) (lines_in exchanges) (unread_of new)
@@ -273,11 +273,11 @@ module _ {R W S : Type 0} {words : ServeWords R W} {number count : ℕ} {a b : S
     -- a session that ends so behind one line more, whose reply is perhaps not written wholly
     serves_one_more : (result : Result Ended SessionFault) (line : List ℕ) → count < 1_000_000 → t.line ≡ line → length line ≤ 16_777_216
         → count ≤ answered_by result exchanges
-        → EndsSo words result (session_record_of all (text_of so_far.exchanges ++ part) exchanges a (answered_on now writer replied at_seat))
+        → EndsSo words result (session_record_of all (replies_text so_far.exchanges ++ part) exchanges a (answered_on now writer replied at_seat))
         → Serves words number result a (answered_on now writer replied at_seat)
     serves_one_more result line few line_is short answered ends = record {
       blocks = all;
-      written = text_of so_far.exchanges ++ part;
+      written = replies_text so_far.exchanges ++ part;
       exchanges = exchanges;
       reads = reads_consume words.reads a.reader.inner reader.inner all (all_read reads).1;
       in_turn = AreReadFor-more count (answered_by result exchanges) all answered so_far.in_turn;
@@ -303,8 +303,8 @@ module _ {R W S : Type 0} {words : ServeWords R W} {number count : ℕ} {a b : S
         → AnswerLines exchanges (all_of all) (IsAtEnd (unread_in words reader)) → HasFailed words.writes b.writer writer
         → Serves words number (Err SessionFault.WriteFailed) a (answered_on now writer replied at_seat)
     cut_short n line part_is few line_is short lines failed =
-        let part_written = ap (λ (xs : List ℕ). text_of so_far.exchanges ++ xs) part_is in
-        let cut : IsCutShort (text_of so_far.exchanges ++ part) exchanges =
+        let part_written = ap (λ (xs : List ℕ). replies_text so_far.exchanges ++ xs) part_is in
+        let cut : IsCutShort (replies_text so_far.exchanges ++ part) exchanges =
         record { answered = so_far.exchanges; last = t; count = n; exchanges_are = refl; written_is = part_written } in
         let behind : count ≡ length exchanges - 1 = omega (arith, many) in
         let fails = subst (λ (m : ℕ). HasFailedBehind words.writes m a.writer writer) behind

@@ -36,19 +36,19 @@ pub record GoesOn {T S N : Type 0} (words : SeatWords T S N) (shelves : T) (a b 
   pub learns : Learns (words.known a) (words.shown a) (words.known b) (words.shown b)
 
 -- this profile is answered over the image that this history published as the version that the reply names; or no version could be pinned
-abbrev pub IsFromPublished : KnownHistory → ReplyForm → AskValue → ReplyValue → Type 0
-IsFromPublished known form ask reply =
+abbrev pub ReplyIsFromPublished : KnownHistory → ReplyForm → AskValue → ReplyValue → Type 0
+ReplyIsFromPublished known form ask reply =
     ((version : ℕ) × (image : ImageValue) × IsPublished known version image × RepliesToProfile form image version ask reply)
     ⊎ ((fault : PinFault) × (reply ≡ plain (pin_fault_line fault)))
 
--- if a profile is asked for in this exchange, it is answered so, or want of memory is replied
-abbrev pub ReportsPublished : KnownHistory → ReplyForm → Exchange → Type 0
-ReportsPublished known form t = (t.reply.text ≡ memory_line) ⊎ ((asked : LineMeaning) × IsLineMeaning form.sets t.line asked
-    × ((ask : AskValue) → asked ≡ asks (profile ask) → IsFromPublished known form ask t.reply))
+-- if a profile is asked for in this exchange, it is answered so, or the reply says that memory ran out
+abbrev pub ExchangeIsFromPublished : KnownHistory → ReplyForm → Exchange → Type 0
+ExchangeIsFromPublished known form t = (t.reply.text ≡ memory_line) ⊎ ((asked : LineMeaning) × IsLineMeaning form.sets t.line asked
+    × ((ask : AskValue) → asked ≡ asks (profile ask) → ReplyIsFromPublished known form ask t.reply))
 
-abbrev pub AreFromPublished : KnownHistory → ReplyForm → List Exchange → Type 0
-AreFromPublished known form [] = Unit {0}
-AreFromPublished known form (t ∷ exchanges) = ReportsPublished known form t × AreFromPublished known form exchanges
+abbrev pub ExchangesAreFromPublished : KnownHistory → ReplyForm → List Exchange → Type 0
+ExchangesAreFromPublished known form [] = Unit {0}
+ExchangesAreFromPublished known form (t ∷ exchanges) = ExchangeIsFromPublished known form t × ExchangesAreFromPublished known form exchanges
 
 -- these exchanges, and the last release after them, lead the seat from `a` to `b`
 pub record LeadSeat (form : ReplyForm) (number : ℕ) (a : SeatValue) (exchanges : List Exchange) (b : SeatValue) : Type 0 where
@@ -59,11 +59,11 @@ pub record LeadSeat (form : ReplyForm) (number : ℕ) (a : SeatValue) (exchanges
 
 -- whichever exchanges led the seat from `a` to `b`: if what it held at `a` was published in this history, each profile in them is answered from what
 -- was published in it
-abbrev pub AnswerFromPublished : KnownHistory → SeatValue → SeatValue → Type 0
-AnswerFromPublished known a b =
+abbrev pub SeatAnswersFromPublished : KnownHistory → SeatValue → SeatValue → Type 0
+SeatAnswersFromPublished known a b =
     IsPublishedIfHeld known a.held → (form : ReplyForm) (number : ℕ) (exchanges : List Exchange) → LeadSeat form number a exchanges b
-    → AreFromPublished known form exchanges
+    → ExchangesAreFromPublished known form exchanges
 
 -- a seat that learns from `a` to `b` what `Learns` says answers profiles from what was published in the history that it knows at `b`
 abbrev pub LearningTells : Type 0
-LearningTells = (known known_then : KnownHistory) (a b : SeatValue) → Learns known a known_then b → AnswerFromPublished known_then a b
+LearningTells = (known known_then : KnownHistory) (a b : SeatValue) → Learns known a known_then b → SeatAnswersFromPublished known_then a b

@@ -23,8 +23,8 @@ abbrev pub lines_in : List Exchange → List (List ℕ)
 lines_in exchanges = map (λ t. t.line) exchanges
 
 -- the replies, end to end
-abbrev pub text_of : List Exchange → List ℕ
-text_of exchanges = flat_map (λ t. t.reply.text) exchanges
+abbrev pub replies_text : List Exchange → List ℕ
+replies_text exchanges = flat_map (λ t. t.reply.text) exchanges
 
 -- the replies, each with what the seat showed when it was written, and what was read for it
 abbrev pub replies_in : List Exchange → List SeatReply
@@ -47,7 +47,7 @@ pub record IsCutShort (written : List ℕ) (exchanges : List Exchange) : Type 0 
   pub last : Exchange
   pub count : ℕ  -- of the bytes of the last reply
   pub exchanges_are : exchanges ≡ answered ++ last ∷ []
-  pub written_is : written ≡ text_of answered ++ take count last.reply.text
+  pub written_is : written ≡ replies_text answered ++ take count last.reply.text
 
 -- what contracts say of a session: the form of its replies, its reader and its writer
 pub record ServeWords (R W : Type 0) : Type 1 where
@@ -126,11 +126,11 @@ module _ {R W S : Type 0} (words : ServeWords R W) where
   -- all is read and answered
   EndsSo (Ok ended) e =
       IsAtEnd (words.reads.bytes (inner_of e.after.reader)) × ReadsWork e × WritesWork e × (lines_in e.exchanges ≡ lines_of (read_in e))
-      × (e.written ≡ text_of e.exchanges)
+      × (e.written ≡ replies_text e.exchanges)
   -- the last read failed, or a line went on past 16,777,216 bytes, of which one byte more was read; all whole lines before that are answered
   EndsSo (Err SessionFault.ReadFailed) e =
       (HasFailedToRead words.reads e.before.reader e.blocks e.after.reader ⊎ (ReadsWork e × (length (rest_of (read_in e)) ≡ 16_777_217)))
-      × WritesWork e × (lines_in e.exchanges ≡ whole_lines (read_in e)) × (e.written ≡ text_of e.exchanges)
+      × WritesWork e × (lines_in e.exchanges ≡ whole_lines (read_in e)) × (e.written ≡ replies_text e.exchanges)
   -- the last write or flush failed: lines that were read are answered, and the last reply is perhaps not written wholly
   EndsSo (Err SessionFault.WriteFailed) e =
       HasFailedBehind words.writes (length e.exchanges - 1) e.before.writer e.after.writer × ReadsWork e
@@ -138,7 +138,7 @@ module _ {R W S : Type 0} (words : ServeWords R W) where
   -- the first million lines are answered, and a byte behind them was read
   EndsSo (Err SessionFault.TooManyRequests) e =
       ReadsWork e × WritesWork e × (length e.exchanges ≡ 1_000_000) × (1_000_000 < length (lines_of (read_in e)))
-      × (lines_in e.exchanges ≡ take 1_000_000 (lines_of (read_in e))) × (e.written ≡ text_of e.exchanges)
+      × (lines_in e.exchanges ≡ take 1_000_000 (lines_of (read_in e))) × (e.written ≡ replies_text e.exchanges)
 
   -- what a session reads, does and writes: a million lines at most. The seat shows at each reply what the exchanges up to that one made of it
   pub record Serves (number : ℕ) (result : Result Ended SessionFault) (a b : SessionState R W S) : Type 0 where

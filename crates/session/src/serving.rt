@@ -6,7 +6,7 @@ ghost use Rattle.lines.specs.Showing.{ShowsLine};
 ghost use Rattle.lines.specs.Streams.{HasFailed, HasFlushed, inner_of};
 ghost use Rattle.shelves.specs.Seats.{SeatValue};
 ghost use Rattle.session.specs.Forms.{bare};
-ghost use Rattle.session.specs.Learning.{GoesOn, AnswerFromPublished};
+ghost use Rattle.session.specs.Learning.{GoesOn, SeatAnswersFromPublished};
 ghost use Rattle.session.specs.SeatSteps.{seat_reply};
 ghost use Rattle.session.specs.Sessions.{LastRelease, Serves, replies_of, serve_words, state_of};
 ghost use Rattle.session.specs.Exchanges.{AgreeOnNotices, Exchange, ExchangeLeadsTo, seat_state};
@@ -44,7 +44,8 @@ pub fn serve<
     requires notices { AgreeOnNotices O.notice_version T.words.version }
     ensures seat { GoesOn T.words shelves.now seat.old seat.new }
     ensures route { O.route orders.new ≡ O.route orders.old }
-    ensures profiles { AnswerFromPublished (T.words.known seat.new) (T.words.shown seat.old) (T.words.shown seat.new) }
+    ensures profiles { SeatAnswersFromPublished (T.words.known seat.new) (T.words.shown seat.old)
+        (T.words.shown seat.new) }
     ensures released { (T.words.shown seat.new).held ≡ None }
     ensures session { (last : SeatValue) × LastRelease (T.words.number seat.old) last (T.words.shown seat.new)
         × Serves (serve_words bare In.words Out.words) (T.words.number seat.old) result
@@ -71,7 +72,7 @@ impl<'a, N: Drop, T: Versions<Notice = N>, G: Gate> SessionServer<'a, T, G> {
         requires notices { AgreeOnNotices O.notice_version T.words.version }
         ensures seat { GoesOn T.words self.now.shelves.now seat.old seat.new }
         ensures route { O.route orders.new ≡ O.route orders.old }
-        ensures profiles { AnswerFromPublished (T.words.known seat.new) (T.words.shown seat.old)
+        ensures profiles { SeatAnswersFromPublished (T.words.known seat.new) (T.words.shown seat.old)
             (T.words.shown seat.new) }
         ensures released { (T.words.shown seat.new).held ≡ None }
         ensures session { (last : SeatValue) × LastRelease (T.words.number seat.old) last (T.words.shown seat.new)

@@ -404,8 +404,8 @@ loader takes: slow
 loader takes: slow
 loader takes: nothing";
 
-/// An order for which its worker would wait isn't put, since the queue is full, or there is no memory for a way back.
-/// Neither changes the queue.
+/// An order for which its worker would wait isn't put, since the queue is full, or there is no memory for an answer
+/// channel. Neither changes the queue.
 fn awaits_at_a_full_queue<R: Wait + Abort>(
     rt: &R,
     ends: &mut QueueEnds<'_, R>,

@@ -2,7 +2,7 @@
 use Rattle.std.proofs.Common.{◌≡◌, ◌∷◌, ℕ, List, [], Option, Some, None, sym, subst}
 use Rattle.image_layout.specs.Image.{ImageValue}
 use Rattle.shelf_steps.specs.declared.views.KnownHistory.{KnownHistory}
-use Rattle.session.specs.Learning.{IsPublishedIfHeld, Learns, AnswerFromPublished, PinIsPublished}
+use Rattle.session.specs.Learning.{IsPublishedIfHeld, Learns, PinIsPublished, SeatAnswersFromPublished}
 use Rattle.session.specs.Exchanges.{seat_state}
 use Rattle.session.specs.declared.session_server.Streams.{Streams}
 use Rattle.shelves.proofs.GrowthLemmas.{learns_nothing}
@@ -28,7 +28,7 @@ module _ {C R W T S N : Type 0} (words : SessionWords C R W T S N) where
   -- a session at a seat that held nothing, which tells what this history published
   exact_one : (history : KnownHistory) (client : C) (now : Option (Streams R W S)) (end : SessionEnd) (a m : WorkerState S)
       → (words.seats.shown a.seat).held ≡ None → IsServed words client (now, end) a m
-      → AnswerFromPublished history (words.seats.shown a.seat) (words.seats.shown m.seat)
+      → SeatAnswersFromPublished history (words.seats.shown a.seat) (words.seats.shown m.seat)
       → IsExact words history (served_client_of client (now, end)) a m
   exact_one history client None end a m none served tells = served
   exact_one history client (Some now) end a m none served tells =

@@ -1,9 +1,9 @@
 -- Where the workers of a server work, and what they return.
 use Rattle.std.specs.Prelude.{◌≡◌, ◌++◌, ◌∷◌, ℕ, List, [], All, length, true}
-use Rattle.client_queue.specs.Ends.{DealerValue, nothing_put, with_back}
+use Rattle.client_queue.specs.Ends.{DealerValue, nothing_put, with_taker_back}
 use Rattle.handoff.specs.Ends.{QueueId, TakerValue}
 use Rattle.load_orders.specs.Asking.{OrderRoute}
-use Rattle.load_orders.specs.Keeping.{KeeperValue, OrderQueueId, with_orders}
+use Rattle.load_orders.specs.Keeping.{OrderKeeperValue, OrderQueueId, with_orders}
 use Rattle.feed_loads.specs.Words.{FeedWords}
 use Rattle.session.specs.declared.reply_form.ReplyForm.{ReplyForm}
 use Rattle.workers.specs.Ordering.{put_by, route_to}
@@ -45,9 +45,9 @@ pub record IsWorked {C R W T S N F D : Type 0} (words : SessionWords C R W T S N
 -- the ends that keep both queues
 pub record QueuesValue (C N : Type 0) : Type 0 where
   pub clients : DealerValue C
-  pub orders : KeeperValue N
+  pub orders : OrderKeeperValue N
 
-abbrev pub queues_of : {C N : Type 0} → DealerValue C → KeeperValue N → QueuesValue C N
+abbrev pub queues_of : {C N : Type 0} → DealerValue C → OrderKeeperValue N → QueuesValue C N
 queues_of clients orders = record { clients = clients; orders = orders }
 
 -- a worker is joined for whom the queue of clients was closed: its ends of both queues are back, and what it returns is added to the work
@@ -57,7 +57,7 @@ pub record IsJoined {C R W T S N F D : Type 0} (words : SessionWords C R W T S N
   pub share : ShareValue R W S N
   pub worked : IsWorked words feeds post taker share
   pub closed : taker.closed ≡ true
-  pub clients_are : b.0.clients ≡ with_back a.0.clients taker
+  pub clients_are : b.0.clients ≡ with_taker_back a.0.clients taker
   pub orders_are : b.0.orders ≡ with_orders a.0.orders share.orders.end.items
   pub sessions_are : b.1.sessions ≡ a.1.sessions ++ share.sessions
   pub seats_are : b.1.seats ≡ a.1.seats ++ share.seat ∷ []

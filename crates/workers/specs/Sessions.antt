@@ -6,7 +6,7 @@ use Rattle.lines.specs.Streams.{inner_of}
 use Rattle.load_orders.specs.Asking.{OrderRoute, WorkerOrdersValue}
 use Rattle.orders.specs.Ordering.{OrderValue}
 use Rattle.shelf_steps.specs.declared.views.KnownHistory.{KnownHistory}
-use Rattle.session.specs.Learning.{AreFromPublished, Learns, AnswerFromPublished}
+use Rattle.session.specs.Learning.{ExchangesAreFromPublished, Learns, SeatAnswersFromPublished}
 use Rattle.session.specs.declared.fault.Ended.{Ended}
 use Rattle.session.specs.declared.fault.SessionFault.{SessionFault}
 use Rattle.session.specs.Sessions.{LastRelease, Serves, serve_words, state_of}
@@ -91,11 +91,12 @@ module _ {C R W T S N : Type 0} (words : SessionWords C R W T S N) where
   abbrev pub IsServed : C → Session R W S → WorkerState S → WorkerState S → Type 0
   IsServed client session a b = MatchOption session.0 (IsUnopened client session.1 a b) (λ now. IsSession client (now, session.1) a b)
 
-  -- as `IsServed`; and each profile in the session's exchanges, unless memory or a version was wanting, is answered exactly, over the accepted image
-  -- that this history published as the version that the reply names
+  -- as `IsServed`; and each profile in the session's exchanges, unless memory ran out or no version could be pinned, is answered exactly, over the
+  -- accepted image that this history published as the version that the reply names
   abbrev pub IsExact : KnownHistory → ServedClient C R W S → WorkerState S → WorkerState S → Type 0
   IsExact history served_client a b = MatchOption served_client.session.0 (IsUnopened served_client.client served_client.session.1 a b)
-      (λ now. (session : IsSession served_client.client (now, served_client.session.1) a b) × AreFromPublished history words.form session.serves.exchanges)
+      (λ now. (session : IsSession served_client.client (now, served_client.session.1) a b)
+      × ExchangesAreFromPublished history words.form session.serves.exchanges)
 
   -- the clients are served at this seat one after the other, and each profile in their sessions is answered exactly, as the history has it that the
   -- seat knows in the end
@@ -115,7 +116,7 @@ module _ {C R W T S N : Type 0} (words : SessionWords C R W T S N) where
     pub served : IsServed client session a b
     pub number : words.seats.number b.seat ≡ words.seats.number a.seat
     pub learns : Learns (words.seats.known a.seat) (words.seats.shown a.seat) (words.seats.known b.seat) (words.seats.shown b.seat)
-    pub profiles : AnswerFromPublished (words.seats.known b.seat) (words.seats.shown a.seat) (words.seats.shown b.seat)
+    pub profiles : SeatAnswersFromPublished (words.seats.known b.seat) (words.seats.shown a.seat) (words.seats.shown b.seat)
     pub idle : HoldsNothing a.seat → HoldsNothing b.seat
 
   -- the clients are served at this seat one after the other, each in one of these sessions

@@ -36,11 +36,11 @@ use std::thread::Threads;
 ///   beginnings of one. After an `Err`, either no client was taken from the source, or no further one comes; of
 ///   sessions nothing is said then.
 /// - `served`: each client who came was dealt to exactly one worker and had one session at its seat, unless it couldn't
-///   be opened. Each line that was read has its reply, up to where the session ended. Each profile is answered exactly,
-///   over the image that was published as the version that the reply names, and for it each connection of the window
-///   was read once, which is noted with the reply; or the reply says why it isn't: memory ran out, no version could be
-///   pinned, or the profile or its window can't be asked of that image. That the seats hold nothing at first is no part
-///   of it: `ready` doesn't ask for that.
+///   be opened. Each line that was read has its reply, up to where the session ended. If the seat held nothing at
+///   first, as a new one does, each profile is answered exactly, over the image that was published as the version that
+///   the reply names, and for it each connection of the window was read once, which is noted with the reply; or the
+///   reply says why it isn't: memory ran out, no version could be pinned, or the profile or its window can't be asked
+///   of that image.
 /// - `loaded`: the loader took exactly the orders that the sessions put, each once, and carried out each, from files
 ///   that were drawn for it. Each image that it published is that of the bytes that the files of the ordered feed gave.
 /// - `pinned`: no image is collected while a seat of these shelves has it pinned. This is a law: shelves change by the

@@ -3,7 +3,7 @@ use Rattle.std.proofs.lemmas.List.{flat_map_more, length-append, map-append, nil
 use Rattle.std.proofs.lemmas.List.Elements.{All-pop, All-push}
 use Rattle.handoff.specs.Ends.{times}
 use Rattle.load_orders.specs.Asking.{WorkerOrdersValue}
-use Rattle.load_orders.specs.Keeping.{KeeperValue, OrderQueueId, with_orders}
+use Rattle.load_orders.specs.Keeping.{OrderKeeperValue, OrderQueueId, with_orders}
 use Rattle.session.specs.declared.reply_form.ReplyForm.{ReplyForm}
 use Rattle.workers.specs.Ordering.{put_by, route_to}
 use Rattle.workers.specs.Posts.{IsWorked, PostValue}
@@ -75,8 +75,8 @@ returns-in-Some-join_worker-clause-served g t c =
           (subst (λ list. HaveAllServed words (taken ++ one.taker.taken) list work_then) (sym starts) all);
       fit = subst (λ list. All (g.T.Versions.words.fits workplace.shelves.now) list) (sym one.seats_are)
           (All-push (g.T.Versions.words.fits workplace.shelves.now) _ one.share.seat left.fit mine.fits);
-      orders_are = one.orders_are ∙ ap (λ (k : KeeperValue _). with_orders k more)
-          (left.orders_are ∙ ap (λ (k : KeeperValue _). record k { put = put }) started.ends.1)
+      orders_are = one.orders_are ∙ ap (λ (k : OrderKeeperValue _). with_orders k more)
+          (left.orders_are ∙ ap (λ (k : OrderKeeperValue _). record k { put = put }) started.ends.1)
           ∙ ap (λ n. record asks { out = n; put = put ++ more }) back
           ∙ ap (λ list. record asks { put = list })
           (flat_map_more (λ (orders : WorkerOrdersValue _). orders.end.items) [] work.orders one.share.orders ∙ sym (ap put_by one.asked_are));

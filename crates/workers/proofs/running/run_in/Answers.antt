@@ -1,7 +1,7 @@
 use Rattle.std.proofs.Common.{◌∙◌, ap, arith, subst, sym}
 use Rattle.std.proofs.lemmas.List.{length-map}
 use Rattle.std.specs.Prelude.{IsPermutation}
-use Rattle.load_orders.specs.Keeping.{KeeperValue, OrderQueueId}
+use Rattle.load_orders.specs.Keeping.{OrderKeeperValue, OrderQueueId}
 use Rattle.feed_loads.specs.Carrying.{AreLoaded, load_input_of, loads_value}
 use Rattle.feed_loads.specs.Posts.{IsLoaderDone, LoaderPostValue}
 use Rattle.feed_loads.specs.Words.{loads_of, outcomes_of}
@@ -27,7 +27,7 @@ returns-in-Some g c =
     let value = loads_value after.loader_orders after.used in
     let done = subst (λ (post : LoaderPostValue _ _ _ _). IsLoaderDone loads post value after.loader) c.in-Ok-start_loader.ensures after.ensures.1 in
     let names = g.F.Feeds.words.named workplace.feeds.now in
-    let queue = ap (λ (k : KeeperValue _). k.queue) c.in-Ok-order_queue.ensures.keeper ∙ sym done.queue in
+    let queue = ap (λ (k : OrderKeeperValue _). k.queue) c.in-Ok-order_queue.ensures.keeper ∙ sym done.queue in
     let work = work_of ran.work.served ran.work.seats.items ran.work.asked in
     let none = ap (λ v. v.out) c.in-Ok.ensures in
     let starts = length-map c.args.seats.items (λ seat. worker_start seat (route_to names c.in-Ok-order_queue.asks.queue)) in

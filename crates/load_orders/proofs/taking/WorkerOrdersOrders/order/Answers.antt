@@ -1,6 +1,6 @@
 use Rattle.std.proofs.Common.{map, rules, string_bytes}
 use Rattle.orders.specs.Ordering.{order_value}
-use Rattle.load_orders.specs.Asking.{Asks, WorkerOrdersValue, order_words}
+use Rattle.load_orders.specs.Asking.{AsksOrder, WorkerOrdersValue, order_words}
 use Rattle.load_orders.proofs.AskLemmas.{asked_more}
 use Rattle.load_orders.proofs.taking.WorkerOrdersOrders.order.Goals as goal
 
@@ -14,7 +14,7 @@ invariant_of-self g c =
     let before : WorkerOrdersValue _ = record { names = names; end = here.end; asked = here.asked; received = here.received } in
     let after : WorkerOrdersValue _ = record { names = names; end = put.new.end; asked = c.note.new.self; received = here.received } in
     let puts = put.ensures.put here.received in
-    let did : Asks words (order_value c.args.feed.now put.result) before after = search rules in
+    let did : AsksOrder words (order_value c.args.feed.now put.result) before after = search rules in
     asked_more words _ before after c.self.invariant did
 
 pub returns-clause-asked : goal.returns-clause-asked
