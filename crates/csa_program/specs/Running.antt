@@ -6,6 +6,7 @@ use Rattle.feed_files.specs.Files.{Gives}
 use Rattle.image_files.specs.Held.{HoldsOfBytes, IsUnreadable}
 use Rattle.image_files.specs.Watching.{HasFault, IsBegun}
 use Rattle.image_files.specs.Out.{OutFiles}
+use Rattle.image_files.specs.declared.names.NameForm.{NameForm}
 use Rattle.image_layout.specs.Image.{ImageValue}
 use Rattle.command_line.specs.declared.reading.NoCommand.{NoCommand}
 use Rattle.command_line.specs.declared.reading.NoCommand.TheVariants.{Help, Mistake, OutOfMemory}
@@ -106,22 +107,24 @@ module _ (may_hold : List ℕ → Option (List ℕ) → Type 0) (may_fail : List
   IsServeEnd may_host fault status before after =
       IsOutcome IsServeRefusal IsUnservable fault status before after ⊎ IsEndOfRun may_host fault status before after
 
--- a command over the image at its path ended so; `disk` says what is known of files that are written, and `fault` is that of the output
-abbrev pub IsEndOver : (List ℕ → Option (List ℕ) → Type 0) → (List ℕ → Type 0) → OutFiles → Option (List ℕ) → Type 0 → Option ErrorKind → ImageRequest
-    → ℕ → Option (List ℕ) → Option (List ℕ) → Type 0
-IsEndOver may_hold may_fail disk input input_failed fault asked =
-    IsOutcome (PrintsOver may_hold (path_of asked) input (λ image. PrintsAsked may_hold disk image asked))
+-- a command over the image at its path ended so; `disk` says what is known of files that are written, `names` how names are written in lines to the output,
+-- and `fault` is that of the output
+abbrev pub IsEndOver : (List ℕ → Option (List ℕ) → Type 0) → (List ℕ → Type 0) → OutFiles → NameForm → Option (List ℕ) → Type 0 → Option ErrorKind
+    → ImageRequest → ℕ → Option (List ℕ) → Option (List ℕ) → Type 0
+IsEndOver may_hold may_fail disk names input input_failed fault asked =
+    IsOutcome (PrintsOver may_hold (path_of asked) input (λ image. PrintsAsked may_hold disk names image asked))
     (IsUnusableOver may_hold may_fail input input_failed (path_of asked) (λ image. IsUnusable may_fail may_hold disk image asked)) fault
 
--- `gives` says what a disk of some kind may give for a folder in some state and the name of a file, and `disk` what is known of files that are written;
+-- `gives` says what a disk of some kind may give for a folder in some state and the name of a file, `disk` what is known of files that are written, and
+-- `names` how names are written in lines to the output;
 -- `may_fail` that a file at a path may not be read, and `input_failed` that a read of the input failed; `may_host` says how the sessions of a server may end;
 -- `fault` is that of the output
 module _ {D : Type 0} (may_hold : List ℕ → Option (List ℕ) → Type 0) (may_fail : List ℕ → Type 0) (gives : Gives D) (disk : OutFiles)
-    (may_show : Option ℤ → Type 0) (may_host : MayHost) (input : Option (List ℕ)) (input_failed : Type 0)
+    (names : NameForm) (may_show : Option ℤ → Type 0) (may_host : MayHost) (input : Option (List ℕ)) (input_failed : Type 0)
     (fault : Option ErrorKind) where
   -- a command ended so, over the image at its path, or over the files of its folder
   abbrev pub IsEnd : CommandRequest → ℕ → Option (List ℕ) → Option (List ℕ) → Type 0
-  IsEnd (requests.OverImage asked) = IsEndOver may_hold may_fail disk input input_failed fault asked
+  IsEnd (requests.OverImage asked) = IsEndOver may_hold may_fail disk names input input_failed fault asked
   IsEnd (requests.Matrix request) = IsTableEnd may_hold may_fail disk input input_failed request fault
   IsEnd (requests.Tables request) = IsOutcome (PrintsOfFeed (IsCounts gives request) (IsTablesRefusalOf gives request.folder.now)) ⊥ fault
   IsEnd (requests.Days request) =

@@ -6,6 +6,8 @@ ghost use Rattle.profile_scan.specs.SetQuery.{IsAskableBetween, question};
 ghost use Rattle.profile_scan.specs.Destinations.{question_to_any};
 ghost use Rattle.station_answers.specs.Naming.{IsNoQuestion};
 ghost use Rattle.command_requests.specs.declared.statuses.TheConstants.{REFUSED};
+ghost use Rattle.departure_lines.specs.Showing.{names_of};
+ghost use Rattle.image_files.specs.Naming.{printed};
 ghost use Rattle.image_commands.specs.declared.wanted_stops.NoList.TheVariants.{UnknownStop};
 ghost use Rattle.image_commands.specs.Commands.{PrintsDepartures};
 ghost use Rattle.command_endings.specs.Ending.{EndsUndone, IsOutcome, PrintsOnly};
@@ -20,7 +22,7 @@ use command_requests::DeparturesRequest;
 use criteria::{Arrival, ArrivalTrips, ArrivalTripsWalk, CriterionName};
 use departure_lines::{WantedStops, departures_text};
 use feed_messages::{explain, is_file};
-use image_files::{ImageDisk, Watched};
+use image_files::{ImageDisk, NameForm, Watched};
 use image_verifier::Verified;
 use journeys::Window;
 use profile_scan::{Destinations, SetQuery};
@@ -37,10 +39,11 @@ pub fn run<H: Files + ImageDisk<Image = H::File> + AllocGlobal, O: Watched, E: W
     rt: &H,
     image: &Verified,
     request: &DeparturesRequest<'_>,
+    names: NameForm,
     output: &mut O,
     errors: &mut E,
 ) -> u8
-    ensures { IsOutcome (PrintsDepartures (H.may_hold rt.now) image.now request.now)
+    ensures { IsOutcome (PrintsDepartures (H.may_hold rt.now) names image.now request.now)
         (LacksList (H.may_fail rt.now) (H.may_hold rt.now) image.now request.now) (O.noted output.new) result
         (O.contents output.old) (O.contents output.new) }
 {
@@ -56,7 +59,15 @@ pub fn run<H: Files + ImageDisk<Image = H::File> + AllocGlobal, O: Watched, E: W
         }
     };
     match wanted_from(rt, image, request.from, errors) {
-        Ok(wanted) => print_all(rt.alloc(), image, &destinations, request, &wanted, output),
+        Ok(wanted) => print_all(
+            rt.alloc(),
+            image,
+            &destinations,
+            request,
+            &wanted,
+            names,
+            output,
+        ),
         Err(failure) => explain_list(rt, request, failure, errors),
     }
 }
@@ -68,14 +79,16 @@ fn print_all<O: Watched>(
     destinations: &Destinations,
     request: &DeparturesRequest<'_>,
     wanted: &WantedStops,
+    names: NameForm,
     output: &mut O,
 ) -> u8
     requires { IsAskableBetween image.now.timetable.stops (question_to_any destinations.now) }
-    ensures { IsOutcome (PrintsOnly (AreShownBy request.now.criterion request.now.form image.now
+    ensures { IsOutcome (PrintsOnly (AreShownBy request.now.criterion request.now.form
+        (printed (names_of request.now.form names) image.now)
         (question_to_any destinations.now) wanted.now)) ⊥ (O.noted output.new) result
         (O.contents output.old) (O.contents output.new) }
 {
-    match text_by_name(alloc, image, destinations, request, wanted) {
+    match text_by_name(alloc, image, destinations, request, wanted, names) {
         Ok(text) => status::write_text(output, text.as_str(), status::ACCEPTED),
         Err(_) => status::OUT_OF_MEMORY,
     }
@@ -176,9 +189,11 @@ fn text_by_name(
     destinations: &Destinations,
     request: &DeparturesRequest<'_>,
     wanted: &WantedStops,
+    names: NameForm,
 ) -> Result<String, AllocError>
     requires { IsAskableBetween image.now.timetable.stops (question_to_any destinations.now) }
-    ensures { IfOk result (λ text. AreShownBy request.now.criterion request.now.form image.now
+    ensures { IfOk result (λ text. AreShownBy request.now.criterion request.now.form
+        (printed (names_of request.now.form names) image.now)
         (question_to_any destinations.now) wanted.now (string_bytes text)) }
 {
     let form = request.form;
@@ -190,12 +205,29 @@ fn text_by_name(
             destinations,
             form,
             wanted,
+            names,
         ),
         CriterionName::ArrivalTrips => {
-            departures_text(alloc, image, &ArrivalTrips, destinations, form, wanted)
+            departures_text(
+                alloc,
+                image,
+                &ArrivalTrips,
+                destinations,
+                form,
+                wanted,
+                names,
+            )
         }
         CriterionName::ArrivalTripsWalk => {
-            departures_text(alloc, image, &ArrivalTripsWalk, destinations, form, wanted)
+            departures_text(
+                alloc,
+                image,
+                &ArrivalTripsWalk,
+                destinations,
+                form,
+                wanted,
+                names,
+            )
         }
     }
 }
