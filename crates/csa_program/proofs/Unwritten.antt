@@ -60,26 +60,26 @@ module _ (fault : Option ErrorKind) (has : HasFault fault) where
   text_unwritten text status before after done (inl (is, whole)) = inr (refl, has, begun_by_all before after text whole)
   text_unwritten text status before after done (inr three) = absurd (not_failed status done three.0)
 
-  module _ (may_hold : List ℕ → Option (List ℕ) → Type 0) (may_fail : List ℕ → Type 0) (disk : OutFiles) (input : Option (List ℕ))
+  module _ (may_hold : List ℕ → Option (List ℕ) → Type 0) (may_fail : List ℕ → Type 0) (disk : OutFiles) (names : NameForm) (input : Option (List ℕ))
       (input_failed : Type 0) (request : MatrixRequest) (before after : Option (List ℕ)) where
     refused_unwritten : ((line : List ℕ) × IsRefusedImage may_hold request.image.now input line × Appends before after line)
         ⊎ ((image : ImageValue) × HoldsOfBytes may_hold request.image.now input (SpellsImage image)
         × IsTableRefused may_hold image request before after)
-        → IsTableCut may_hold may_fail disk input input_failed request fault before after
+        → IsTableCut may_hold may_fail disk names input input_failed request fault before after
     refused_unwritten (inl (line, refused, whole)) = inr (inl (has, line, refused, begun_by_all before after line whole))
     refused_unwritten (inr (image, held, inl (none, whole))) =
         inr (inr (image, held, inl (has, none, begun_by_all before after (refusal_line (OfQuery BadWindow)) whole)))
     refused_unwritten (inr (image, held, inr (window, unknown, same))) = inr (inr (image, held, inr (window, inr (inl (has, unknown, same)))))
 
-    cut_unwritten : (status : ℕ) → IsSettled status → IsTableEnd may_hold may_fail disk input input_failed request fault status before after
-        → IsTableCut may_hold may_fail disk input input_failed request fault before after
+    cut_unwritten : (status : ℕ) → IsSettled status → IsTableEnd may_hold may_fail disk names input input_failed request fault status before after
+        → IsTableCut may_hold may_fail disk names input input_failed request fault before after
     cut_unwritten status (inl done) ended =
         let (image, held, (window, (table, of, shown))) = ended.printed done in
         inr (inr (image, held, inr (window, inr (inr (table, of, inr (has, shown_in_part disk table request.out.now before after shown))))))
     cut_unwritten status (inr done) ended = refused_unwritten (ended.refused done)
 
-    table_unwritten : (status : ℕ) → IsSettled status → IsTableEnd may_hold may_fail disk input input_failed request fault status before after
-        → IsTableEnd may_hold may_fail disk input input_failed request fault INPUT_OUTPUT before after
+    table_unwritten : (status : ℕ) → IsSettled status → IsTableEnd may_hold may_fail disk names input input_failed request fault status before after
+        → IsTableEnd may_hold may_fail disk names input input_failed request fault INPUT_OUTPUT before after
     table_unwritten status done ended = record {
       ends = inl (inr (inr (inl refl)));
       printed = λ e. absurd (omega (arith, e));
@@ -133,7 +133,7 @@ module _ {D : Type 0} (may_hold : List ℕ → Option (List ℕ) → Type 0) (ma
   end_unwritten : (request : CommandRequest) → IsEnd may_hold may_fail gives disk names may_show may_host input input_failed fault request status before after
       → IsEnd may_hold may_fail gives disk names may_show may_host input input_failed fault request INPUT_OUTPUT before after
   end_unwritten (requests.OverImage asked) ended = outcome_unwritten fault has _ _ status before after done ended
-  end_unwritten (requests.Matrix request) ended = table_unwritten fault has may_hold may_fail disk input input_failed request before after status done ended
+  end_unwritten (requests.Matrix request) ended = table_unwritten fault has may_hold may_fail disk names input input_failed request before after status done ended
   end_unwritten (requests.Tables request) ended = outcome_unwritten fault has _ _ status before after done ended
   end_unwritten (requests.Days request) ended = outcome_unwritten fault has _ _ status before after done ended
   end_unwritten (requests.Stations request) ended = outcome_unwritten fault has _ _ status before after done ended

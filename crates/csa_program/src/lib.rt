@@ -237,11 +237,12 @@ fn matrix_over<
     notes: TableNotes,
 ) -> u8
     ensures { IsTableEnd (H.ImageDisk.may_hold rt.now) (H.ImageDisk.may_fail rt.now) (H.OutDisk.files rt.now)
-        (I.remaining input.old) (I.may_fail input.old) request.entry (O.noted output.new)
+        (O.form output.old) (I.remaining input.old) (I.may_fail input.old) request.entry (O.noted output.new)
         result (O.contents output.old) (O.contents output.new) }
 {
+    let names = output.name_form();
     match open_image(rt, request.image, input, output, errors) {
-        Ok(image) => matrix::run(rt, &image, request, output, errors, notes),
+        Ok(image) => matrix::run(rt, &image, request, names, output, errors, notes),
         Err(status) => status,
     }
 }

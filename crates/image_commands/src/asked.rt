@@ -13,10 +13,10 @@ use image_verifier::Verified;
 use std::io::Write;
 
 /// Does what is asked of `image`, which need not be the one at the command's path: prints the result to `output`, or
-/// why there is none, which it explains in `errors`. Returns `ACCEPTED`, `REFUSED`, `INPUT_OUTPUT` if a file or a line
-/// can't be read or written, or `OUT_OF_MEMORY`, with nothing printed to `output`. In lines, ids are in the form `names`.
-/// If `warnings` is set, warns in
-/// `errors` of a window that goes beyond the image's connections, and of ids that break the lines that are printed.
+/// why there is none, which it explains in `errors`. In lines, ids are in the form `names`. Returns `ACCEPTED`,
+/// `REFUSED`, `INPUT_OUTPUT` if a file or a line can't be read or written, or `OUT_OF_MEMORY`, with nothing printed to
+/// `output`. If `warnings` is set, warns in `errors` of a window that goes beyond the image's connections, and of ids
+/// that break lines.
 pub fn answer<H: OutDisk + ImageDisk<Image = H::File> + AllocGlobal, O: Watched, E: Write>(
     rt: &H,
     image: &Verified,

@@ -5,8 +5,8 @@ ghost use Rattle.image_layout.specs.Image.{ImageValue};
 ghost use Rattle.image_commands.specs.Opening.{IsNoImage, SpellsImage};
 ghost use Rattle.image_commands.specs.declared.refusal.CommandRefusal.{CommandRefusal};
 
-/// Bytes that are an image aren't refused, and are no other image; bytes that are refused are so for one fault, and thus
-/// with one number.
+/// Bytes that are an image aren't refused, and are no other image. Bytes that are refused have one fault, and so one
+/// number.
 pub fn accepted_or_refused()
     ensures apart { (image : ImageValue) (refusal : CommandRefusal) (bytes : List ℕ) → SpellsImage image bytes
         → IsNoImage refusal bytes → ⊥ }

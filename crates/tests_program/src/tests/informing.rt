@@ -199,6 +199,17 @@ answers stops 2 points 2 read 3
 shows departures days.csa --to C --after 08:12:00 --until 08:12:00 --by 10:00:00 --criterion arrival --no-journeys --json
 prints {\"from\":\"B\\n1\",\"points\":[{\"arr\":\"08:20:00\",\"dep\":\"08:12:00\"}],\"walk\":null}
 answers {\"points\":1,\"read\":1,\"stops\":1}
+rows targets C
+shows matrix days.csa - --to targets --after 08:00:00 --until 08:12:00 --by 10:00:00 --criterion arrival --no-warnings
+prints from,to,points,first_departure,last_departure,least_seconds,mean_seconds,walk
+prints A,C,1,08:00:00,08:00:00,1200,,
+answers B\\u000a1,C,1,08:12:00,08:12:00,480,840,
+asks matrix days.csa - --to targets --after 08:00:00 --until 08:12:00 --by 10:00:00 --criterion arrival
+prints from,to,points,first_departure,last_departure,least_seconds,mean_seconds,walk
+prints A,C,1,08:00:00,08:00:00,1200,,
+prints \"B
+answers 1\",C,1,08:12:00,08:12:00,480,840,
+remove targets
 remove days.csa
 remove base_feed
 
