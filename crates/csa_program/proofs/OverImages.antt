@@ -34,8 +34,8 @@ module _ (may_hold : List ℕ → Option (List ℕ) → Type 0) (path : List ℕ
       outcome_of (PrintsRefusal (IsRefusedImage may_hold path input)) (PrintsOver may_hold path input Is) F Lacks fault status before after
       (λ s text is. inr is) (λ can. inl can) ended
 
-module _ (may_hold : List ℕ → Option (List ℕ) → Type 0) (may_fail : List ℕ → Type 0) (disk : OutFiles) (names : NameForm) (input : Option (List ℕ)) (input_failed : Type 0)
-    (request : MatrixRequest) (fault : Option ErrorKind) (status : ℕ) (before : Option (List ℕ)) where
+module _ (may_hold : List ℕ → Option (List ℕ) → Type 0) (may_fail : List ℕ → Type 0) (disk : OutFiles) (names : NameForm) (input : Option (List ℕ))
+    (input_failed : Type 0) (request : MatrixRequest) (fault : Option ErrorKind) (status : ℕ) (before : Option (List ℕ)) where
   pub table_over : (image : ImageValue) (opened after : Option (List ℕ)) → HoldsOfBytes may_hold request.image.now input (SpellsImage image)
       → opened ≡ before → EndsTable status → (status ≡ ACCEPTED → IsTablePrinted may_hold disk names image request opened after)
       → (status ≡ REFUSED → IsTableRefused may_hold image request opened after)

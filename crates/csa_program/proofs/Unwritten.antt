@@ -133,7 +133,8 @@ module _ {D : Type 0} (may_hold : List ℕ → Option (List ℕ) → Type 0) (ma
   end_unwritten : (request : CommandRequest) → IsEnd may_hold may_fail gives disk names may_show may_host input input_failed fault request status before after
       → IsEnd may_hold may_fail gives disk names may_show may_host input input_failed fault request INPUT_OUTPUT before after
   end_unwritten (requests.OverImage asked) ended = outcome_unwritten fault has _ _ status before after done ended
-  end_unwritten (requests.Matrix request) ended = table_unwritten fault has may_hold may_fail disk names input input_failed request before after status done ended
+  end_unwritten (requests.Matrix request) ended =
+      table_unwritten fault has may_hold may_fail disk names input input_failed request before after status done ended
   end_unwritten (requests.Tables request) ended = outcome_unwritten fault has _ _ status before after done ended
   end_unwritten (requests.Days request) ended = outcome_unwritten fault has _ _ status before after done ended
   end_unwritten (requests.Stations request) ended = outcome_unwritten fault has _ _ status before after done ended

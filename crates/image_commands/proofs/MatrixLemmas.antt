@@ -171,7 +171,8 @@ unread_list may_hold may_fail path image kind status (inr is) memory why = recor
 }
 
 -- what was printed of a table if memory ran out
-pub spent_table : (may_hold : List ℕ → Option (List ℕ) → Type 0) (names : NameForm) (image : ImageValue) (request : MatrixRequest) (before after : Option (List ℕ))
+pub spent_table : (may_hold : List ℕ → Option (List ℕ) → Type 0) (names : NameForm) (image : ImageValue) (request : MatrixRequest)
+    (before after : Option (List ℕ))
     → HasWindow request
     → (after ≡ before) ⊎ ((table : TravelTable) × IsTableOf may_hold names image request table × IsSpent table request.out.now before after)
     → IsTableSpent may_hold names image request before after

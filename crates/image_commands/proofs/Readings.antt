@@ -1,6 +1,7 @@
 -- Bytes are read in one way.
-use Rattle.std.proofs.Common.{◌≡◌, ◌≢◌, ◌<◌, ◌^◌, ◌%◌, ◌*◌, ◌∙◌, ◌⊎◌, ◌||◌, ℕ, Bool, true, false, List, None, Some, ap, arith, eqb, get_or, inl, inr, length, refl, subst, sym}
-use Rattle.std.specs.Prelude.{All, slice_index}
+use Rattle.std.proofs.Common.{◌≡◌, ◌≢◌, ◌<◌, ◌^◌, ◌%◌, ◌*◌, ◌∙◌, ◌⊎◌, ◌||◌, ℕ, Bool, true, false, List, None, Some}
+use Rattle.std.proofs.Common.{ap, arith, eqb, inl, inr, length, refl, subst, sym}
+use Rattle.std.specs.Prelude.{All}
 use Rattle.std.proofs.lemmas.Bool.{eqb-true}
 use Rattle.std.proofs.lemmas.List.{get_or_default}
 use Rattle.std.proofs.lemmas.Option.{none-some, same_Some}
@@ -15,7 +16,6 @@ use Rattle.image_layout.proofs.BackNames.{names_back}
 use Rattle.image_layout.proofs.Whole.{length-bytes_of}
 use Rattle.image_layout.proofs.WordList.{same_words}
 use Rattle.image_verifier.specs.FirstFault.{first_fault}
-use Rattle.image_verifier.specs.declared.fault.ImageFault.{ImageFault}
 use Rattle.image_verifier.proofs.OnlyLemmas.{image_is_faultless}
 use Rattle.image_verifier.proofs.WordLemmas.{image_fits, word_at}
 use Rattle.image_commands.specs.Opening.{HaveWordBits, IsNoImage, SpellsImage}

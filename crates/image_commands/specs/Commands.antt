@@ -39,8 +39,8 @@ abbrev pub PrintsDepartures : (List ℕ → Option (List ℕ) → Type 0) → Na
 PrintsDepartures may_hold names image request = Prints (AreAllShown may_hold names image request) (IsNoneAsked may_hold image request)
 
 module _ (may_hold : List ℕ → Option (List ℕ) → Type 0) (disk : OutFiles) (names : NameForm) where
-  -- what the command may print of the image, with names in this form in lines, and with which status. A journey or a question is refused for its first fault; a list of stops is refused for a
-  -- line that is no stop_id, and then nothing is printed; nothing else is refused
+  -- what the command may print of the image, with names in this form in lines, and with which status. A journey or a question is refused for its first
+  -- fault; a list of stops is refused for a line that is no stop_id, and then nothing is printed; nothing else is refused
   abbrev pub PrintsAsked : ImageValue → ImageRequest → ℕ → List ℕ → Type 0
   PrintsAsked image (Verify path) = PrintsOnly (λ text. text ≡ counts_line image)
   PrintsAsked image (Info request) = PrintsOnly (IsInfo request.json image)

@@ -1,6 +1,6 @@
 //! `csa stops IMAGE [TEXT] [--json]`.
 
-ghost use Rattle.std.specs.Prelude.{◌≡◌, ◌+◌, ◌++◌, ℕ, List, true, false, decimal, map, IfOk, OnOk, string_bytes};
+ghost use Rattle.std.specs.Prelude.{◌≡◌, ◌+◌, ◌++◌, ℕ, List, false, codes, decimal, map, IfOk, OnOk, string_bytes};
 ghost use Rattle.std.specs.List.{flat_map};
 ghost use Rattle.image_facts.specs.Naming.{stop_bytes};
 ghost use Rattle.image_files.specs.Naming.{names_in};
@@ -180,7 +180,8 @@ fn append_number(lines: &mut String, stop: u32) -> Result<(), AllocError>
 
 // The stops as an array of JSON, on one line.
 fn json_of(alloc: Global, image: &Verified, found: &[u32]) -> Result<String, AllocError>
-    ensures { IfOk result (λ json. string_bytes json ≡ stops_text true image.now.names found.now) }
+    ensures { IfOk result (λ json. string_bytes json
+        ≡ codes "[" ++ with_commas (map (stop_json image.now.names) found.now) ++ codes "]\n") }
 {
     let mut json = String::new(alloc);
     put_text(&mut json, "[")?;

@@ -1,7 +1,6 @@
 -- The rows of a table of travel times.
 use Rattle.std.specs.Prelude.{◌≡◌, ◌⊎◌, ◌<◌, ◌≤◌, ℕ, Bool, true, false, List, [], ◌∷◌, ◌++◌, Contains, Option, None, Some, String, map, string_bytes}
 use Rattle.std.specs.Global.{Global, Vec}
-use Rattle.std.specs.Io.KnownBytes.{Appends}
 use Rattle.std.specs.List.{AllZip, flat_map}
 use Rattle.csv.specs.Writing.{default_writer, row_text}
 use Rattle.criteria.specs.Laws.{Rules}

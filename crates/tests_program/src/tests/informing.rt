@@ -196,7 +196,8 @@ shows departures days.csa --to C --after 08:00:00 --until 08:12:00 --by 10:00:00
 prints A points 1 first 08:00:00 last 08:00:00 least 1200 walk none
 prints B\\u000a1 points 1 first 08:12:00 last 08:12:00 least 480 walk none
 answers stops 2 points 2 read 3
-shows departures days.csa --to C --after 08:12:00 --until 08:12:00 --by 10:00:00 --criterion arrival --no-journeys --json
+shows departures days.csa --to C --after 08:12:00 --until 08:12:00 --by 10:00:00 --criterion arrival --no-journeys \
+--json
 prints {\"from\":\"B\\n1\",\"points\":[{\"arr\":\"08:20:00\",\"dep\":\"08:12:00\"}],\"walk\":null}
 answers {\"points\":1,\"read\":1,\"stops\":1}
 rows targets C

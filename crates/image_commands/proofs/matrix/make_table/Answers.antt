@@ -5,7 +5,8 @@ use Rattle.image_commands.proofs.matrix.make_table.Given as given
 use Rattle.image_commands.proofs.matrix.make_table.Goals.{After-table_of-table}
 use Rattle.image_commands.proofs.matrix.make_table.Goals as goal
 
-asked : (g : given.Over) (c : After-table_of-table g) → IsTableOf (g.H.ImageDisk.may_hold c.args.rt.now) c.args.names c.args.image.now c.args.request c.table_of-table.result
+asked : (g : given.Over) (c : After-table_of-table g)
+    → IsTableOf (g.H.ImageDisk.may_hold c.args.rt.now) c.args.names c.args.image.now c.args.request c.table_of-table.result
 asked g c =
     table_asked (g.H.ImageDisk.may_hold c.args.rt.now) c.args.names c.args.image.now c.args.request c.table_of-table.result
     c.in-Ok.stops.targets.items c.in-Ok.stops.sources.items c.table_of-table.ensures.image

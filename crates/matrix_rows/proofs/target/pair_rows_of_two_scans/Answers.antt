@@ -23,7 +23,8 @@ pair_rows_of-requires-clause-means g c =
     let found = asked_to_any c.in_ok-profiles.profiles in
     let figures = g.C.ShowsFigures.figures in
     let rules = g.C.Criterion.rules c.args.criterion.now in
-    subst (λ (means : List (Option ℕ)). AllZip (IsMeanFrom figures rules (printed table.names table.image.now) (waiting found) found.from found.until) table.sources.now means)
+    subst (λ (means : List (Option ℕ)). AllZip (IsMeanFrom figures rules
+    (printed table.names table.image.now) (waiting found) found.from found.until) table.sources.now means)
     (sym c.deref.ensures.value)
     (means_waited figures rules (printed table.names table.image.now) table c.args.targets.now table.sources.now c.in_ok-means.means.items found
     (c.in_ok-profiles.ensures.keeps.1 ∙ c.in_ok-destinations.ensures)

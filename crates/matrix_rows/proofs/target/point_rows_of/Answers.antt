@@ -14,7 +14,8 @@ use Rattle.matrix_rows.proofs.target.point_rows_of.Goals as goal
 pub loop-list_index-init : goal.loop-list_index-init
 loop-list_index-init g c = record {
   whole = c.new-rows.ensures.whole;
-  rows = no_rows g.C.ShowsFigures.figures (g.C.Criterion.rules c.args.criterion.now) true (printed c.args.table.now.plain.names c.args.table.now.plain.image.now) (asked_to_any c.args.profiles.now)
+  rows = no_rows g.C.ShowsFigures.figures (g.C.Criterion.rules c.args.criterion.now) true
+      (printed c.args.table.now.plain.names c.args.table.now.plain.image.now) (asked_to_any c.args.profiles.now)
       (text_of c.new-rows.result) c.new-rows.ensures.text;
 }
 
@@ -25,7 +26,8 @@ loop-list_index-preserved g c =
     let set = c.index-table-list_index-in-loop-list_index.result in
     record {
       whole = c.in_ok-put_points_from.ensures.whole;
-      rows = subst (λ (ss : List (Vec ℕ)). AreRowsTo g.C.ShowsFigures.figures (g.C.Criterion.rules c.args.criterion.now) true (printed c.args.table.now.plain.names c.args.table.now.plain.image.now)
+      rows = subst (λ (ss : List (Vec ℕ)). AreRowsTo g.C.ShowsFigures.figures (g.C.Criterion.rules c.args.criterion.now) true
+          (printed c.args.table.now.plain.names c.args.table.now.plain.image.now)
           (asked_to_any c.args.profiles.now) ss (text_of c.put_points_from.new.rows))
           (sym (take_more sources list_index set c.loop-list_index-test.true))
           (c.in_ok-put_points_from.ensures.added (take list_index sources) (get_or sources list_index set)
@@ -47,7 +49,8 @@ put_points_from-requires-clause-to g c =
 pub returns : goal.returns
 returns g c =
     let sources = c.args.table.now.plain.sources.now in
-    let rows = AreRowsTo g.C.ShowsFigures.figures (g.C.Criterion.rules c.args.criterion.now) true (printed c.args.table.now.plain.names c.args.table.now.plain.image.now)
+    let rows = AreRowsTo g.C.ShowsFigures.figures (g.C.Criterion.rules c.args.criterion.now) true
+    (printed c.args.table.now.plain.names c.args.table.now.plain.image.now)
     (asked_to_any c.args.profiles.now) in
     on_ok _ (λ text. rows sources text.items) c.into_text.result
     (λ text is. subst (rows sources) (sym is)

@@ -8,6 +8,7 @@ use Rattle.matrix_rows.proofs.target.point_rows_of.Given as goal
 abbrev pub invariant-loop-list_index : goal.invariant-loop-list_index
 invariant-loop-list_index g l = record {
   whole : AreWhole l.rows;
-  rows : AreRowsTo g.C.ShowsFigures.figures (g.C.Criterion.rules l.criterion) true (printed l.table.plain.names l.table.plain.image.now) (asked_to_any l.profiles)
+  rows : AreRowsTo g.C.ShowsFigures.figures (g.C.Criterion.rules l.criterion) true
+      (printed l.table.plain.names l.table.plain.image.now) (asked_to_any l.profiles)
       (take l.list_index l.table.plain.sources.now) (text_of l.rows);
 }
