@@ -5,7 +5,7 @@ mod source_sum;
 
 use crate::source_sum::SOURCES;
 use csa_program::{ShownWriter, explain_no_words, print_sources, run};
-use image_files::WatchedWriter;
+use image_files::{NameForm, WatchedWriter};
 use std::env;
 use std::fs::File;
 use std::io::{ErrorKind, IsTerminal};
@@ -34,7 +34,8 @@ fn main(rt: HostRuntime) -> ExitCode {
     let mut input = rt.stdin();
     let stdout = rt.stdout();
     let is_terminal = stdout.is_terminal();
-    let mut output = WatchedWriter::of(ShownWriter::of(stdout, is_terminal));
+    let shown = ShownWriter::of(stdout, is_terminal);
+    let mut output = WatchedWriter::with_names(shown, NameForm::at(is_terminal));
     let status = run(&rt, words.as_slice(), &mut input, &mut output, &mut errors);
     if status == 0 && asks_version(&words) {
         return ExitCode::from(print_sources(SOURCES, &mut output, &mut errors));

@@ -3,6 +3,7 @@ use Rattle.std.proofs.Common.{◌≡◌, ◌⊎◌, ℕ, List, Option, arith, in
 use Rattle.std.specs.declared.io.ErrorKind.{ErrorKind}
 use Rattle.image_files.specs.Held.{HoldsOfBytes, IsUnreadable}
 use Rattle.image_files.specs.Out.{OutFiles}
+use Rattle.image_files.specs.declared.names.NameForm.{NameForm}
 use Rattle.image_layout.specs.Image.{ImageValue}
 use Rattle.command_requests.specs.declared.requests.MatrixRequest.{MatrixRequest}
 use Rattle.command_requests.specs.declared.statuses.TheConstants.{ACCEPTED, COMMAND_LINE, INPUT_OUTPUT, OUT_OF_MEMORY, REFUSED}
@@ -33,17 +34,17 @@ module _ (may_hold : List ℕ → Option (List ℕ) → Type 0) (path : List ℕ
       outcome_of (PrintsRefusal (IsRefusedImage may_hold path input)) (PrintsOver may_hold path input Is) F Lacks fault status before after
       (λ s text is. inr is) (λ can. inl can) ended
 
-module _ (may_hold : List ℕ → Option (List ℕ) → Type 0) (may_fail : List ℕ → Type 0) (disk : OutFiles) (input : Option (List ℕ)) (input_failed : Type 0)
-    (request : MatrixRequest) (fault : Option ErrorKind) (status : ℕ) (before : Option (List ℕ)) where
+module _ (may_hold : List ℕ → Option (List ℕ) → Type 0) (may_fail : List ℕ → Type 0) (disk : OutFiles) (names : NameForm) (input : Option (List ℕ))
+    (input_failed : Type 0) (request : MatrixRequest) (fault : Option ErrorKind) (status : ℕ) (before : Option (List ℕ)) where
   pub table_over : (image : ImageValue) (opened after : Option (List ℕ)) → HoldsOfBytes may_hold request.image.now input (SpellsImage image)
-      → opened ≡ before → EndsTable status → (status ≡ ACCEPTED → IsTablePrinted may_hold disk image request opened after)
+      → opened ≡ before → EndsTable status → (status ≡ ACCEPTED → IsTablePrinted may_hold disk names image request opened after)
       → (status ≡ REFUSED → IsTableRefused may_hold image request opened after)
       → (status ≡ COMMAND_LINE → IsTableUnlisted may_hold image request opened after)
-      → (status ≡ INPUT_OUTPUT → IsTableCutShort may_hold may_fail disk image request fault opened after)
-      → (status ≡ OUT_OF_MEMORY → IsTableSpent may_hold image request opened after)
-      → IsTableEnd may_hold may_fail disk input input_failed request fault status before after
+      → (status ≡ INPUT_OUTPUT → IsTableCutShort may_hold may_fail disk names image request fault opened after)
+      → (status ≡ OUT_OF_MEMORY → IsTableSpent may_hold names image request opened after)
+      → IsTableEnd may_hold may_fail disk names input input_failed request fault status before after
   table_over image opened after held kept ends printed refused unlisted cut spent =
-      subst (λ (was : Option (List ℕ)). IsTableEnd may_hold may_fail disk input input_failed request fault status was after) kept (record {
+      subst (λ (was : Option (List ℕ)). IsTableEnd may_hold may_fail disk names input input_failed request fault status was after) kept (record {
         ends = ends;
         printed = λ is. (image, held, printed is);
         refused = λ is. inr (image, held, refused is);
@@ -54,7 +55,7 @@ module _ (may_hold : List ℕ → Option (List ℕ) → Type 0) (may_fail : List
 
   pub no_table : (after : Option (List ℕ)) → IsOutcome (PrintsRefusal (IsRefusedImage may_hold request.image.now input))
       (IsUnreadable may_fail request.image.now input_failed) fault status before after
-      → IsTableEnd may_hold may_fail disk input input_failed request fault status before after
+      → IsTableEnd may_hold may_fail disk names input input_failed request fault status before after
   no_table after (inl (line, is, whole)) = record {
     ends = inl (inr (inl is.0));
     printed = λ e. absurd (omega (arith, e, is.0));

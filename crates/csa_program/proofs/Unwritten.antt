@@ -16,6 +16,7 @@ use Rattle.command_requests.specs.declared.statuses.TheConstants.{ACCEPTED, COMM
 use Rattle.csa_program.specs.Running.{IsEnd, IsEndOf, IsServeEnd, IsTableCut, IsTableEnd, IsTextEnd}
 use Rattle.csa_program.specs.Serving.{IsEndAt, MayHost, port_text, served_text}
 use Rattle.feed_files.specs.Files.{Gives}
+use Rattle.image_files.specs.declared.names.NameForm.{NameForm}
 use Rattle.image_commands.proofs.MatrixLemmas.{shown_in_part}
 use Rattle.image_commands.specs.Matrices.{IsTableRefused}
 use Rattle.image_commands.specs.Opening.{IsRefusedImage, SpellsImage}
@@ -59,26 +60,26 @@ module _ (fault : Option ErrorKind) (has : HasFault fault) where
   text_unwritten text status before after done (inl (is, whole)) = inr (refl, has, begun_by_all before after text whole)
   text_unwritten text status before after done (inr three) = absurd (not_failed status done three.0)
 
-  module _ (may_hold : List ℕ → Option (List ℕ) → Type 0) (may_fail : List ℕ → Type 0) (disk : OutFiles) (input : Option (List ℕ))
+  module _ (may_hold : List ℕ → Option (List ℕ) → Type 0) (may_fail : List ℕ → Type 0) (disk : OutFiles) (names : NameForm) (input : Option (List ℕ))
       (input_failed : Type 0) (request : MatrixRequest) (before after : Option (List ℕ)) where
     refused_unwritten : ((line : List ℕ) × IsRefusedImage may_hold request.image.now input line × Appends before after line)
         ⊎ ((image : ImageValue) × HoldsOfBytes may_hold request.image.now input (SpellsImage image)
         × IsTableRefused may_hold image request before after)
-        → IsTableCut may_hold may_fail disk input input_failed request fault before after
+        → IsTableCut may_hold may_fail disk names input input_failed request fault before after
     refused_unwritten (inl (line, refused, whole)) = inr (inl (has, line, refused, begun_by_all before after line whole))
     refused_unwritten (inr (image, held, inl (none, whole))) =
         inr (inr (image, held, inl (has, none, begun_by_all before after (refusal_line (OfQuery BadWindow)) whole)))
     refused_unwritten (inr (image, held, inr (window, unknown, same))) = inr (inr (image, held, inr (window, inr (inl (has, unknown, same)))))
 
-    cut_unwritten : (status : ℕ) → IsSettled status → IsTableEnd may_hold may_fail disk input input_failed request fault status before after
-        → IsTableCut may_hold may_fail disk input input_failed request fault before after
+    cut_unwritten : (status : ℕ) → IsSettled status → IsTableEnd may_hold may_fail disk names input input_failed request fault status before after
+        → IsTableCut may_hold may_fail disk names input input_failed request fault before after
     cut_unwritten status (inl done) ended =
         let (image, held, (window, (table, of, shown))) = ended.printed done in
         inr (inr (image, held, inr (window, inr (inr (table, of, inr (has, shown_in_part disk table request.out.now before after shown))))))
     cut_unwritten status (inr done) ended = refused_unwritten (ended.refused done)
 
-    table_unwritten : (status : ℕ) → IsSettled status → IsTableEnd may_hold may_fail disk input input_failed request fault status before after
-        → IsTableEnd may_hold may_fail disk input input_failed request fault INPUT_OUTPUT before after
+    table_unwritten : (status : ℕ) → IsSettled status → IsTableEnd may_hold may_fail disk names input input_failed request fault status before after
+        → IsTableEnd may_hold may_fail disk names input input_failed request fault INPUT_OUTPUT before after
     table_unwritten status done ended = record {
       ends = inl (inr (inr (inl refl)));
       printed = λ e. absurd (omega (arith, e));
@@ -127,12 +128,13 @@ text_unwritten_as text fault status result before after (inr (done, three, has))
     subst (λ (s : ℕ). IsTextEnd text fault s before after) (sym three) (text_unwritten fault has text status before after done ended)
 
 module _ {D : Type 0} (may_hold : List ℕ → Option (List ℕ) → Type 0) (may_fail : List ℕ → Type 0) (gives : Gives D) (disk : OutFiles)
-    (may_show : Option ℤ → Type 0) (may_host : MayHost) (input : Option (List ℕ)) (input_failed : Type 0)
+    (names : NameForm) (may_show : Option ℤ → Type 0) (may_host : MayHost) (input : Option (List ℕ)) (input_failed : Type 0)
     (fault : Option ErrorKind) (has : HasFault fault) (status : ℕ) (before after : Option (List ℕ)) (done : IsSettled status) where
-  end_unwritten : (request : CommandRequest) → IsEnd may_hold may_fail gives disk may_show may_host input input_failed fault request status before after
-      → IsEnd may_hold may_fail gives disk may_show may_host input input_failed fault request INPUT_OUTPUT before after
+  end_unwritten : (request : CommandRequest) → IsEnd may_hold may_fail gives disk names may_show may_host input input_failed fault request status before after
+      → IsEnd may_hold may_fail gives disk names may_show may_host input input_failed fault request INPUT_OUTPUT before after
   end_unwritten (requests.OverImage asked) ended = outcome_unwritten fault has _ _ status before after done ended
-  end_unwritten (requests.Matrix request) ended = table_unwritten fault has may_hold may_fail disk input input_failed request before after status done ended
+  end_unwritten (requests.Matrix request) ended =
+      table_unwritten fault has may_hold may_fail disk names input input_failed request before after status done ended
   end_unwritten (requests.Tables request) ended = outcome_unwritten fault has _ _ status before after done ended
   end_unwritten (requests.Days request) ended = outcome_unwritten fault has _ _ status before after done ended
   end_unwritten (requests.Stations request) ended = outcome_unwritten fault has _ _ status before after done ended
@@ -141,8 +143,8 @@ module _ {D : Type 0} (may_hold : List ℕ → Option (List ℕ) → Type 0) (ma
       serve_unwritten fault has may_hold may_fail may_show input input_failed request may_host status before after done ended
 
   asked_unwritten : (asked : Result CommandRequest NoCommand)
-      → IsEndOf may_hold may_fail gives disk may_show may_host input input_failed fault asked status before after
-      → IsEndOf may_hold may_fail gives disk may_show may_host input input_failed fault asked INPUT_OUTPUT before after
+      → IsEndOf may_hold may_fail gives disk names may_show may_host input input_failed fault asked status before after
+      → IsEndOf may_hold may_fail gives disk names may_show may_host input input_failed fault asked INPUT_OUTPUT before after
   asked_unwritten (Ok request) ended = end_unwritten request ended
   asked_unwritten (Err (Help text)) ended = text_unwritten fault has (string_bytes text) status before after done ended
   asked_unwritten (Err (Mistake text)) (other, same) = absurd (not_mistaken status done other)
@@ -150,13 +152,13 @@ module _ {D : Type 0} (may_hold : List ℕ → Option (List ℕ) → Type 0) (ma
 
 -- it ended as it would, or its output has a fault
 pub unwritten_as : {D : Type 0} (may_hold : List ℕ → Option (List ℕ) → Type 0) (may_fail : List ℕ → Type 0) (gives : Gives D) (disk : OutFiles)
-    (may_show : Option ℤ → Type 0) (may_host : MayHost) (input : Option (List ℕ)) (input_failed : Type 0)
+    (names : NameForm) (may_show : Option ℤ → Type 0) (may_host : MayHost) (input : Option (List ℕ)) (input_failed : Type 0)
     (fault : Option ErrorKind) (status result : ℕ) (before after : Option (List ℕ)) (asked : Result CommandRequest NoCommand)
     → (result ≡ status) ⊎ (((status ≡ ACCEPTED) ⊎ (status ≡ REFUSED)) × (result ≡ INPUT_OUTPUT) × HasFault fault)
-    → IsEndOf may_hold may_fail gives disk may_show may_host input input_failed fault asked status before after
-    → IsEndOf may_hold may_fail gives disk may_show may_host input input_failed fault asked result before after
-unwritten_as may_hold may_fail gives disk may_show may_host input input_failed fault status result before after asked (inl same) ended =
-    subst (λ (s : ℕ). IsEndOf may_hold may_fail gives disk may_show may_host input input_failed fault asked s before after) (sym same) ended
-unwritten_as may_hold may_fail gives disk may_show may_host input input_failed fault status result before after asked (inr (done, three, has)) ended =
-    subst (λ (s : ℕ). IsEndOf may_hold may_fail gives disk may_show may_host input input_failed fault asked s before after) (sym three)
-    (asked_unwritten may_hold may_fail gives disk may_show may_host input input_failed fault has status before after done asked ended)
+    → IsEndOf may_hold may_fail gives disk names may_show may_host input input_failed fault asked status before after
+    → IsEndOf may_hold may_fail gives disk names may_show may_host input input_failed fault asked result before after
+unwritten_as may_hold may_fail gives disk names may_show may_host input input_failed fault status result before after asked (inl same) ended =
+    subst (λ (s : ℕ). IsEndOf may_hold may_fail gives disk names may_show may_host input input_failed fault asked s before after) (sym same) ended
+unwritten_as may_hold may_fail gives disk names may_show may_host input input_failed fault status result before after asked (inr (done, three, has)) ended =
+    subst (λ (s : ℕ). IsEndOf may_hold may_fail gives disk names may_show may_host input input_failed fault asked s before after) (sym three)
+    (asked_unwritten may_hold may_fail gives disk names may_show may_host input input_failed fault has status before after done asked ended)

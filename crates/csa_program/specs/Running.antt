@@ -6,6 +6,7 @@ use Rattle.feed_files.specs.Files.{Gives}
 use Rattle.image_files.specs.Held.{HoldsOfBytes, IsUnreadable}
 use Rattle.image_files.specs.Watching.{HasFault, IsBegun}
 use Rattle.image_files.specs.Out.{OutFiles}
+use Rattle.image_files.specs.declared.names.NameForm.{NameForm}
 use Rattle.image_layout.specs.Image.{ImageValue}
 use Rattle.command_line.specs.declared.reading.NoCommand.{NoCommand}
 use Rattle.command_line.specs.declared.reading.NoCommand.TheVariants.{Help, Mistake, OutOfMemory}
@@ -35,8 +36,9 @@ abbrev pub IsTextEnd : List ℕ → Option ErrorKind → ℕ → Option (List �
 IsTextEnd text fault status before after =
     ((status ≡ ACCEPTED) × Appends before after text) ⊎ ((status ≡ INPUT_OUTPUT) × HasFault fault × IsBegun before after text)
 
--- `may_hold` says what a file at a path may hold, `may_fail` that it may not be read, and the path `-` is the input, of which it is said whether a read failed
-module _ (may_hold : List ℕ → Option (List ℕ) → Type 0) (may_fail : List ℕ → Type 0) (disk : OutFiles) (input : Option (List ℕ))
+-- `may_hold` says what a file at a path may hold, `may_fail` that it may not be read, and the path `-` is the input, of which it is said whether a read failed;
+-- `names` says how names are written to the output
+module _ (may_hold : List ℕ → Option (List ℕ) → Type 0) (may_fail : List ℕ → Type 0) (disk : OutFiles) (names : NameForm) (input : Option (List ℕ))
     (input_failed : Type 0) (request : MatrixRequest) (fault : Option ErrorKind) where
   -- what was printed of a table if it ends with 3: the image can't be read, or the output has a fault, or a file of the table can't be read or written
   abbrev pub IsTableCut : Option (List ℕ) → Option (List ℕ) → Type 0
@@ -44,13 +46,13 @@ module _ (may_hold : List ℕ → Option (List ℕ) → Type 0) (may_fail : List
       (IsUnreadable may_fail request.image.now input_failed × (after ≡ before))
       ⊎ (HasFault fault × (line : List ℕ) × IsRefusedImage may_hold request.image.now input line × IsBegun before after line)
       ⊎ ((image : ImageValue) × HoldsOfBytes may_hold request.image.now input (SpellsImage image)
-      × IsTableCutShort may_hold may_fail disk image request fault before after)
+      × IsTableCutShort may_hold may_fail disk names image request fault before after)
 
   -- a table over the image at its path ended so
   pub record IsTableEnd (status : ℕ) (before after : Option (List ℕ)) : Type 0 where
     pub ends : EndsTable status
     pub printed : status ≡ ACCEPTED → (image : ImageValue) × HoldsOfBytes may_hold request.image.now input (SpellsImage image)
-        × IsTablePrinted may_hold disk image request before after
+        × IsTablePrinted may_hold disk names image request before after
     pub refused : status ≡ REFUSED
         → ((line : List ℕ) × IsRefusedImage may_hold request.image.now input line × Appends before after line)
         ⊎ ((image : ImageValue) × HoldsOfBytes may_hold request.image.now input (SpellsImage image)
@@ -62,7 +64,7 @@ module _ (may_hold : List ℕ → Option (List ℕ) → Type 0) (may_fail : List
     pub spent : status ≡ OUT_OF_MEMORY
         → (after ≡ before)
         ⊎ ((image : ImageValue) × HoldsOfBytes may_hold request.image.now input (SpellsImage image)
-        × IsTableSpent may_hold image request before after)
+        × IsTableSpent may_hold names image request before after)
 
 -- the image at a path may not be read; or there is one, and what is needed besides isn't to be had
 abbrev pub IsUnusableOver : (List ℕ → Option (List ℕ) → Type 0) → (List ℕ → Type 0) → Option (List ℕ) → Type 0 → List ℕ → (ImageValue → Type 0) → Type 0
@@ -106,23 +108,25 @@ module _ (may_hold : List ℕ → Option (List ℕ) → Type 0) (may_fail : List
   IsServeEnd may_host fault status before after =
       IsOutcome IsServeRefusal IsUnservable fault status before after ⊎ IsEndOfRun may_host fault status before after
 
--- a command over the image at its path ended so; `disk` says what is known of files that are written, and `fault` is that of the output
-abbrev pub IsEndOver : (List ℕ → Option (List ℕ) → Type 0) → (List ℕ → Type 0) → OutFiles → Option (List ℕ) → Type 0 → Option ErrorKind → ImageRequest
-    → ℕ → Option (List ℕ) → Option (List ℕ) → Type 0
-IsEndOver may_hold may_fail disk input input_failed fault asked =
-    IsOutcome (PrintsOver may_hold (path_of asked) input (λ image. PrintsAsked may_hold disk image asked))
+-- a command over the image at its path ended so; `disk` says what is known of files that are written, `names` how names are written in lines to the output,
+-- and `fault` is that of the output
+abbrev pub IsEndOver : (List ℕ → Option (List ℕ) → Type 0) → (List ℕ → Type 0) → OutFiles → NameForm → Option (List ℕ) → Type 0 → Option ErrorKind
+    → ImageRequest → ℕ → Option (List ℕ) → Option (List ℕ) → Type 0
+IsEndOver may_hold may_fail disk names input input_failed fault asked =
+    IsOutcome (PrintsOver may_hold (path_of asked) input (λ image. PrintsAsked may_hold disk names image asked))
     (IsUnusableOver may_hold may_fail input input_failed (path_of asked) (λ image. IsUnusable may_fail may_hold disk image asked)) fault
 
--- `gives` says what a disk of some kind may give for a folder in some state and the name of a file, and `disk` what is known of files that are written;
+-- `gives` says what a disk of some kind may give for a folder in some state and the name of a file, `disk` what is known of files that are written, and
+-- `names` how names are written in lines to the output;
 -- `may_fail` that a file at a path may not be read, and `input_failed` that a read of the input failed; `may_host` says how the sessions of a server may end;
 -- `fault` is that of the output
 module _ {D : Type 0} (may_hold : List ℕ → Option (List ℕ) → Type 0) (may_fail : List ℕ → Type 0) (gives : Gives D) (disk : OutFiles)
-    (may_show : Option ℤ → Type 0) (may_host : MayHost) (input : Option (List ℕ)) (input_failed : Type 0)
+    (names : NameForm) (may_show : Option ℤ → Type 0) (may_host : MayHost) (input : Option (List ℕ)) (input_failed : Type 0)
     (fault : Option ErrorKind) where
   -- a command ended so, over the image at its path, or over the files of its folder
   abbrev pub IsEnd : CommandRequest → ℕ → Option (List ℕ) → Option (List ℕ) → Type 0
-  IsEnd (requests.OverImage asked) = IsEndOver may_hold may_fail disk input input_failed fault asked
-  IsEnd (requests.Matrix request) = IsTableEnd may_hold may_fail disk input input_failed request fault
+  IsEnd (requests.OverImage asked) = IsEndOver may_hold may_fail disk names input input_failed fault asked
+  IsEnd (requests.Matrix request) = IsTableEnd may_hold may_fail disk names input input_failed request fault
   IsEnd (requests.Tables request) = IsOutcome (PrintsOfFeed (IsCounts gives request) (IsTablesRefusalOf gives request.folder.now)) ⊥ fault
   IsEnd (requests.Days request) =
       IsOutcome (PrintsOfFeed (AreDaysOf gives request.folder.now request.json) (IsTablesRefusalOf gives request.folder.now)) ⊥ fault

@@ -63,7 +63,7 @@ pub fn run<
     ensures ended { (asked : Result CommandRequest NoCommand)
         × H.Asks.may_ask rt.now (map S.text words.now) asked
         × IsEndOf (H.ImageDisk.may_hold rt.now) (H.ImageDisk.may_fail rt.now) H.Disk.gives (H.OutDisk.files rt.now)
-        (H.WallClock.may_show rt.now) (⟦<H as Hosts>⟧.may_host rt.now)
+        (O.form output.old) (H.WallClock.may_show rt.now) (⟦<H as Hosts>⟧.may_host rt.now)
         (I.Read.remaining input.old) (I.may_fail input.old) (O.noted output.new) asked
         result (O.Write.contents output.old) (O.Write.contents output.new) }
     ensures clean { (result ≡ ACCEPTED) ⊎ (result ≡ REFUSED) → O.noted output.new ≡ None }
@@ -164,7 +164,7 @@ fn run_read<
     notes: TableNotes,
 ) -> u8
     ensures { IsEndOf (H.ImageDisk.may_hold rt.now) (H.ImageDisk.may_fail rt.now) H.Disk.gives (H.OutDisk.files rt.now)
-        (H.WallClock.may_show rt.now) (⟦<H as Hosts>⟧.may_host rt.now)
+        (O.form output.old) (H.WallClock.may_show rt.now) (⟦<H as Hosts>⟧.may_host rt.now)
         (I.remaining input.old) (I.may_fail input.old) (O.noted output.new) asked.entry
         result (O.contents output.old) (O.contents output.new) }
 {
@@ -195,7 +195,7 @@ fn run_request<
     notes: TableNotes,
 ) -> u8
     ensures { IsEnd (H.ImageDisk.may_hold rt.now) (H.ImageDisk.may_fail rt.now) H.Disk.gives (H.OutDisk.files rt.now)
-        (H.WallClock.may_show rt.now) (⟦<H as Hosts>⟧.may_host rt.now)
+        (O.form output.old) (H.WallClock.may_show rt.now) (⟦<H as Hosts>⟧.may_host rt.now)
         (I.remaining input.old) (I.may_fail input.old) (O.noted output.new)
         request.entry result (O.contents output.old) (O.contents output.new) }
 {
@@ -237,11 +237,12 @@ fn matrix_over<
     notes: TableNotes,
 ) -> u8
     ensures { IsTableEnd (H.ImageDisk.may_hold rt.now) (H.ImageDisk.may_fail rt.now) (H.OutDisk.files rt.now)
-        (I.remaining input.old) (I.may_fail input.old) request.entry (O.noted output.new)
+        (O.form output.old) (I.remaining input.old) (I.may_fail input.old) request.entry (O.noted output.new)
         result (O.contents output.old) (O.contents output.new) }
 {
+    let names = output.name_form();
     match open_image(rt, request.image, input, output, errors) {
-        Ok(image) => matrix::run(rt, &image, request, output, errors, notes),
+        Ok(image) => matrix::run(rt, &image, request, names, output, errors, notes),
         Err(status) => status,
     }
 }
@@ -261,11 +262,12 @@ fn answer_over<
     warnings: bool,
 ) -> u8
     ensures { IsEndOver (H.ImageDisk.may_hold rt.now) (H.ImageDisk.may_fail rt.now) (H.OutDisk.files rt.now)
-        (I.remaining input.old) (I.may_fail input.old) (O.noted output.new) asked.now result
+        (O.form output.old) (I.remaining input.old) (I.may_fail input.old) (O.noted output.new) asked.now result
         (O.contents output.old) (O.contents output.new) }
 {
+    let names = output.name_form();
     match open_image(rt, asked.path(), input, output, errors) {
-        Ok(image) => answer(rt, &image, asked, output, errors, warnings),
+        Ok(image) => answer(rt, &image, asked, names, output, errors, warnings),
         Err(status) => status,
     }
 }

@@ -1,5 +1,6 @@
 mod Least
 mod LinesIfSome
+mod Printed
 mod Sought
 mod Stops
 mod Summed

@@ -19,6 +19,7 @@ use Rattle.departure_lines.specs.Json.{counts_json_line, journey_json, json_if_s
 use Rattle.departure_lines.specs.Lines.{IsSummary, counts_line, line_from, point_line}
 use Rattle.departure_lines.specs.Naming.{is_wanted}
 use Rattle.command_requests.specs.declared.requests.DeparturesForm.{DeparturesForm}
+use Rattle.image_files.specs.declared.names.NameForm.{NameForm}
 use Rattle.departure_lines.specs.declared.stop_lines.StopCounts.{StopCounts}
 use Rattle.departure_lines.specs.declared.stop_lists.WantedStops.{WantedStops}
 
@@ -33,6 +34,15 @@ pub record HasJourneys {V : Type 0} (rules : Rules V) (t : TimetableValue) (b : 
 abbrev pub summary_form : Form → DeparturesForm
 summary_form Form.Lines = DeparturesForm.Summary
 summary_form Form.Json = DeparturesForm.JsonSummary
+
+-- how names are written in a form, to where they are written so in lines: JSON escapes them itself
+abbrev pub names_of : DeparturesForm → NameForm → NameForm
+names_of DeparturesForm.Journeys names = names
+names_of DeparturesForm.Points names = names
+names_of DeparturesForm.Summary names = names
+names_of DeparturesForm.Json names = NameForm.Raw
+names_of DeparturesForm.JsonPoints names = NameForm.Raw
+names_of DeparturesForm.JsonSummary names = NameForm.Raw
 
 -- the text of a stop's points, in a form
 abbrev pub IsInForm : {V : Type 0} → (V → Figures) → Rules V → DeparturesForm → ImageValue → SetQueryValue → ℕ → List (Point V) → Option ℕ → List ℕ → Type 0

@@ -4,6 +4,7 @@
 
 mod listed_names;
 mod listing;
+mod names;
 mod stop_json;
 mod stop_lines;
 mod stop_lists;
@@ -11,5 +12,6 @@ mod stop_words;
 mod whole;
 
 pub use listing::{append_by_numbers, append_direct, append_point, append_times};
+pub use names::{printed_stop_name, printed_trip_name};
 pub use stop_lists::{ListFault, WantedStops};
 pub use whole::departures_text;

@@ -7,15 +7,18 @@ ghost use Rattle.journeys.specs.Extracted.{AttainsBetween};
 ghost use Rattle.command_requests.specs.declared.requests.DeparturesForm.{DeparturesForm};
 ghost use Rattle.profile_scan.specs.Everywhere.{AnswerToAny, asked_to_any, criterion_to_any, walk_to_any};
 ghost use Rattle.profile_scan.specs.Origins.{from_stop};
+ghost use Rattle.image_facts.specs.Naming.{stop_bytes};
+ghost use Rattle.image_files.specs.Naming.{printed};
 ghost use Rattle.departure_lines.specs.Showing.{AddsStops, ShowsStop, is_shown, one_if_some, summary_form};
 
+use crate::names::printed_stop_name;
 use crate::stop_json::{append_json, append_json_points};
 use crate::stop_lists::WantedStops;
 use crate::stop_words::{append_lines, append_points, append_summary, summary_of};
 use command_requests::DeparturesForm;
 use criteria::ShowsFigures;
 use droppable_sources::in_place;
-use image_facts::stop_name;
+use image_files::NameForm;
 use image_verifier::Verified;
 use journeys::{Departure, departures_from};
 use profile_scan::ProfilesToAny;
@@ -29,6 +32,8 @@ pub struct AnswersToPrint<'a, C: ShowsFigures> {
     pub image: &'a Verified,
     pub criterion: &'a C,
     pub profiles: &'a ProfilesToAny<C>,
+    /// How names are written.
+    pub names: NameForm,
 }
 
 /// The number of stops that have departures, and the number of all their departures.
@@ -47,7 +52,8 @@ pub fn append_stops<C: ShowsFigures>(
 ) -> Result<StopCounts, AllocError>
     requires same { criterion_to_any shown.now.profiles.now ≡ shown.now.criterion.now }
     requires answered { AnswerToAny C.rules shown.now.image.now.timetable shown.now.profiles.now }
-    ensures { IfOk result (λ counts. AddsStops C.figures (C.rules shown.now.criterion.now) form shown.now.image.now
+    ensures { IfOk result (λ counts. AddsStops C.figures (C.rules shown.now.criterion.now) form
+        (printed shown.now.names shown.now.image.now)
         (asked_to_any shown.now.profiles.now) wanted.now shown.now.image.now.timetable.stops
         (string_bytes lines.old) (string_bytes lines.new) counts) }
 {
@@ -74,9 +80,9 @@ fn append_next<C: ShowsFigures>(
     requires same { criterion_to_any shown.now.profiles.now ≡ shown.now.criterion.now }
     requires answered { AnswerToAny C.rules shown.now.image.now.timetable shown.now.profiles.now }
     ensures { IfOk result (λ next. (before : List ℕ)
-        → AddsStops C.figures (C.rules shown.now.criterion.now) form shown.now.image.now
+        → AddsStops C.figures (C.rules shown.now.criterion.now) form (printed shown.now.names shown.now.image.now)
         (asked_to_any shown.now.profiles.now) wanted.now stop before (string_bytes lines.old) counts
-        → AddsStops C.figures (C.rules shown.now.criterion.now) form shown.now.image.now
+        → AddsStops C.figures (C.rules shown.now.criterion.now) form (printed shown.now.names shown.now.image.now)
         (asked_to_any shown.now.profiles.now) wanted.now (stop + 1) before (string_bytes lines.new) next) }
 {
     if !is_shown(wanted, shown.profiles.targets(), stop) {
@@ -129,7 +135,8 @@ fn append_stop<C: ShowsFigures>(
     requires differ { Contains (asked_to_any shown.now.profiles.now).targets stop → ⊥ }
     requires same { criterion_to_any shown.now.profiles.now ≡ shown.now.criterion.now }
     requires answered { AnswerToAny C.rules shown.now.image.now.timetable shown.now.profiles.now }
-    ensures { IfOk result (ShowsStop C.figures (C.rules shown.now.criterion.now) form shown.now.image.now
+    ensures { IfOk result (ShowsStop C.figures (C.rules shown.now.criterion.now) form
+        (printed shown.now.names shown.now.image.now)
         (asked_to_any shown.now.profiles.now) stop (string_bytes lines.old) (string_bytes lines.new)) }
 {
     match form {
@@ -142,6 +149,17 @@ fn append_stop<C: ShowsFigures>(
     }
 }
 
+// The name of a stop, as it is printed.
+fn printed_stop<C: ShowsFigures>(
+    shown: &AnswersToPrint<'_, C>,
+    stop: u32,
+) -> Result<String, AllocError>
+    ensures { IfOk result (λ name. string_bytes name
+        ≡ stop_bytes (printed shown.now.names shown.now.image.now).names stop) }
+{
+    printed_stop_name(shown.alloc, shown.image, stop, shown.names)
+}
+
 fn append_journeys<C: ShowsFigures>(
     lines: &mut String,
     shown: &AnswersToPrint<'_, C>,
@@ -152,10 +170,10 @@ fn append_journeys<C: ShowsFigures>(
     requires same { criterion_to_any shown.now.profiles.now ≡ shown.now.criterion.now }
     requires answered { AnswerToAny C.rules shown.now.image.now.timetable shown.now.profiles.now }
     ensures { IfOk result (ShowsStop C.figures (C.rules shown.now.criterion.now) DeparturesForm.Journeys
-        shown.now.image.now
+        (printed shown.now.names shown.now.image.now)
         (asked_to_any shown.now.profiles.now) stop (string_bytes lines.old) (string_bytes lines.new)) }
 {
-    let name = stop_name(shown.alloc, shown.image, stop)?;
+    let name = printed_stop(shown, stop)?;
     let departures = journeys_from(shown, stop)?;
     append_lines(
         lines,
@@ -177,10 +195,10 @@ fn append_bare<C: ShowsFigures>(
     requires same { criterion_to_any shown.now.profiles.now ≡ shown.now.criterion.now }
     requires answered { AnswerToAny C.rules shown.now.image.now.timetable shown.now.profiles.now }
     ensures { IfOk result (ShowsStop C.figures (C.rules shown.now.criterion.now) DeparturesForm.Points
-        shown.now.image.now (asked_to_any shown.now.profiles.now) stop (string_bytes lines.old)
-        (string_bytes lines.new)) }
+        (printed shown.now.names shown.now.image.now)
+        (asked_to_any shown.now.profiles.now) stop (string_bytes lines.old) (string_bytes lines.new)) }
 {
-    let name = stop_name(shown.alloc, shown.image, stop)?;
+    let name = printed_stop(shown, stop)?;
     let points = shown.profiles.points(stop);
     append_points(lines, shown.criterion, name.as_str(), points)?;
     Ok(points.len())
@@ -196,10 +214,11 @@ fn append_summed<C: ShowsFigures>(
     requires differ { Contains (asked_to_any shown.now.profiles.now).targets stop → ⊥ }
     requires same { criterion_to_any shown.now.profiles.now ≡ shown.now.criterion.now }
     requires answered { AnswerToAny C.rules shown.now.image.now.timetable shown.now.profiles.now }
-    ensures { IfOk result (ShowsStop C.figures (C.rules shown.now.criterion.now) (summary_form form) shown.now.image.now
+    ensures { IfOk result (ShowsStop C.figures (C.rules shown.now.criterion.now) (summary_form form)
+        (printed shown.now.names shown.now.image.now)
         (asked_to_any shown.now.profiles.now) stop (string_bytes lines.old) (string_bytes lines.new)) }
 {
-    let name = stop_name(shown.alloc, shown.image, stop)?;
+    let name = printed_stop(shown, stop)?;
     let points = shown.profiles.points(stop);
     let summary = summary_of(shown.criterion, points, direct_secs(shown, stop));
     append_summary(lines, shown.alloc, form, name.as_str(), summary)?;
@@ -215,10 +234,11 @@ fn append_as_json<C: ShowsFigures>(
     requires differ { Contains (asked_to_any shown.now.profiles.now).targets stop → ⊥ }
     requires same { criterion_to_any shown.now.profiles.now ≡ shown.now.criterion.now }
     requires answered { AnswerToAny C.rules shown.now.image.now.timetable shown.now.profiles.now }
-    ensures { IfOk result (ShowsStop C.figures (C.rules shown.now.criterion.now) DeparturesForm.Json shown.now.image.now
+    ensures { IfOk result (ShowsStop C.figures (C.rules shown.now.criterion.now) DeparturesForm.Json
+        (printed shown.now.names shown.now.image.now)
         (asked_to_any shown.now.profiles.now) stop (string_bytes lines.old) (string_bytes lines.new)) }
 {
-    let name = stop_name(shown.alloc, shown.image, stop)?;
+    let name = printed_stop(shown, stop)?;
     let departures = journeys_from(shown, stop)?;
     let walk = direct_secs(shown, stop);
     append_json(
@@ -242,10 +262,10 @@ fn append_bare_json<C: ShowsFigures>(
     requires same { criterion_to_any shown.now.profiles.now ≡ shown.now.criterion.now }
     requires answered { AnswerToAny C.rules shown.now.image.now.timetable shown.now.profiles.now }
     ensures { IfOk result (ShowsStop C.figures (C.rules shown.now.criterion.now) DeparturesForm.JsonPoints
-        shown.now.image.now
+        (printed shown.now.names shown.now.image.now)
         (asked_to_any shown.now.profiles.now) stop (string_bytes lines.old) (string_bytes lines.new)) }
 {
-    let name = stop_name(shown.alloc, shown.image, stop)?;
+    let name = printed_stop(shown, stop)?;
     let points = shown.profiles.points(stop);
     let walk = direct_secs(shown, stop);
     append_json_points(

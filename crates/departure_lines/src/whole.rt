@@ -4,8 +4,10 @@ ghost use Rattle.std.specs.Prelude.{◌≡◌, ◌++◌, IfOk, OnOk, length, str
 ghost use Rattle.profile_scan.specs.SetQuery.{IsAskableBetween};
 ghost use Rattle.profile_scan.specs.Destinations.{question_to_any};
 ghost use Rattle.profile_scan.specs.Window.{window_of};
-ghost use Rattle.departure_lines.specs.Showing.{AreShown, last_line};
+ghost use Rattle.image_files.specs.Naming.{printed};
+ghost use Rattle.departure_lines.specs.Showing.{AreShown, last_line, names_of};
 
+use crate::names::names_of;
 use crate::stop_json::append_json_counts;
 use crate::stop_lines::{AnswersToPrint, StopCounts, append_stops};
 use crate::stop_lists::WantedStops;
@@ -13,6 +15,7 @@ use crate::stop_words::append_counts;
 use command_requests::DeparturesForm;
 use criteria::ShowsFigures;
 use droppable_sources::in_place;
+use image_files::NameForm;
 use image_verifier::Verified;
 use journeys::window_len;
 use profile_scan::{ConnSource, Destinations, profiles_to_any};
@@ -20,7 +23,8 @@ use std::alloc::{AllocError, Global};
 use timetable::Query;
 
 /// The text of the best departures to any of several targets from each wanted stop except the targets, in order and in
-/// the given form; then the numbers of stops that have departures, of these departures, and of connections read.
+/// the given form; then the numbers of stops that have departures, of these departures, and of connections read. In
+/// lines, names are written in the form `names`.
 ///
 /// One scan answers for all stops; it reads the image in place. The only error is that memory runs out.
 pub fn departures_text<C: ShowsFigures>(
@@ -30,9 +34,11 @@ pub fn departures_text<C: ShowsFigures>(
     destinations: &Destinations,
     form: DeparturesForm,
     wanted: &WantedStops,
+    names: NameForm,
 ) -> Result<String, AllocError>
     requires { IsAskableBetween image.now.timetable.stops (question_to_any destinations.now) }
-    ensures { IfOk result (λ text. AreShown C.figures (C.rules criterion.now) form image.now
+    ensures { IfOk result (λ text. AreShown C.figures (C.rules criterion.now) form
+        (printed (names_of form names) image.now)
         (question_to_any destinations.now) wanted.now (string_bytes text)) }
 {
     let mut source = in_place(image);
@@ -43,6 +49,7 @@ pub fn departures_text<C: ShowsFigures>(
         image,
         criterion,
         profiles: &profiles,
+        names: names_of(form, names),
     };
     let mut lines = String::new(alloc);
     let counts = append_stops(&mut lines, &shown, form, wanted)?;

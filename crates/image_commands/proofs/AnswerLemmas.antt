@@ -3,6 +3,7 @@ use Rattle.std.proofs.Common.{◌≡◌, ◌∙◌, ℕ, List, Option, Contains,
 use Rattle.criteria.specs.Laws.{Rules}
 use Rattle.criteria.specs.declared.figures.Figures.{Figures}
 use Rattle.timetable.specs.TimetableValue.{TimetableValue}
+use Rattle.image_files.specs.declared.names.NameForm.{NameForm}
 use Rattle.image_layout.specs.Image.{ImageValue}
 use Rattle.profile_scan.specs.SetQuery.{SetQueryValue, IsAnswerBetween}
 use Rattle.journeys.specs.Answer.{point_of}
@@ -16,21 +17,21 @@ use Rattle.image_commands.specs.Listing.{form_text}
 use Rattle.image_commands.specs.Picturing.{IsDrawn}
 use Rattle.image_commands.specs.declared.profile.Profile.{Profile}
 
-pub answer_shown : {V : Type 0} (figures : V → Figures) (rules : Rules V) (request : ProfileRequest) (image : ImageValue) (b : SetQueryValue)
+pub answer_shown : {V : Type 0} (figures : V → Figures) (rules : Rules V) (names : NameForm) (request : ProfileRequest) (image : ImageValue) (b : SetQueryValue)
     (t : TimetableValue) (departures : List (Departure V)) (walk : Option ℕ) (read : ℕ) (profile : Profile) → t ≡ image.timetable
     → IsAnswerBetween rules t b (map point_of departures)
     → ((departure : Departure V) → Contains departures departure → AttainsBetween rules t b (point_of departure) departure.journey)
     → IsDirectTime t b walk → read ≡ length (window_between t b)
-    → string_bytes profile.text ≡ form_text figures image request.form departures read walk
-    → IsDrawn figures image request b departures walk profile.picture → IsShown figures rules request image b profile
-answer_shown {V} figures rules request image b t departures walk read profile of answer attained direct count is drawn = record {
+    → string_bytes profile.text ≡ form_text figures names image request.form departures read walk
+    → IsDrawn figures image request b departures walk profile.picture → IsShown figures rules names request image b profile
+answer_shown {V} figures rules names request image b t departures walk read profile of answer attained direct count is drawn = record {
   departures = departures;
   walk = walk;
   answer = subst (λ (x : TimetableValue). IsAnswerBetween rules x b (map point_of departures)) of answer;
   attained = subst (λ (x : TimetableValue). (departure : Departure V) → Contains departures departure
       → AttainsBetween rules x b (point_of departure) departure.journey) of attained;
   direct = subst (λ (x : TimetableValue). IsDirectTime x b walk) of direct;
-  text_is = is ∙ ap (λ (n : ℕ). form_text figures image request.form departures n walk)
+  text_is = is ∙ ap (λ (n : ℕ). form_text figures names image request.form departures n walk)
       (count ∙ ap (λ (x : TimetableValue). length (window_between x b)) of);
   drawn = drawn;
 }

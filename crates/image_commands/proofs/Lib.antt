@@ -2,4 +2,5 @@ mod AnswerLemmas
 pub mod MatrixLemmas
 mod Picturing
 mod Ranges
+mod Readings
 mod StopLines

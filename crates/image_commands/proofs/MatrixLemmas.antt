@@ -19,9 +19,11 @@ use Rattle.command_requests.specs.declared.statuses.TheConstants.{ACCEPTED, COMM
 use Rattle.image_files.proofs.Appended.{begun_by_all}
 use Rattle.image_files.specs.Texts.{IsNoTextAt, IsTextAt}
 use Rattle.image_files.specs.Out.{OutFiles}
+use Rattle.image_files.specs.declared.names.NameForm.{NameForm}
 use Rattle.image_commands.specs.Departing.{IsListUnreadable}
 use Rattle.image_commands.specs.Matrices.{AreListedIn, AreNoSources, AreOfList, AreSources, EndsTable, EndsUnlisted, EndsWritten, HasWindow}
-use Rattle.image_commands.specs.Matrices.{IsShownInPart, IsSpent, IsTableOf, IsTableShown, IsTableSpent, IsUnasked, IsUnlisted, IsUnlistedIn, counts_of}
+use Rattle.image_commands.specs.Matrices.{IsShownInPart, IsSpent, IsTableOf, IsTableShown, IsTableSpent, IsUnasked, IsUnlisted, IsUnlistedIn, IsWrittenAt}
+use Rattle.image_commands.specs.Matrices.{counts_of}
 use Rattle.image_commands.proofs.Ranges.{below_all}
 
 -- the stops of sets of one stop each
@@ -48,42 +50,44 @@ sources_within may_hold None image sets are =
 sources_within may_hold (Some path) image sets are = are.2.within
 
 -- the table that was made is the one that is asked for
-pub table_asked : (may_hold : List ℕ → Option (List ℕ) → Type 0) (image : ImageValue) (request : MatrixRequest) (table : TravelTable)
+pub table_asked : (may_hold : List ℕ → Option (List ℕ) → Type 0) (names : NameForm) (image : ImageValue) (request : MatrixRequest) (table : TravelTable)
     (targets sources : List (Vec ℕ)) → table.image.now ≡ image → table.targets.now ≡ targets → table.sources.now ≡ sources
     → (table.after ≡ request.after) × (table.until ≡ request.until) × (table.by ≡ request.by)
     → (table.criterion ≡ request.criterion) × (table.each ≡ request.each)
-    → AreOfList may_hold request.to.now image targets → AreSources may_hold request.from image sources → IsTableOf may_hold image request table
-table_asked may_hold image request table targets sources is same_targets same_sources times form listed from = record {
+    → AreOfList may_hold request.to.now image targets → AreSources may_hold request.from image sources → IsWrittenAt request.out.now names table.names
+    → IsTableOf may_hold names image request table
+table_asked may_hold names image request table targets sources is same_targets same_sources times form listed from written = record {
   image_is = is;
   targets = subst (AreOfList may_hold request.to.now image) (sym same_targets) listed;
   sources = subst (AreSources may_hold request.from image) (sym same_sources) from;
   times = times;
   form = form;
+  written = written;
 }
 
-pub targets_are_within : (may_hold : List ℕ → Option (List ℕ) → Type 0) (image : ImageValue) (request : MatrixRequest) (table : TravelTable)
-    → IsTableOf may_hold image request table → AreWithin table.image.now table.targets.now
-targets_are_within may_hold image request table of =
+pub targets_are_within : (may_hold : List ℕ → Option (List ℕ) → Type 0) (names : NameForm) (image : ImageValue) (request : MatrixRequest) (table : TravelTable)
+    → IsTableOf may_hold names image request table → AreWithin table.image.now table.targets.now
+targets_are_within may_hold names image request table of =
     subst (λ (i : ImageValue). AreWithin i table.targets.now) (sym of.image_is) of.targets.2.within
 
-pub sources_are_within : (may_hold : List ℕ → Option (List ℕ) → Type 0) (image : ImageValue) (request : MatrixRequest) (table : TravelTable)
-    → IsTableOf may_hold image request table → AreWithin table.image.now table.sources.now
-sources_are_within may_hold image request table of =
+pub sources_are_within : (may_hold : List ℕ → Option (List ℕ) → Type 0) (names : NameForm) (image : ImageValue) (request : MatrixRequest) (table : TravelTable)
+    → IsTableOf may_hold names image request table → AreWithin table.image.now table.sources.now
+sources_are_within may_hold names image request table of =
     subst (λ (i : ImageValue). AreWithin i table.sources.now) (sym of.image_is)
     (sources_within may_hold request.from image table.sources.now of.sources)
 
 -- a table that is asked for can be made if its times make a window
-pub can_be_made : (may_hold : List ℕ → Option (List ℕ) → Type 0) (image : ImageValue) (request : MatrixRequest) (table : TravelTable)
-    → IsTableOf may_hold image request table → HasWindow request → (targets : Vec ℕ) → Contains table.targets.now targets → CanBeMade table targets.items
-can_be_made may_hold image request table of times targets h =
+pub can_be_made : (may_hold : List ℕ → Option (List ℕ) → Type 0) (names : NameForm) (image : ImageValue) (request : MatrixRequest) (table : TravelTable)
+    → IsTableOf may_hold names image request table → HasWindow request → (targets : Vec ℕ) → Contains table.targets.now targets → CanBeMade table targets.items
+can_be_made may_hold names image request table of times targets h =
     let after : table.after ≡ request.after = of.times.0 in
     let until : table.until ≡ request.until = of.times.1 in
     let by : table.by ≡ request.by = of.times.2 in
     record {
-      sources = sources_are_within may_hold image request table of;
+      sources = sources_are_within may_hold names image request table of;
       asked = record {
         sources = λ stop none. absurd (not_in_nil stop none);
-        targets = targets_are_within may_hold image request table of targets h;
+        targets = targets_are_within may_hold names image request table of targets h;
         differ = λ stop none. absurd (not_in_nil stop none);
         window = omega (arith, after, until, times.window);
         in_time = omega (arith, after, by, times.in_time);
@@ -167,12 +171,13 @@ unread_list may_hold may_fail path image kind status (inr is) memory why = recor
 }
 
 -- what was printed of a table if memory ran out
-pub spent_table : (may_hold : List ℕ → Option (List ℕ) → Type 0) (image : ImageValue) (request : MatrixRequest) (before after : Option (List ℕ))
+pub spent_table : (may_hold : List ℕ → Option (List ℕ) → Type 0) (names : NameForm) (image : ImageValue) (request : MatrixRequest)
+    (before after : Option (List ℕ))
     → HasWindow request
-    → (after ≡ before) ⊎ ((table : TravelTable) × IsTableOf may_hold image request table × IsSpent table request.out.now before after)
-    → IsTableSpent may_hold image request before after
-spent_table may_hold image request before after window (inl same) = inl same
-spent_table may_hold image request before after window (inr spent) = inr (window, spent)
+    → (after ≡ before) ⊎ ((table : TravelTable) × IsTableOf may_hold names image request table × IsSpent table request.out.now before after)
+    → IsTableSpent may_hold names image request before after
+spent_table may_hold names image request before after window (inl same) = inl same
+spent_table may_hold names image request before after window (inr spent) = inr (window, spent)
 
 -- what holds of a call that failed, by the status that was made of it
 pub at_failure : {T E : Type 0} (P : Type 0) (outcome : Result T E) (status : ℕ) → IfOk outcome (λ _. status ≡ ACCEPTED) → OnErr outcome P

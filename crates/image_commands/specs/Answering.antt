@@ -7,6 +7,7 @@ use Rattle.criteria.specs.declared.name.CriterionName.{CriterionName}
 use Rattle.criteria.specs.declared.figures.Figures.{Figures}
 use Rattle.timetable.specs.declared.query.QueryFault.{QueryFault}
 use Rattle.image_files.specs.Out.{OutFiles}
+use Rattle.image_files.specs.declared.names.NameForm.{NameForm}
 use Rattle.image_files.specs.Writing.{IsPutInto, IsUnwritableInto}
 use Rattle.image_layout.specs.Image.{ImageValue}
 use Rattle.journeys.specs.Answer.{point_of}
@@ -31,22 +32,22 @@ use Rattle.image_commands.specs.declared.refusal.CommandRefusal.TheVariants.{Que
 -- and each departure has a journey that attains its point for one of the pairs, and whose last walk isn't from a target. The text shows the departures and
 -- the direct walk, and in lines also how many connections the window has. A picture, if one is asked for, shows the same departures. Between a single stop and
 -- a single other this is the answer of the plain query (the law `one_is_plain` of profile_scan)
-pub record IsShown {V : Type 0} (figures : V → Figures) (rules : Rules V) (request : ProfileRequest) (image : ImageValue) (b : SetQueryValue)
-    (profile : Profile) : Type 0 where
+pub record IsShown {V : Type 0} (figures : V → Figures) (rules : Rules V) (names : NameForm) (request : ProfileRequest) (image : ImageValue)
+    (b : SetQueryValue) (profile : Profile) : Type 0 where
   pub departures : List (Departure V)
   pub walk : Option ℕ
   pub answer : IsAnswerBetween rules image.timetable b (map point_of departures)
   pub attained : (departure : Departure V) → Contains departures departure
       → AttainsBetween rules image.timetable b (point_of departure) departure.journey
   pub direct : IsDirectTime image.timetable b walk
-  pub text_is : string_bytes profile.text ≡ form_text figures image request.form departures (length (window_between image.timetable b)) walk
+  pub text_is : string_bytes profile.text ≡ form_text figures names image request.form departures (length (window_between image.timetable b)) walk
   pub drawn : IsDrawn figures image request b departures walk profile.picture
 
 -- the question is answered under the criterion of this name
-abbrev pub IsShownBy : CriterionName → ProfileRequest → ImageValue → SetQueryValue → Profile → Type 0
-IsShownBy CriterionName.Arrival request image b profile = IsShown arrival_figures by_arrival request image b profile
-IsShownBy CriterionName.ArrivalTrips request image b profile = IsShown trips_figures by_trips request image b profile
-IsShownBy CriterionName.ArrivalTripsWalk request image b profile = IsShown walking_figures by_walking request image b profile
+abbrev pub IsShownBy : CriterionName → NameForm → ProfileRequest → ImageValue → SetQueryValue → Profile → Type 0
+IsShownBy CriterionName.Arrival names request image b profile = IsShown arrival_figures by_arrival names request image b profile
+IsShownBy CriterionName.ArrivalTrips names request image b profile = IsShown trips_figures by_trips names request image b profile
+IsShownBy CriterionName.ArrivalTripsWalk names request image b profile = IsShown walking_figures by_walking names request image b profile
 
 -- the names of the stops on each side, and the window
 abbrev pub names_from : ProfileRequest → List (List ℕ)
@@ -58,22 +59,22 @@ names_to request = map (λ name. name.now) request.to.items
 abbrev pub window_of_profile : ProfileRequest → Window
 window_of_profile request = record { from = request.after; until = request.until; by = request.by }
 
--- the request makes a question that can be asked of the image, and the profile answers it
-pub record AnswersRequest (image : ImageValue) (request : ProfileRequest) (profile : Profile) : Type 0 where
+-- the request makes a question that can be asked of the image, and the profile answers it, with names in this form in lines
+pub record AnswersRequest (names : NameForm) (image : ImageValue) (request : ProfileRequest) (profile : Profile) : Type 0 where
   pub question : SetQueryValue
   pub askable : IsAskableBetween image.timetable.stops question
   pub asks : AsksBetween image.names (names_from request) (names_to request) (window_of_profile request) question
-  pub shown : IsShownBy request.criterion request image question profile
+  pub shown : IsShownBy request.criterion names request image question profile
 
 -- the request makes no question of the image: it has this fault
 abbrev pub HasFault : ImageValue → ProfileRequest → QueryFault → Type 0
 HasFault image request fault = IsFaultBetween image (names_from request) (names_to request) (window_of_profile request) fault
 
 -- the answer, or why there is none
-abbrev pub IsProfile : ImageValue → ProfileRequest → Result Profile NoQuestion → Type 0
-IsProfile image request (Ok profile) = AnswersRequest image request profile
-IsProfile image request (Err (Bad fault)) = HasFault image request fault
-IsProfile image request (Err OutOfMemory) = Unit {0}
+abbrev pub IsProfile : NameForm → ImageValue → ProfileRequest → Result Profile NoQuestion → Type 0
+IsProfile names image request (Ok profile) = AnswersRequest names image request profile
+IsProfile names image request (Err (Bad fault)) = HasFault image request fault
+IsProfile names image request (Err OutOfMemory) = Unit {0}
 
 -- the picture, if there is one and it is asked for, was put into the file at its path
 abbrev pub IsPicturePut : OutFiles → Option (Bor (List ℕ)) → Option (String Global) → Type 0
@@ -96,12 +97,13 @@ IsPictureUnwritable disk image picture = IsPictureUnwritten disk picture ⊎ IsO
 
 -- the question is answered, and its picture may not be written
 abbrev pub LacksPicture : OutFiles → ImageValue → ProfileRequest → Type 0
-LacksPicture disk image request = IsPictureUnwritable disk request.image.now request.picture × ((profile : Profile) × AnswersRequest image request profile)
+LacksPicture disk image request =
+    IsPictureUnwritable disk request.image.now request.picture × ((names : NameForm) × (profile : Profile) × AnswersRequest names image request profile)
 
 -- the text is that of an answer, whose picture, if one is asked for, is in its file
-abbrev pub IsAnswered : OutFiles → ImageValue → ProfileRequest → List ℕ → Type 0
-IsAnswered disk image request text =
-    (profile : Profile) × AnswersRequest image request profile × IsPicturePut disk request.picture profile.picture × (text ≡ string_bytes profile.text)
+abbrev pub IsAnswered : OutFiles → NameForm → ImageValue → ProfileRequest → List ℕ → Type 0
+IsAnswered disk names image request text =
+    (profile : Profile) × AnswersRequest names image request profile × IsPicturePut disk request.picture profile.picture × (text ≡ string_bytes profile.text)
 
 -- the request makes no question of the image: this is the line of its fault
 abbrev pub IsNoRequest : ImageValue → ProfileRequest → List ℕ → Type 0

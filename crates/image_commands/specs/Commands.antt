@@ -1,6 +1,7 @@
 -- What a command over an image prints, of what is done and of what is refused.
 use Rattle.std.specs.Prelude.{◌≡◌, ℕ, List, Option}
 use Rattle.image_files.specs.Out.{OutFiles}
+use Rattle.image_files.specs.declared.names.NameForm.{NameForm}
 use Rattle.image_files.specs.Writing.{IsImagePut, IsUnwritable}
 use Rattle.image_layout.specs.Image.{ImageValue}
 use Rattle.command_requests.specs.declared.requests.DeparturesRequest.{DeparturesRequest}
@@ -29,22 +30,22 @@ IsUnusable may_fail may_hold disk image (Departures request) = LacksList may_fai
 IsUnusable may_fail may_hold disk image (Stops request) = ⊥
 IsUnusable may_fail may_hold disk image (Upgrade request) = IsUnwritable disk request.out.now
 
--- what a question's answer is, or why it can't be asked
-abbrev pub PrintsProfile : OutFiles → ImageValue → ProfileRequest → ℕ → List ℕ → Type 0
-PrintsProfile disk image request = Prints (IsAnswered disk image request) (IsNoRequest image request)
+-- what a question's answer is, with names in this form in lines, or why it can't be asked
+abbrev pub PrintsProfile : OutFiles → NameForm → ImageValue → ProfileRequest → ℕ → List ℕ → Type 0
+PrintsProfile disk names image request = Prints (IsAnswered disk names image request) (IsNoRequest image request)
 
 -- the same of the queries from every stop; `may_hold` says what a file at a path may hold
-abbrev pub PrintsDepartures : (List ℕ → Option (List ℕ) → Type 0) → ImageValue → DeparturesRequest → ℕ → List ℕ → Type 0
-PrintsDepartures may_hold image request = Prints (AreAllShown may_hold image request) (IsNoneAsked may_hold image request)
+abbrev pub PrintsDepartures : (List ℕ → Option (List ℕ) → Type 0) → NameForm → ImageValue → DeparturesRequest → ℕ → List ℕ → Type 0
+PrintsDepartures may_hold names image request = Prints (AreAllShown may_hold names image request) (IsNoneAsked may_hold image request)
 
-module _ (may_hold : List ℕ → Option (List ℕ) → Type 0) (disk : OutFiles) where
-  -- what the command may print of the image, and with which status. A journey or a question is refused for its first fault; a list of stops is refused for a
-  -- line that is no stop_id, and then nothing is printed; nothing else is refused
+module _ (may_hold : List ℕ → Option (List ℕ) → Type 0) (disk : OutFiles) (names : NameForm) where
+  -- what the command may print of the image, with names in this form in lines, and with which status. A journey or a question is refused for its first
+  -- fault; a list of stops is refused for a line that is no stop_id, and then nothing is printed; nothing else is refused
   abbrev pub PrintsAsked : ImageValue → ImageRequest → ℕ → List ℕ → Type 0
   PrintsAsked image (Verify path) = PrintsOnly (λ text. text ≡ counts_line image)
   PrintsAsked image (Info request) = PrintsOnly (IsInfo request.json image)
   PrintsAsked image (Journey request) = Prints (IsAccepted image request.question request.text.now) (IsFaulty image request.question request.text.now)
-  PrintsAsked image (Profile request) = PrintsProfile disk image request
-  PrintsAsked image (Departures request) = PrintsDepartures may_hold image request
-  PrintsAsked image (Stops request) = PrintsOnly (AreStopsAsked image request)
+  PrintsAsked image (Profile request) = PrintsProfile disk names image request
+  PrintsAsked image (Departures request) = PrintsDepartures may_hold names image request
+  PrintsAsked image (Stops request) = PrintsOnly (AreStopsAsked names image request)
   PrintsAsked image (Upgrade request) = PrintsOnly (IsUpgraded disk image request.out.now)

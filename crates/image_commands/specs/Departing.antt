@@ -16,9 +16,11 @@ use Rattle.command_requests.specs.declared.requests.DeparturesForm.{DeparturesFo
 use Rattle.command_requests.specs.declared.requests.DeparturesRequest.{DeparturesRequest}
 use Rattle.command_requests.specs.declared.statuses.TheConstants.{INPUT_OUTPUT, OUT_OF_MEMORY, REFUSED}
 use Rattle.departure_lines.specs.Naming.{AreWanted, IsUnknownLine}
-use Rattle.departure_lines.specs.Showing.{AreShown}
+use Rattle.departure_lines.specs.Showing.{AreShown, names_of}
 use Rattle.departure_lines.specs.declared.stop_lists.WantedStops.{WantedStops}
 use Rattle.departure_lines.specs.declared.stop_lists.WantedStops.TheVariants.{All}
+use Rattle.image_files.specs.Naming.{printed}
+use Rattle.image_files.specs.declared.names.NameForm.{NameForm}
 use Rattle.image_files.specs.Texts.{HoldsOfText, IsNoTextAt}
 use Rattle.image_commands.specs.Refusing.{refusal_line}
 use Rattle.image_commands.specs.declared.refusal.CommandRefusal.TheVariants.{Query}
@@ -27,9 +29,9 @@ use Rattle.image_commands.specs.declared.wanted_stops.NoList.TheVariants.{NotTex
 
 -- the text shows the departures from the stops that are wanted, under the criterion of this name
 abbrev pub AreShownBy : CriterionName → DeparturesForm → ImageValue → SetQueryValue → WantedStops → List ℕ → Type 0
-AreShownBy CriterionName.Arrival form image b wanted printed = AreShown arrival_figures by_arrival form image b wanted printed
-AreShownBy CriterionName.ArrivalTrips form image b wanted printed = AreShown trips_figures by_trips form image b wanted printed
-AreShownBy CriterionName.ArrivalTripsWalk form image b wanted printed = AreShown walking_figures by_walking form image b wanted printed
+AreShownBy CriterionName.Arrival form image b wanted text = AreShown arrival_figures by_arrival form image b wanted text
+AreShownBy CriterionName.ArrivalTrips form image b wanted text = AreShown trips_figures by_trips form image b wanted text
+AreShownBy CriterionName.ArrivalTripsWalk form image b wanted text = AreShown walking_figures by_walking form image b wanted text
 
 -- the names of the stops to go to, and the window that the command line asks for
 abbrev pub targets_asked : DeparturesRequest → List (List ℕ)
@@ -101,11 +103,11 @@ AsksOfAll image request b =
 abbrev pub LacksList : (List ℕ → Type 0) → (List ℕ → Option (List ℕ) → Type 0) → ImageValue → DeparturesRequest → Type 0
 LacksList may_fail may_hold image request = IsListUnreadable may_fail may_hold request.from × ((b : SetQueryValue) × AsksOfAll image request b)
 
--- the text shows the departures to the stops that are asked for, and which can be asked, from the stops that are wanted
-abbrev pub AreAllShown : (List ℕ → Option (List ℕ) → Type 0) → ImageValue → DeparturesRequest → List ℕ → Type 0
-AreAllShown may_hold image request printed =
+-- the text shows the departures to the stops that are asked for, and which can be asked, from the stops that are wanted, with names in this form in lines
+abbrev pub AreAllShown : (List ℕ → Option (List ℕ) → Type 0) → NameForm → ImageValue → DeparturesRequest → List ℕ → Type 0
+AreAllShown may_hold names image request text =
     (b : SetQueryValue) × (wanted : WantedStops) × AsksOfAll image request b × IsWantedFrom may_hold request.from image.names wanted
-    × AreShownBy request.criterion request.form image b wanted printed
+    × AreShownBy request.criterion request.form (printed (names_of request.form names) image) b wanted text
 
 -- the request can't be asked of the image: it has a fault, and this is its line
 abbrev pub IsBadQueryOfAll : ImageValue → DeparturesRequest → List ℕ → Type 0

@@ -10,6 +10,8 @@ use Rattle.timetable.specs.declared.network.Connection.{Connection}
 use Rattle.timetable.specs.declared.network.Footpath.{Footpath}
 use Rattle.image_layout.specs.Image.{ImageValue}
 use Rattle.image_facts.specs.Naming.{stop_bytes, trip_bytes}
+use Rattle.image_files.specs.Naming.{printed}
+use Rattle.image_files.specs.declared.names.NameForm.{NameForm}
 use Rattle.journeys.specs.Texts.{number_text}
 use Rattle.journeys.specs.declared.answering.Departure.{Departure}
 use Rattle.answer_replies.specs.Replying.{departures_data}
@@ -62,9 +64,9 @@ lines_text figures words departures read walk =
 abbrev pub reply_text : {V : Type 0} → PointForm → (V → Figures) → ImageValue → List (Departure V) → Option ℕ → List ℕ
 reply_text form figures image departures walk = line_of (profile_data (departures_data form image figures departures) 1 walk)
 
--- an answer in a form: lines with the journeys' numbers or names, or a session's reply
-abbrev pub form_text : {V : Type 0} → (V → Figures) → ImageValue → AnswerForm → List (Departure V) → ℕ → Option ℕ → List ℕ
-form_text figures image AnswerForm.Numbers departures read walk = lines_text figures numbered_text departures read walk
-form_text figures image AnswerForm.Names departures read walk = lines_text figures (named_text image) departures read walk
-form_text figures image AnswerForm.Json departures read walk = reply_text PointForm.Bare figures image departures walk
-form_text figures image AnswerForm.JsonLegs departures read walk = reply_text PointForm.WithLegs figures image departures walk
+-- an answer in a form: lines with the journeys' numbers, or their names as they are written in lines, or a session's reply
+abbrev pub form_text : {V : Type 0} → (V → Figures) → NameForm → ImageValue → AnswerForm → List (Departure V) → ℕ → Option ℕ → List ℕ
+form_text figures names image AnswerForm.Numbers departures read walk = lines_text figures numbered_text departures read walk
+form_text figures names image AnswerForm.Names departures read walk = lines_text figures (named_text (printed names image)) departures read walk
+form_text figures names image AnswerForm.Json departures read walk = reply_text PointForm.Bare figures image departures walk
+form_text figures names image AnswerForm.JsonLegs departures read walk = reply_text PointForm.WithLegs figures image departures walk

@@ -7,6 +7,7 @@ use Rattle.std.specs.List.{AllZip, range_with_len}
 use Rattle.std.specs.Str.Lines.{lines}
 use Rattle.std.specs.declared.io.ErrorKind.{ErrorKind}
 use Rattle.image_files.specs.Out.{OutFiles}
+use Rattle.image_files.specs.declared.names.NameForm.{NameForm}
 use Rattle.image_files.specs.Writing.{IsPut, IsUnwritable}
 use Rattle.image_layout.specs.Image.{ImageValue}
 use Rattle.profile_scan.specs.SetQuery.{SetQueryValue}
@@ -114,13 +115,19 @@ pub record IsUnasked (may_hold : List ℕ → Option (List ℕ) → Type 0) (may
   pub bad : status ≡ COMMAND_LINE → HoldsOfList may_hold request image (IsNoList image)
   pub unread : status ≡ INPUT_OUTPUT → AreListsUnreadable may_fail may_hold image request
 
--- a table is the one that is asked for
-pub record IsTableOf (may_hold : List ℕ → Option (List ℕ) → Type 0) (image : ImageValue) (request : MatrixRequest) (table : TravelTable) : Type 0 where
+-- how stop_ids are written in a table: in a file as they are, and otherwise as names are written to the output
+abbrev pub IsWrittenAt : List ℕ → NameForm → NameForm → Type 0
+IsWrittenAt out names written = (out ≡ codes "-" → written ≡ names) × (out ≢ codes "-" → written ≡ NameForm.Raw)
+
+-- a table is the one that is asked for; `names` says how names are written to the output
+pub record IsTableOf (may_hold : List ℕ → Option (List ℕ) → Type 0) (names : NameForm) (image : ImageValue) (request : MatrixRequest)
+    (table : TravelTable) : Type 0 where
   pub image_is : table.image.now ≡ image
   pub targets : AreOfList may_hold request.to.now image table.targets.now
   pub sources : AreSources may_hold request.from image table.sources.now
   pub times : (table.after ≡ request.after) × (table.until ≡ request.until) × (table.by ≡ request.by)
   pub form : (table.criterion ≡ request.criterion) × (table.each ≡ request.each)
+  pub written : IsWrittenAt request.out.now names table.names
 
 -- the earliest departure, the latest one and the latest arrival make a window
 pub record HasWindow (request : MatrixRequest) : Type 0 where
@@ -152,9 +159,10 @@ pub record IsShownInPart (table : TravelTable) (out : List ℕ) (before after : 
   pub counted : out ≢ codes "-" → IsBegun before after (counts_of table)
 
 -- a table is asked for whose times make a window, and it was printed, or put at its path
-abbrev pub IsTablePrinted : (List ℕ → Option (List ℕ) → Type 0) → OutFiles → ImageValue → MatrixRequest → Option (List ℕ) → Option (List ℕ) → Type 0
-IsTablePrinted may_hold disk image request before after =
-    HasWindow request × ((table : TravelTable) × IsTableOf may_hold image request table × IsTableShown disk table request.out.now before after)
+abbrev pub IsTablePrinted : (List ℕ → Option (List ℕ) → Type 0) → OutFiles → NameForm → ImageValue → MatrixRequest → Option (List ℕ) → Option (List ℕ)
+    → Type 0
+IsTablePrinted may_hold disk names image request before after =
+    HasWindow request × ((table : TravelTable) × IsTableOf may_hold names image request table × IsTableShown disk table request.out.now before after)
 
 -- a table is refused for its times, whose line was printed; or these make a window, a line of a list has what is no stop_id, and nothing was printed
 abbrev pub IsTableRefused : (List ℕ → Option (List ℕ) → Type 0) → ImageValue → MatrixRequest → Option (List ℕ) → Option (List ℕ) → Type 0
@@ -180,26 +188,26 @@ IsCutShort disk request table fault before after =
     (IsTableUnwritable disk request × (after ≡ before)) ⊎ (HasFault fault × IsShownInPart table request.out.now before after)
 
 -- the same of the table that is asked for; or nothing, since a list may not be read, or has what is no stop_id while the output has a fault
-abbrev pub IsReadCutShort : (List ℕ → Option (List ℕ) → Type 0) → (List ℕ → Type 0) → OutFiles → ImageValue → MatrixRequest → Option ErrorKind
-    → Option (List ℕ) → Option (List ℕ) → Type 0
-IsReadCutShort may_hold may_fail disk image request fault before after =
+abbrev pub IsReadCutShort : (List ℕ → Option (List ℕ) → Type 0) → (List ℕ → Type 0) → OutFiles → NameForm → ImageValue → MatrixRequest
+    → Option ErrorKind → Option (List ℕ) → Option (List ℕ) → Type 0
+IsReadCutShort may_hold may_fail disk names image request fault before after =
     (AreListsUnreadable may_fail may_hold image request × (after ≡ before))
     ⊎ (HasFault fault × HoldsOfList may_hold request image (HasUnknown image) × (after ≡ before))
-    ⊎ ((table : TravelTable) × IsTableOf may_hold image request table × IsCutShort disk request table fault before after)
+    ⊎ ((table : TravelTable) × IsTableOf may_hold names image request table × IsCutShort disk request table fault before after)
 
 -- the same if the times make a window; or they make none, and since the output has a fault a first part of the line for them was printed
-abbrev pub IsTableCutShort : (List ℕ → Option (List ℕ) → Type 0) → (List ℕ → Type 0) → OutFiles → ImageValue → MatrixRequest → Option ErrorKind
-    → Option (List ℕ) → Option (List ℕ) → Type 0
-IsTableCutShort may_hold may_fail disk image request fault before after =
+abbrev pub IsTableCutShort : (List ℕ → Option (List ℕ) → Type 0) → (List ℕ → Type 0) → OutFiles → NameForm → ImageValue → MatrixRequest
+    → Option ErrorKind → Option (List ℕ) → Option (List ℕ) → Type 0
+IsTableCutShort may_hold may_fail disk names image request fault before after =
     (HasFault fault × HasNoWindow request × IsBegun before after (refusal_line (OfQuery BadWindow)))
-    ⊎ (HasWindow request × IsReadCutShort may_hold may_fail disk image request fault before after)
+    ⊎ (HasWindow request × IsReadCutShort may_hold may_fail disk names image request fault before after)
 
 -- what was printed of a table if memory ran out: nothing, or its first rows, if it is to be printed itself
 abbrev pub IsSpent : TravelTable → List ℕ → Option (List ℕ) → Option (List ℕ) → Type 0
 IsSpent table out before after = (after ≡ before) ⊎ ((out ≡ codes "-") × IsTableBegun table before after)
 
 -- the same of the table that is asked for, whose times make a window; or nothing
-abbrev pub IsTableSpent : (List ℕ → Option (List ℕ) → Type 0) → ImageValue → MatrixRequest → Option (List ℕ) → Option (List ℕ) → Type 0
-IsTableSpent may_hold image request before after =
+abbrev pub IsTableSpent : (List ℕ → Option (List ℕ) → Type 0) → NameForm → ImageValue → MatrixRequest → Option (List ℕ) → Option (List ℕ) → Type 0
+IsTableSpent may_hold names image request before after =
     (after ≡ before)
-    ⊎ (HasWindow request × ((table : TravelTable) × IsTableOf may_hold image request table × IsSpent table request.out.now before after))
+    ⊎ (HasWindow request × ((table : TravelTable) × IsTableOf may_hold names image request table × IsSpent table request.out.now before after))

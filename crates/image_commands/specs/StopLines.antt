@@ -4,6 +4,8 @@ use Rattle.std.specs.List.{AllZip, flat_map, range_with_len}
 use Rattle.timetable.specs.NamesValue.{NamesValue}
 use Rattle.image_layout.specs.Image.{ImageValue}
 use Rattle.image_facts.specs.Naming.{stop_bytes}
+use Rattle.image_files.specs.Naming.{names_in}
+use Rattle.image_files.specs.declared.names.NameForm.{NameForm}
 use Rattle.feed_stations.specs.Finding.{IsIn}
 use Rattle.text_pieces.specs.Json.{quoted_text, with_commas}
 use Rattle.command_requests.specs.declared.requests.StopsRequest.{StopsRequest}
@@ -31,12 +33,12 @@ unfoldable pub stop_json : NamesValue → ℕ → List ℕ
 stop_json names stop =
     quoted_text (codes "{\"id\":") (stop_bytes names stop) ++ (codes ",\"number\":" ++ decimal stop) ++ codes "}"
 
--- the text of some stops, as an array of JSON on one line, or as lines
-abbrev pub stops_text : Bool → NamesValue → List ℕ → List ℕ
-stops_text true names found = codes "[" ++ with_commas (map (stop_json names) found) ++ codes "]\n"
-stops_text false names found = flat_map (stop_line names) found
+-- the text of some stops, as an array of JSON on one line, or as lines, with names in a form
+abbrev pub stops_text : Bool → NameForm → NamesValue → List ℕ → List ℕ
+stops_text true form names found = codes "[" ++ with_commas (map (stop_json names) found) ++ codes "]\n"
+stops_text false form names found = flat_map (stop_line (names_in form names)) found
 
--- the text is that of the stops that are asked for
-abbrev pub AreStopsAsked : ImageValue → StopsRequest → List ℕ → Type 0
-AreStopsAsked image request text =
-    (found : List ℕ) × AreFound image.names request.text.now image.timetable.stops found × (text ≡ stops_text request.json image.names found)
+-- the text is that of the stops that are asked for, with names in this form in lines
+abbrev pub AreStopsAsked : NameForm → ImageValue → StopsRequest → List ℕ → Type 0
+AreStopsAsked form image request text =
+    (found : List ℕ) × AreFound image.names request.text.now image.timetable.stops found × (text ≡ stops_text request.json form image.names found)

@@ -8,31 +8,33 @@ use crate::windows::{DepartureRange, warn_of_window};
 use crate::{departures, info, journey, profile, stops, upgrade, verify};
 use command_endings::status;
 use command_requests::ImageRequest;
-use image_files::{ImageDisk, OutDisk, Watched};
+use image_files::{ImageDisk, NameForm, OutDisk, Watched};
 use image_verifier::Verified;
 use std::io::Write;
 
 /// Does what is asked of `image`, which need not be the one at the command's path: prints the result to `output`, or
-/// why there is none, which it explains in `errors`. Returns `ACCEPTED`, `REFUSED`, `INPUT_OUTPUT` if a file or a line
-/// can't be read or written, or `OUT_OF_MEMORY`, with nothing printed to `output`. If `warnings` is set, warns in
-/// `errors` of a window that goes beyond the image's connections, and of ids that lines can't show.
+/// why there is none, which it explains in `errors`. In lines, ids are in the form `names`. Returns `ACCEPTED`,
+/// `REFUSED`, `INPUT_OUTPUT` if a file or a line can't be read or written, or `OUT_OF_MEMORY`, with nothing printed to
+/// `output`. If `warnings` is set, warns in `errors` of a window that goes beyond the image's connections, and of ids
+/// that break lines.
 pub fn answer<H: OutDisk + ImageDisk<Image = H::File> + AllocGlobal, O: Watched, E: Write>(
     rt: &H,
     image: &Verified,
     asked: &ImageRequest<'_>,
+    names: NameForm,
     output: &mut O,
     errors: &mut E,
     warnings: bool,
 ) -> u8
-    ensures { IsOutcome (PrintsAsked (H.may_hold rt.now) (H.files rt.now) image.now asked.now)
+    ensures { IsOutcome (PrintsAsked (H.may_hold rt.now) (H.files rt.now) names image.now asked.now)
         (IsUnusable (H.may_fail rt.now) (H.may_hold rt.now) (H.files rt.now) image.now asked.now) (O.noted output.new)
         result
         (O.contents output.old) (O.contents output.new) }
 {
-    let status = do_asked(rt, image, asked, output, errors);
+    let status = do_asked(rt, image, asked, names, output, errors);
     if warnings && status == status::ACCEPTED {
         warn_of_departures(image, asked, errors);
-        warn_of_line_feeds(image, asked, errors);
+        warn_of_line_feeds(image, asked, names, errors);
     }
     status
 }
@@ -42,10 +44,11 @@ fn do_asked<H: OutDisk + ImageDisk<Image = H::File> + AllocGlobal, O: Watched, E
     rt: &H,
     image: &Verified,
     asked: &ImageRequest<'_>,
+    names: NameForm,
     output: &mut O,
     errors: &mut E,
 ) -> u8
-    ensures { IsOutcome (PrintsAsked (H.may_hold rt.now) (H.files rt.now) image.now asked.now)
+    ensures { IsOutcome (PrintsAsked (H.may_hold rt.now) (H.files rt.now) names image.now asked.now)
         (IsUnusable (H.may_fail rt.now) (H.may_hold rt.now) (H.files rt.now) image.now asked.now) (O.noted output.new)
         result
         (O.contents output.old) (O.contents output.new) }
@@ -54,9 +57,18 @@ fn do_asked<H: OutDisk + ImageDisk<Image = H::File> + AllocGlobal, O: Watched, E
         ImageRequest::Verify(_) => verify::run(rt.alloc(), image, output),
         ImageRequest::Info(request) => info::run(rt.alloc(), image, *request, output),
         ImageRequest::Journey(request) => journey::run(rt.alloc(), image, *request, output, errors),
-        ImageRequest::Profile(request) => profile::run(rt, image, request, output, errors),
-        ImageRequest::Departures(request) => departures::run(rt, image, request, output, errors),
-        ImageRequest::Stops(request) => stops::run(rt.alloc(), image, *request, output, errors),
+        ImageRequest::Profile(request) => profile::run(rt, image, request, names, output, errors),
+        ImageRequest::Departures(request) => departures::run(
+            rt, image, request, names, output, errors,
+        ),
+        ImageRequest::Stops(request) => stops::run(
+            rt.alloc(),
+            image,
+            *request,
+            names,
+            output,
+            errors,
+        ),
         ImageRequest::Upgrade(request) => upgrade::run(rt, image, *request, output, errors),
     }
 }

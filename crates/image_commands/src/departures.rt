@@ -5,7 +5,13 @@ ghost use Rattle.std.specs.Prelude.{◌≡◌, ℕ, [], IfOk, MatchResult, strin
 ghost use Rattle.profile_scan.specs.SetQuery.{IsAskableBetween, question};
 ghost use Rattle.profile_scan.specs.Destinations.{question_to_any};
 ghost use Rattle.station_answers.specs.Naming.{IsNoQuestion};
-ghost use Rattle.command_requests.specs.declared.statuses.TheConstants.{REFUSED};
+ghost use Rattle.std.specs.Io.KnownBytes.{Appends};
+ghost use Rattle.command_requests.specs.declared.statuses.TheConstants.{INPUT_OUTPUT, OUT_OF_MEMORY, REFUSED};
+ghost use Rattle.image_files.specs.Watching.{HasFault, IsBegun};
+ghost use Rattle.image_commands.specs.Refusing.{refusal_line};
+ghost use Rattle.image_commands.specs.declared.refusal.CommandRefusal.TheVariants.{Query as OfQuery};
+ghost use Rattle.departure_lines.specs.Showing.{names_of};
+ghost use Rattle.image_files.specs.Naming.{printed};
 ghost use Rattle.image_commands.specs.declared.wanted_stops.NoList.TheVariants.{UnknownStop};
 ghost use Rattle.image_commands.specs.Commands.{PrintsDepartures};
 ghost use Rattle.command_endings.specs.Ending.{EndsUndone, IsOutcome, PrintsOnly};
@@ -20,7 +26,7 @@ use command_requests::DeparturesRequest;
 use criteria::{Arrival, ArrivalTrips, ArrivalTripsWalk, CriterionName};
 use departure_lines::{WantedStops, departures_text};
 use feed_messages::{explain, is_file};
-use image_files::{ImageDisk, Watched};
+use image_files::{ImageDisk, NameForm, Watched};
 use image_verifier::Verified;
 use journeys::Window;
 use profile_scan::{Destinations, SetQuery};
@@ -37,26 +43,46 @@ pub fn run<H: Files + ImageDisk<Image = H::File> + AllocGlobal, O: Watched, E: W
     rt: &H,
     image: &Verified,
     request: &DeparturesRequest<'_>,
+    names: NameForm,
     output: &mut O,
     errors: &mut E,
 ) -> u8
-    ensures { IsOutcome (PrintsDepartures (H.may_hold rt.now) image.now request.now)
+    ensures { IsOutcome (PrintsDepartures (H.may_hold rt.now) names image.now request.now)
         (LacksList (H.may_fail rt.now) (H.may_hold rt.now) image.now request.now) (O.noted output.new) result
         (O.contents output.old) (O.contents output.new) }
 {
-    let destinations = match destinations_asked(rt.alloc(), image, request) {
-        Ok(destinations) => destinations,
-        Err(NoQuestion::OutOfMemory) => return status::OUT_OF_MEMORY,
-        Err(NoQuestion::Bad(fault)) => {
-            let status = print_refusal(rt.alloc(), output, CommandRefusal::Query(fault));
-            if status == status::REFUSED {
-                explain_fault(image, request, fault, errors);
-            }
-            return status;
-        }
-    };
+    match destinations_asked(rt.alloc(), image, request) {
+        Ok(destinations) => print_wanted(rt, image, &destinations, request, names, output, errors),
+        Err(NoQuestion::Bad(fault)) => refuse(rt.alloc(), image, request, fault, output, errors),
+        Err(NoQuestion::OutOfMemory) => status::OUT_OF_MEMORY,
+    }
+}
+
+// Prints the answer from the stops that are wanted, if it is known which these are.
+fn print_wanted<H: Files + ImageDisk<Image = H::File> + AllocGlobal, O: Watched, E: Write>(
+    rt: &H,
+    image: &Verified,
+    destinations: &Destinations,
+    request: &DeparturesRequest<'_>,
+    names: NameForm,
+    output: &mut O,
+    errors: &mut E,
+) -> u8
+    requires { AsksOfAll image.now request.now (question_to_any destinations.now) }
+    ensures { IsOutcome (PrintsDepartures (H.may_hold rt.now) names image.now request.now)
+        (LacksList (H.may_fail rt.now) (H.may_hold rt.now) image.now request.now) (O.noted output.new) result
+        (O.contents output.old) (O.contents output.new) }
+{
     match wanted_from(rt, image, request.from, errors) {
-        Ok(wanted) => print_all(rt.alloc(), image, &destinations, request, &wanted, output),
+        Ok(wanted) => print_all(
+            rt.alloc(),
+            image,
+            destinations,
+            request,
+            &wanted,
+            names,
+            output,
+        ),
         Err(failure) => explain_list(rt, request, failure, errors),
     }
 }
@@ -68,17 +94,43 @@ fn print_all<O: Watched>(
     destinations: &Destinations,
     request: &DeparturesRequest<'_>,
     wanted: &WantedStops,
+    names: NameForm,
     output: &mut O,
 ) -> u8
     requires { IsAskableBetween image.now.timetable.stops (question_to_any destinations.now) }
-    ensures { IsOutcome (PrintsOnly (AreShownBy request.now.criterion request.now.form image.now
+    ensures { IsOutcome (PrintsOnly (AreShownBy request.now.criterion request.now.form
+        (printed (names_of request.now.form names) image.now)
         (question_to_any destinations.now) wanted.now)) ⊥ (O.noted output.new) result
         (O.contents output.old) (O.contents output.new) }
 {
-    match text_by_name(alloc, image, destinations, request, wanted) {
+    match text_by_name(alloc, image, destinations, request, wanted, names) {
         Ok(text) => status::write_text(output, text.as_str(), status::ACCEPTED),
         Err(_) => status::OUT_OF_MEMORY,
     }
+}
+
+// Prints why the queries can't be asked, and says in `errors` which stops or clocks are at fault.
+fn refuse<O: Watched, E: Write>(
+    alloc: Global,
+    image: &Verified,
+    request: &DeparturesRequest<'_>,
+    fault: QueryFault,
+    output: &mut O,
+    errors: &mut E,
+) -> u8
+    ensures status { EndsUndone result }
+    ensures printed { result ≡ REFUSED
+        → Appends (O.contents output.old) (O.contents output.new) (refusal_line (OfQuery fault)) }
+    ensures silent { result ≡ OUT_OF_MEMORY → O.contents output.new ≡ O.contents output.old }
+    ensures begun { result ≡ INPUT_OUTPUT
+        → IsBegun (O.contents output.old) (O.contents output.new) (refusal_line (OfQuery fault)) }
+    ensures failed { result ≡ INPUT_OUTPUT → HasFault (O.noted output.new) }
+{
+    let status = print_refusal(alloc, output, CommandRefusal::Query(fault));
+    if status == status::REFUSED {
+        explain_fault(image, request, fault, errors);
+    }
+    status
 }
 
 // Says which targets are no stops of the image, or what is wrong with the window.
@@ -176,9 +228,11 @@ fn text_by_name(
     destinations: &Destinations,
     request: &DeparturesRequest<'_>,
     wanted: &WantedStops,
+    names: NameForm,
 ) -> Result<String, AllocError>
     requires { IsAskableBetween image.now.timetable.stops (question_to_any destinations.now) }
-    ensures { IfOk result (λ text. AreShownBy request.now.criterion request.now.form image.now
+    ensures { IfOk result (λ text. AreShownBy request.now.criterion request.now.form
+        (printed (names_of request.now.form names) image.now)
         (question_to_any destinations.now) wanted.now (string_bytes text)) }
 {
     let form = request.form;
@@ -190,12 +244,29 @@ fn text_by_name(
             destinations,
             form,
             wanted,
+            names,
         ),
         CriterionName::ArrivalTrips => {
-            departures_text(alloc, image, &ArrivalTrips, destinations, form, wanted)
+            departures_text(
+                alloc,
+                image,
+                &ArrivalTrips,
+                destinations,
+                form,
+                wanted,
+                names,
+            )
         }
         CriterionName::ArrivalTripsWalk => {
-            departures_text(alloc, image, &ArrivalTripsWalk, destinations, form, wanted)
+            departures_text(
+                alloc,
+                image,
+                &ArrivalTripsWalk,
+                destinations,
+                form,
+                wanted,
+                names,
+            )
         }
     }
 }

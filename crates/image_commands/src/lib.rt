@@ -6,6 +6,7 @@ mod asked;
 mod departures;
 mod info;
 mod journey;
+pub mod laws;
 mod line_feeds;
 mod listing;
 pub mod matrix;

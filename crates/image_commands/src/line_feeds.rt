@@ -1,10 +1,11 @@
-//! A warning of ids that lines can't show: a part of one with a line feed looks like a line of its own. It takes no
-//! memory.
+//! A warning of ids that break the lines that are printed: a part of one with a line feed looks like a line of its own,
+//! unless line feeds are shown by their code. It takes no memory.
 
 ghost use Rattle.std.specs.Prelude.{◌≤◌, ◌<◌, ◌+◌};
 
 use command_requests::{AnswerForm, DeparturesForm, ImageRequest};
 use feed_messages::explain;
+use image_files::NameForm;
 use image_verifier::Verified;
 use std::io::Write;
 
@@ -16,12 +17,16 @@ enum PrintedIds {
     StopsAndTrips,
 }
 
-/// Warns of an id with a line feed, if the command prints ids in lines.
-pub fn warn_of_line_feeds<E: Write>(image: &Verified, asked: &ImageRequest<'_>, errors: &mut E) {
-    let count = match printed_ids(asked) {
-        PrintedIds::None => 0,
-        PrintedIds::Stops => image.stops() as usize,
-        PrintedIds::StopsAndTrips => image.stops() as usize + image.trips() as usize,
+/// Warns of an id with a line feed, if the command prints ids as they are in lines.
+pub fn warn_of_line_feeds<E: Write>(
+    image: &Verified,
+    asked: &ImageRequest<'_>,
+    names: NameForm,
+    errors: &mut E,
+) {
+    let count = match names {
+        NameForm::Shown => 0,
+        NameForm::Raw => ids_printed(image, asked),
     };
     if has_line_feed(image, count) {
         let reason = "a part of it looks like a line of its own: --json shows it whole";
@@ -32,6 +37,17 @@ pub fn warn_of_line_feeds<E: Write>(image: &Verified, asked: &ImageRequest<'_>, 
                 reason,
             ],
         );
+    }
+}
+
+// How many of the image's names, those of the stops and then those of the trips, the command may print in lines.
+fn ids_printed(image: &Verified, asked: &ImageRequest<'_>) -> usize
+    ensures { result ≤ image.now.timetable.stops + image.now.timetable.trips }
+{
+    match printed_ids(asked) {
+        PrintedIds::None => 0,
+        PrintedIds::Stops => image.stops() as usize,
+        PrintedIds::StopsAndTrips => image.stops() as usize + image.trips() as usize,
     }
 }
 

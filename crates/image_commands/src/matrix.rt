@@ -17,7 +17,8 @@ ghost use Rattle.image_commands.specs.Matrices.{AreNoSources, AreOfList, AreSour
 ghost use Rattle.image_commands.specs.Matrices.{HasNoWindow, HasWindow, IsCutShort, IsOverRead, IsReadCutShort};
 ghost use Rattle.image_commands.specs.Matrices.{IsSpent, IsTableCutShort, IsTablePrinted, IsTableSpent};
 ghost use Rattle.image_commands.specs.Matrices.{IsTableRefused, IsTableShown, IsTableUnlisted, IsUnasked, IsUnlisted};
-ghost use Rattle.image_commands.specs.Matrices.{HasUnknown, HoldsOfList, IsNoList, IsTableOf, counts_of, counts_text};
+ghost use Rattle.image_commands.specs.Matrices.{HasUnknown, HoldsOfList, IsNoList, IsTableOf, IsWrittenAt, counts_of};
+ghost use Rattle.image_commands.specs.Matrices.{counts_text};
 ghost use Rattle.image_commands.specs.Refusing.{refusal_line};
 ghost use Rattle.image_commands.specs.declared.refusal.CommandRefusal.TheVariants.{Query};
 ghost use Rattle.timetable.specs.declared.query.QueryFault.TheVariants.{BadWindow};
@@ -30,7 +31,7 @@ use crate::windows::{DepartureRange, warn_of_window};
 use command_endings::status;
 use command_requests::{MatrixRequest, TableWorkers};
 use feed_messages::{explain, is_file, shown_path};
-use image_files::{ImageDisk, OutDisk, Watched, new_file, settle};
+use image_files::{ImageDisk, NameForm, OutDisk, Watched, new_file, settle};
 use image_verifier::Verified;
 use matrix_rows::{TableReports, TravelTable, write_table};
 use std::alloc::{AllocError, Global};
@@ -53,10 +54,11 @@ pub struct TableNotes {
 }
 
 /// Writes the table to the file that is asked for, once it is whole, and then prints how many sets of stops it has; or
-/// writes it to `output`. The window is judged first, then the lists; nothing is scanned before the file is made.
-/// Explanations go to `errors`, and so do progress, if it is asked for or shown on a terminal, and the warning. Returns
-/// `ACCEPTED`; `REFUSED` if a line has what is no stop_id, or if the window is bad, which `output` says; `COMMAND_LINE`
-/// if a list can't be asked for; `INPUT_OUTPUT`; or `OUT_OF_MEMORY`, with nothing printed unless the table itself is.
+/// writes it to `output`, with stop_ids in the form `names`. The window is judged first, then the lists; nothing is
+/// scanned before the file is made. Explanations go to `errors`, and so do progress, if it is asked for or shown on a
+/// terminal, and the warning. Returns `ACCEPTED`; `REFUSED` if a line has what is no stop_id, or if the window is bad,
+/// which `output` says; `COMMAND_LINE` if a list can't be asked for; `INPUT_OUTPUT`; or `OUT_OF_MEMORY`, with nothing
+/// printed unless the table itself is.
 pub fn run<
     H: OutDisk + ImageDisk<Image = H::File> + AllocGlobal + Clock + Threads + Sync,
     O: Watched,
@@ -65,26 +67,27 @@ pub fn run<
     rt: &H,
     image: &Verified,
     request: MatrixRequest<'_>,
+    names: NameForm,
     output: &mut O,
     errors: &mut E,
     notes: TableNotes,
 ) -> u8
     ensures status { EndsTable result }
-    ensures printed { result ≡ ACCEPTED → IsTablePrinted (H.may_hold rt.now) (H.files rt.now) image.now
-        request.entry (O.contents output.old) (O.contents output.new) }
+    ensures printed { result ≡ ACCEPTED → IsTablePrinted (H.may_hold rt.now) (H.files rt.now) names
+        image.now request.entry (O.contents output.old) (O.contents output.new) }
     ensures refused { result ≡ REFUSED → IsTableRefused (H.may_hold rt.now) image.now request.entry
         (O.contents output.old) (O.contents output.new) }
     ensures unlisted { result ≡ COMMAND_LINE → IsTableUnlisted (H.may_hold rt.now) image.now request.entry
         (O.contents output.old) (O.contents output.new) }
     ensures cut { result ≡ INPUT_OUTPUT → IsTableCutShort (H.may_hold rt.now) (H.may_fail rt.now) (H.files rt.now)
-        image.now request.entry (O.noted output.new) (O.contents output.old) (O.contents output.new) }
-    ensures spent { result ≡ OUT_OF_MEMORY → IsTableSpent (H.may_hold rt.now) image.now request.entry
+        names image.now request.entry (O.noted output.new) (O.contents output.old) (O.contents output.new) }
+    ensures spent { result ≡ OUT_OF_MEMORY → IsTableSpent (H.may_hold rt.now) names image.now request.entry
         (O.contents output.old) (O.contents output.new) }
 {
     if !has_window(&request) {
         return refuse_window(rt.alloc(), &request, output, errors);
     }
-    make_table(rt, image, request, output, errors, notes)
+    make_table(rt, image, request, names, output, errors, notes)
 }
 
 // Whether the times make a window: neither the latest departure nor the latest arrival is before the earliest
@@ -141,13 +144,14 @@ fn make_table<
     rt: &H,
     image: &Verified,
     request: MatrixRequest<'_>,
+    names: NameForm,
     output: &mut O,
     errors: &mut E,
     notes: TableNotes,
 ) -> u8
     requires { HasWindow request }
     ensures status { EndsTable result }
-    ensures printed { result ≡ ACCEPTED → (table : TravelTable) × IsTableOf (H.may_hold rt.now) image.now
+    ensures printed { result ≡ ACCEPTED → (table : TravelTable) × IsTableOf (H.may_hold rt.now) names image.now
         request.entry table × IsTableShown (H.files rt.now) table request.entry.out.now
         (O.contents output.old) (O.contents output.new) }
     ensures refused { result ≡ REFUSED → HoldsOfList (H.may_hold rt.now) request.entry image.now (HasUnknown image.now)
@@ -155,14 +159,14 @@ fn make_table<
     ensures unlisted { result ≡ COMMAND_LINE → HoldsOfList (H.may_hold rt.now) request.entry image.now
         (IsNoList image.now) × (O.contents output.new ≡ O.contents output.old) }
     ensures cut { result ≡ INPUT_OUTPUT → IsReadCutShort (H.may_hold rt.now) (H.may_fail rt.now) (H.files rt.now)
-        image.now request.entry (O.noted output.new) (O.contents output.old) (O.contents output.new) }
+        names image.now request.entry (O.noted output.new) (O.contents output.old) (O.contents output.new) }
     ensures spent { result ≡ OUT_OF_MEMORY → (O.contents output.new ≡ O.contents output.old)
-        ⊎ ((table : TravelTable) × IsTableOf (H.may_hold rt.now) image.now request.entry table
+        ⊎ ((table : TravelTable) × IsTableOf (H.may_hold rt.now) names image.now request.entry table
         × IsSpent table request.entry.out.now (O.contents output.old) (O.contents output.new)) }
 {
     match stops_asked(rt, image, request, errors) {
         Ok(stops) => {
-            let table = table_of(image, &stops.targets, &stops.sources, request);
+            let table = table_of(image, &stops.targets, &stops.sources, request, names);
             write_unread(rt, &table, request, output, errors, notes)
         }
         Err(status) => status,
@@ -236,12 +240,14 @@ fn table_of<'a>(
     targets: &'a [Vec<u32>],
     sources: &'a [Vec<u32>],
     request: MatrixRequest<'_>,
+    names: NameForm,
 ) -> TravelTable<'a>
     ensures image { result.image.now ≡ image.now }
     ensures stops { (result.targets.now ≡ targets.now) × (result.sources.now ≡ sources.now) }
     ensures times { (result.after ≡ request.entry.after) × (result.until ≡ request.entry.until)
         × (result.by ≡ request.entry.by) }
     ensures form { (result.criterion ≡ request.entry.criterion) × (result.each ≡ request.entry.each) }
+    ensures names { IsWrittenAt request.entry.out.now names result.names }
 {
     TravelTable {
         image,
@@ -252,7 +258,15 @@ fn table_of<'a>(
         by: request.by,
         criterion: request.criterion,
         each: request.each,
+        names: names_at(request.out, names),
     }
+}
+
+// How stop_ids are written in a table that goes there, if names are written to the output in this form.
+fn names_at(out: &str, names: NameForm) -> NameForm
+    ensures { IsWrittenAt out.now names result }
+{
+    if out == "-" { names } else { NameForm::Raw }
 }
 
 // The sets of stops where journeys end.

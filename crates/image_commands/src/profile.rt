@@ -25,7 +25,7 @@ use command_requests::{AnswerForm, ProfileRequest};
 use criteria::{Arrival, ArrivalTrips, ArrivalTripsWalk, CriterionName, ShowsFigures};
 use droppable_sources::in_place;
 use feed_messages::{explain, shown_path};
-use image_files::{OutDisk, Watched, put_text_into};
+use image_files::{NameForm, OutDisk, Watched, put_text_into};
 use image_verifier::Verified;
 use journeys::{Answer, Window};
 use profile_scan::{Scanned, SetQuery};
@@ -49,14 +49,15 @@ pub fn run<H: OutDisk + AllocGlobal, O: Watched, E: Write>(
     rt: &H,
     image: &Verified,
     request: &ProfileRequest<'_>,
+    names: NameForm,
     output: &mut O,
     errors: &mut E,
 ) -> u8
-    ensures { IsOutcome (PrintsProfile (H.files rt.now) image.now request.now)
+    ensures { IsOutcome (PrintsProfile (H.files rt.now) names image.now request.now)
         (LacksPicture (H.files rt.now) image.now request.now) (O.noted output.new) result
         (O.contents output.old) (O.contents output.new) }
 {
-    match profile_asked(rt.alloc(), image, request) {
+    match profile_asked(rt.alloc(), image, request, names) {
         Ok(profile) => print_profile(rt, &profile, request, output, errors),
         Err(NoQuestion::Bad(fault)) => refuse(rt.alloc(), image, request, fault, output, errors),
         Err(NoQuestion::OutOfMemory) => status::OUT_OF_MEMORY,
@@ -123,8 +124,9 @@ fn profile_asked(
     alloc: Global,
     image: &Verified,
     request: &ProfileRequest<'_>,
+    names: NameForm,
 ) -> Result<Profile, NoQuestion>
-    ensures { IsProfile image.now request.now result }
+    ensures { IsProfile names image.now request.now result }
 {
     let window = Window {
         from: request.after,
@@ -135,7 +137,7 @@ fn profile_asked(
         Ok(query) => query,
         Err(failure) => return Err(failure),
     };
-    match profile_by_name(alloc, image, &query, request) {
+    match profile_by_name(alloc, image, &query, request, names) {
         Ok(profile) => Ok(profile),
         Err(AllocError) => Err(NoQuestion::OutOfMemory),
     }
@@ -147,15 +149,23 @@ fn profile_by_name(
     image: &Verified,
     query: &SetQuery,
     request: &ProfileRequest<'_>,
+    names: NameForm,
 ) -> Result<Profile, AllocError>
     requires { IsAskableBetween image.now.timetable.stops (question query.now) }
-    ensures { IfOk result (IsShownBy request.now.criterion request.now image.now (question query.now)) }
+    ensures { IfOk result (IsShownBy request.now.criterion names request.now image.now (question query.now)) }
 {
     match request.criterion {
-        CriterionName::Arrival => profile_by(alloc, image, &Arrival, query, request),
-        CriterionName::ArrivalTrips => profile_by(alloc, image, &ArrivalTrips, query, request),
+        CriterionName::Arrival => profile_by(alloc, image, &Arrival, query, request, names),
+        CriterionName::ArrivalTrips => profile_by(
+            alloc,
+            image,
+            &ArrivalTrips,
+            query,
+            request,
+            names,
+        ),
         CriterionName::ArrivalTripsWalk => {
-            profile_by(alloc, image, &ArrivalTripsWalk, query, request)
+            profile_by(alloc, image, &ArrivalTripsWalk, query, request, names)
         }
     }
 }
@@ -167,31 +177,34 @@ fn profile_by<C: ShowsFigures + Scanned>(
     criterion: &C,
     query: &SetQuery,
     request: &ProfileRequest<'_>,
+    names: NameForm,
 ) -> Result<Profile, AllocError>
     requires { IsAskableBetween image.now.timetable.stops (question query.now) }
-    ensures { IfOk result (IsShown C.figures (C.rules criterion.now) request.now image.now (question query.now)) }
+    ensures { IfOk result (IsShown C.figures (C.rules criterion.now) names request.now image.now
+        (question query.now)) }
 {
     let mut source = in_place(image);
     let answer = answer_between(alloc, &mut source, criterion, query)?;
     let picture = picture_asked(alloc, image, criterion, request, query, &answer)?;
-    let text = text_in_form(alloc, image, criterion, &answer, request.form)?;
+    let text = text_in_form(alloc, image, names, criterion, &answer, request.form)?;
     Ok(Profile { text, picture })
 }
 
-/// The text of an answer, in a form.
+/// The text of an answer, in a form, with names in their form in lines.
 pub(crate) fn text_in_form<C: ShowsFigures>(
     alloc: Global,
     image: &Verified,
+    names: NameForm,
     criterion: &C,
     answer: &Answer<C>,
     form: AnswerForm,
 ) -> Result<String, AllocError>
     ensures { IfOk result (λ text. string_bytes text ≡
-        form_text C.figures image.now form answer.now.departures.items answer.now.read answer.now.walk) }
+        form_text C.figures names image.now form answer.now.departures.items answer.now.read answer.now.walk) }
 {
     match form {
         AnswerForm::Numbers => numbered_lines(alloc, criterion, answer),
-        AnswerForm::Names => named_lines(alloc, image, criterion, answer),
+        AnswerForm::Names => named_lines(alloc, image, names, criterion, answer),
         AnswerForm::Json => reply_line(alloc, PointForm::Bare, image, criterion, answer),
         AnswerForm::JsonLegs => reply_line(alloc, PointForm::WithLegs, image, criterion, answer),
     }

@@ -1,18 +1,20 @@
 //! `csa stops IMAGE [TEXT] [--json]`.
 
-ghost use Rattle.std.specs.Prelude.{◌≡◌, ◌+◌, ◌++◌, ℕ, List, true, false, decimal, map, IfOk, OnOk, string_bytes};
+ghost use Rattle.std.specs.Prelude.{◌≡◌, ◌+◌, ◌++◌, ℕ, List, false, codes, decimal, map, IfOk, OnOk, string_bytes};
 ghost use Rattle.std.specs.List.{flat_map};
 ghost use Rattle.image_facts.specs.Naming.{stop_bytes};
+ghost use Rattle.image_files.specs.Naming.{names_in};
 ghost use Rattle.text_pieces.specs.Json.{with_commas};
 ghost use Rattle.image_commands.specs.StopLines.{AreFound, AreStopsAsked, IsFound, stop_json, stop_line, stops_text};
 ghost use Rattle.command_endings.specs.Ending.{IsOutcome, PrintsOnly};
 
 use command_endings::status;
 use command_requests::StopsRequest;
+use departure_lines::printed_stop_name;
 use feed_messages::{explain, quoted};
 use feed_stations::is_in;
 use image_facts::stop_name;
-use image_files::Watched;
+use image_files::{NameForm, Watched};
 use image_verifier::Verified;
 use std::alloc::{AllocError, Global};
 use std::io::Write;
@@ -24,18 +26,19 @@ pub fn run<O: Watched, E: Write>(
     alloc: Global,
     image: &Verified,
     request: StopsRequest<'_>,
+    names: NameForm,
     output: &mut O,
     errors: &mut E,
 ) -> u8
-    ensures { IsOutcome (PrintsOnly (AreStopsAsked image.now request.entry)) ⊥ (O.noted output.new) result
-        (O.contents output.old) (O.contents output.new) }
+    ensures { IsOutcome (PrintsOnly (AreStopsAsked names image.now request.entry)) ⊥
+        (O.noted output.new) result (O.contents output.old) (O.contents output.new) }
 {
     match found_stops(alloc, image, request.text) {
         Ok(found) => {
             if found.is_empty() {
                 explain_none(alloc, request.text, errors);
             }
-            print_stops(alloc, image, &found, request.json, output)
+            print_stops(alloc, image, &found, request.json, names, output)
         }
         Err(_) => status::OUT_OF_MEMORY,
     }
@@ -56,12 +59,13 @@ fn print_stops<O: Watched>(
     image: &Verified,
     found: &[u32],
     json: bool,
+    names: NameForm,
     output: &mut O,
 ) -> u8
-    ensures { IsOutcome (PrintsOnly (λ text. text ≡ stops_text json image.now.names found.now)) ⊥
+    ensures { IsOutcome (PrintsOnly (λ text. text ≡ stops_text json names image.now.names found.now)) ⊥
         (O.noted output.new) result (O.contents output.old) (O.contents output.new) }
 {
-    match text_of(alloc, image, found, json) {
+    match text_of(alloc, image, found, json, names) {
         Ok(text) => status::write_text(output, text.as_str(), status::ACCEPTED),
         Err(_) => status::OUT_OF_MEMORY,
     }
@@ -106,20 +110,32 @@ fn add_if_found(found: &mut Vec<u32>, stop: u32, name: &str, text: &str) -> Resu
     Ok(())
 }
 
-fn text_of(alloc: Global, image: &Verified, found: &[u32], json: bool) -> Result<String, AllocError>
-    ensures { IfOk result (λ text. string_bytes text ≡ stops_text json image.now.names found.now) }
+// The text of some stops. In lines, their names are in a form.
+fn text_of(
+    alloc: Global,
+    image: &Verified,
+    found: &[u32],
+    json: bool,
+    names: NameForm,
+) -> Result<String, AllocError>
+    ensures { IfOk result (λ text. string_bytes text ≡ stops_text json names image.now.names found.now) }
 {
     match json {
         true => json_of(alloc, image, found),
-        false => lines_of(alloc, image, found),
+        false => lines_of(alloc, image, found, names),
     }
 }
 
-fn lines_of(alloc: Global, image: &Verified, found: &[u32]) -> Result<String, AllocError>
-    ensures { IfOk result (λ lines. string_bytes lines ≡ stops_text false image.now.names found.now) }
+fn lines_of(
+    alloc: Global,
+    image: &Verified,
+    found: &[u32],
+    names: NameForm,
+) -> Result<String, AllocError>
+    ensures { IfOk result (λ lines. string_bytes lines ≡ stops_text false names image.now.names found.now) }
 {
     let mut lines = String::new(alloc);
-    append_lines(&mut lines, alloc, image, found)?;
+    append_lines(&mut lines, alloc, image, found, names)?;
     Ok(lines)
 }
 
@@ -128,12 +144,13 @@ fn append_lines(
     alloc: Global,
     image: &Verified,
     found: &[u32],
+    names: NameForm,
 ) -> Result<(), AllocError>
     ensures { OnOk result (string_bytes lines.new
-        ≡ string_bytes lines.old ++ flat_map (stop_line image.now.names) found.now) }
+        ≡ string_bytes lines.old ++ flat_map (stop_line (names_in names image.now.names)) found.now) }
 {
     for stop in found {
-        append_line(lines, alloc, image, *stop)?;
+        append_line(lines, alloc, image, *stop, names)?;
     }
     Ok(())
 }
@@ -143,10 +160,12 @@ fn append_line(
     alloc: Global,
     image: &Verified,
     stop: u32,
+    names: NameForm,
 ) -> Result<(), AllocError>
-    ensures { OnOk result (string_bytes lines.new ≡ string_bytes lines.old ++ stop_line image.now.names stop) }
+    ensures { OnOk result (string_bytes lines.new
+        ≡ string_bytes lines.old ++ stop_line (names_in names image.now.names) stop) }
 {
-    let name = stop_name(alloc, image, stop)?;
+    let name = printed_stop_name(alloc, image, stop, names)?;
     append_number(lines, stop)?;
     put_word(lines, name.as_str())?;
     put_text(lines, "\n")?;
@@ -161,7 +180,8 @@ fn append_number(lines: &mut String, stop: u32) -> Result<(), AllocError>
 
 // The stops as an array of JSON, on one line.
 fn json_of(alloc: Global, image: &Verified, found: &[u32]) -> Result<String, AllocError>
-    ensures { IfOk result (λ json. string_bytes json ≡ stops_text true image.now.names found.now) }
+    ensures { IfOk result (λ json. string_bytes json
+        ≡ codes "[" ++ with_commas (map (stop_json image.now.names) found.now) ++ codes "]\n") }
 {
     let mut json = String::new(alloc);
     put_text(&mut json, "[")?;

@@ -1,4 +1,5 @@
 pub mod Held
+pub mod Naming
 pub mod Out
 pub mod Texts
 pub mod Watching

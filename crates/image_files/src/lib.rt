@@ -3,6 +3,7 @@
 
 mod disk;
 mod fault;
+mod names;
 mod out;
 mod reading;
 mod texts;
@@ -11,6 +12,7 @@ mod writing;
 
 pub use disk::ImageDisk;
 pub use fault::ImageFileFault;
+pub use names::NameForm;
 pub use out::OutDisk;
 pub use reading::image_words;
 pub use texts::{bytes_at, text_at};

@@ -8,7 +8,10 @@ ghost use Rattle.std.specs.declared.io.Error.{Error as IoError};
 ghost use Rattle.std.specs.declared.io.ErrorKind.{ErrorKind as Kind};
 ghost use Rattle.std.specs.declared.io.ErrorKind.TheVariants.{Interrupted};
 ghost use Rattle.image_files.specs.Watching.{HasFault, IsBegun, first_fault, flush_fault, write_fault};
+ghost use Rattle.image_files.specs.declared.names.NameForm.{NameForm as Form};
+ghost use Rattle.image_files.specs.declared.names.NameForm.TheVariants.{Raw};
 
+use crate::names::NameForm;
 use std::io;
 use std::io::{ErrorKind, Read, Write};
 
@@ -74,9 +77,16 @@ pub trait Watched: Write {
     // The first reason why it couldn't be written.
     ghost noted: { Self → Option Kind };
 
+    // How names are written to it.
+    ghost form: { Self → Form };
+
     /// The first reason why it couldn't be written. An interrupted write doesn't count, since it is tried again.
     fn fault(&self) -> Option<ErrorKind>
         ensures { result ≡ noted self.now };
+
+    /// How the names of an image are written to it in lines.
+    fn name_form(&self) -> NameForm
+        ensures { result ≡ form self.now };
 
     /// Writes as `write` does. If that fails, or takes none of some bytes, that is the fault, unless there is one.
     fn put(&mut self, bytes: &[u8]) -> io::Result<usize>
@@ -95,17 +105,29 @@ pub trait Watched: Write {
 pub struct WatchedWriter<W> {
     writer: W,
     fault: Option<ErrorKind>,
+    names: NameForm,
 }
 
 impl<W> WatchedWriter<W> {
-    /// It could be written so far.
+    /// It could be written so far. Names are written to it as they are.
     pub fn of(writer: W) -> WatchedWriter<W>
         ensures writer { result.writer ≡ writer }
         ensures whole { result.fault ≡ None }
+        ensures names { result.names ≡ Raw }
+    {
+        WatchedWriter::with_names(writer, NameForm::Raw)
+    }
+
+    /// It could be written so far. Names are written to it in this form.
+    pub fn with_names(writer: W, names: NameForm) -> WatchedWriter<W>
+        ensures writer { result.writer ≡ writer }
+        ensures whole { result.fault ≡ None }
+        ensures names { result.names ≡ names }
     {
         WatchedWriter {
             writer,
             fault: None,
+            names,
         }
     }
 }
@@ -113,8 +135,14 @@ impl<W> WatchedWriter<W> {
 impl<W: HeardWrite> Watched for WatchedWriter<W> {
     ghost noted = { λ watched. watched.fault };
 
+    ghost form = { λ watched. watched.names };
+
     fn fault(&self) -> Option<ErrorKind> {
         self.fault
+    }
+
+    fn name_form(&self) -> NameForm {
+        self.names
     }
 
     fn put(&mut self, bytes: &[u8]) -> io::Result<usize> {

@@ -1,7 +1,6 @@
 -- The rows of a table of travel times.
 use Rattle.std.specs.Prelude.{◌≡◌, ◌⊎◌, ◌<◌, ◌≤◌, ℕ, Bool, true, false, List, [], ◌∷◌, ◌++◌, Contains, Option, None, Some, String, map, string_bytes}
 use Rattle.std.specs.Global.{Global, Vec}
-use Rattle.std.specs.Io.KnownBytes.{Appends}
 use Rattle.std.specs.List.{AllZip, flat_map}
 use Rattle.csv.specs.Writing.{default_writer, row_text}
 use Rattle.criteria.specs.Laws.{Rules}
@@ -10,6 +9,7 @@ use Rattle.bags.specs.declared.point.Point.{Point}
 use Rattle.timetable.specs.TimetableValue.{TimetableValue}
 use Rattle.timetable.specs.declared.network.Footpath.{Footpath}
 use Rattle.timetable.specs.NamesValue.{NamesValue}
+use Rattle.image_files.specs.Naming.{printed}
 use Rattle.image_files.specs.Watching.{IsBegun}
 use Rattle.image_layout.specs.Image.{ImageValue}
 use Rattle.image_facts.specs.Naming.{stop_bytes}
@@ -124,14 +124,14 @@ pub record AreRowsTo {V : Type 0} (figures : V → Figures) (rules : Rules V) (e
   pub are : AllZip (λ set part. AreRowsFrom figures rules each image d set.items part) sources parts
   pub text_is : text ≡ flat_map (λ part. part) parts
 
--- the same under the criterion of a table
+-- the same under the criterion of a table, with stop_ids in its form
 abbrev pub AreRowsBy : CriterionName → TravelTable → List ℕ → List ℕ → Type 0
 AreRowsBy CriterionName.Arrival table targets text =
-    AreRowsTo arrival_figures by_arrival table.each table.image.now (destination table targets) table.sources.now text
+    AreRowsTo arrival_figures by_arrival table.each (printed table.names table.image.now) (destination table targets) table.sources.now text
 AreRowsBy CriterionName.ArrivalTrips table targets text =
-    AreRowsTo trips_figures by_trips table.each table.image.now (destination table targets) table.sources.now text
+    AreRowsTo trips_figures by_trips table.each (printed table.names table.image.now) (destination table targets) table.sources.now text
 AreRowsBy CriterionName.ArrivalTripsWalk table targets text =
-    AreRowsTo walking_figures by_walking table.each table.image.now (destination table targets) table.sources.now text
+    AreRowsTo walking_figures by_walking table.each (printed table.names table.image.now) (destination table targets) table.sources.now text
 
 -- the rows of sets of targets, one after the other
 pub record AreRowsOf (table : TravelTable) (targets : List (Vec ℕ)) (text : List ℕ) : Type 0 where

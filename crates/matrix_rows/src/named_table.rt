@@ -1,5 +1,6 @@
 //! A table with the names of its sources.
 
+ghost use Rattle.image_files.specs.Naming.{printed};
 ghost use Rattle.matrix_rows.specs.Tables.{AreNamed};
 
 use crate::table::TravelTable;
@@ -9,5 +10,5 @@ use crate::table::TravelTable;
 pub(crate) struct NamedTable<'a> {
     pub plain: TravelTable<'a>,
     pub names: &'a [String],
-    ghost named: { AreNamed plain.image.now.names plain.sources.now names.now },
+    ghost named: { AreNamed (printed plain.names plain.image.now).names plain.sources.now names.now },
 }

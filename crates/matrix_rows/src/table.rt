@@ -1,12 +1,13 @@
 //! What a table of travel times is made of.
 
 use criteria::CriterionName;
+use image_files::NameForm;
 use image_verifier::Verified;
 use profile_scan::Destinations;
 use std::alloc::{AllocError, Global};
 
 /// The image, the sets of stops where journeys end, and those where they begin; when, in seconds after the image's
-/// base; the criterion; and what has a row.
+/// base; the criterion; what has a row; and how it is written.
 #[derive(Clone, Copy)]
 pub struct TravelTable<'a> {
     pub image: &'a Verified,
@@ -21,6 +22,8 @@ pub struct TravelTable<'a> {
     pub criterion: CriterionName,
     /// Whether each departure has a row; otherwise each pair of sets has one.
     pub each: bool,
+    /// How stop_ids are written.
+    pub names: NameForm,
 }
 
 impl TravelTable<'_> {

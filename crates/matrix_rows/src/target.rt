@@ -7,6 +7,7 @@ ghost use Rattle.std.specs.List.{AllZip, flat_map};
 ghost use Rattle.profile_scan.specs.SetQuery.{SetQueryValue, IsAnswerBetween, IsAskableBetween};
 ghost use Rattle.profile_scan.specs.Destinations.{question_to_any};
 ghost use Rattle.profile_scan.specs.Everywhere.{AnswerToAny, asked_to_any, criterion_to_any};
+ghost use Rattle.image_files.specs.Naming.{printed};
 ghost use Rattle.travel_times.specs.Rows.{Adds, AreWhole, text_of};
 ghost use Rattle.matrix_rows.specs.Tables.{AreRowsBy, AreRowsTo, AreWithin, CanBeMade, IsMean, IsMeanFrom, Meet};
 ghost use Rattle.matrix_rows.specs.Tables.{destination, from_stops, mean_in, point_row, set_bytes, span_of, spans_of};
@@ -19,6 +20,7 @@ use crate::table::TravelTable;
 use bags::Point;
 use criteria::{Arrival, ArrivalTrips, ArrivalTripsWalk, CriterionName, ShowsFigures};
 use droppable_sources::in_place;
+use image_files::NameForm;
 use image_verifier::Verified;
 use profile_scan::{Destinations, ProfilesToAny, profiles_to_any};
 use std::alloc::{AllocError, Global};
@@ -50,7 +52,8 @@ fn rows_by<C: ShowsFigures>(
 ) -> Result<Vec<u8>, AllocError>
     requires { CanBeMade table.now.plain targets.now }
     ensures { IfOk result (λ text. AreRowsTo C.figures (C.rules criterion.now) table.now.plain.each
-        table.now.plain.image.now (destination table.now.plain targets.now) table.now.plain.sources.now text.items) }
+        (printed table.now.plain.names table.now.plain.image.now)
+        (destination table.now.plain targets.now) table.now.plain.sources.now text.items) }
 {
     if table.plain.each {
         return point_rows(alloc, table, criterion, targets);
@@ -66,7 +69,8 @@ fn pair_rows<C: ShowsFigures>(
     targets: &[u32],
 ) -> Result<Vec<u8>, AllocError>
     requires { CanBeMade table.now.plain targets.now }
-    ensures { IfOk result (λ text. AreRowsTo C.figures (C.rules criterion.now) false table.now.plain.image.now
+    ensures { IfOk result (λ text. AreRowsTo C.figures (C.rules criterion.now) false
+        (printed table.now.plain.names table.now.plain.image.now)
         (destination table.now.plain targets.now) table.now.plain.sources.now text.items) }
 {
     if table.plain.until == table.plain.by {
@@ -84,7 +88,8 @@ fn pair_rows_of_one_scan<C: ShowsFigures>(
 ) -> Result<Vec<u8>, AllocError>
     requires can { CanBeMade table.now.plain targets.now }
     requires same { table.now.plain.until ≡ table.now.plain.by }
-    ensures { IfOk result (λ text. AreRowsTo C.figures (C.rules criterion.now) false table.now.plain.image.now
+    ensures { IfOk result (λ text. AreRowsTo C.figures (C.rules criterion.now) false
+        (printed table.now.plain.names table.now.plain.image.now)
         (destination table.now.plain targets.now) table.now.plain.sources.now text.items) }
 {
     let destinations = table.plain.destination(alloc, targets)?;
@@ -101,7 +106,8 @@ fn pair_rows_of_two_scans<C: ShowsFigures>(
     targets: &[u32],
 ) -> Result<Vec<u8>, AllocError>
     requires { CanBeMade table.now.plain targets.now }
-    ensures { IfOk result (λ text. AreRowsTo C.figures (C.rules criterion.now) false table.now.plain.image.now
+    ensures { IfOk result (λ text. AreRowsTo C.figures (C.rules criterion.now) false
+        (printed table.now.plain.names table.now.plain.image.now)
         (destination table.now.plain targets.now) table.now.plain.sources.now text.items) }
 {
     let waiting = table.plain.waiting(alloc, targets)?;
@@ -137,7 +143,8 @@ fn means_to<C: ShowsFigures>(
     requires asked { IsAskableBetween table.now.image.now.timetable.stops (question_to_any destinations.now) }
     requires sources { AreWithin table.now.image.now table.now.sources.now }
     requires window { table.now.after ≤ table.now.until }
-    ensures { IfOk result (λ means. AllZip (IsMeanFrom C.figures (C.rules criterion.now) table.now.image.now
+    ensures { IfOk result (λ means. AllZip (IsMeanFrom C.figures (C.rules criterion.now)
+        (printed table.now.names table.now.image.now)
         (question_to_any destinations.now) table.now.after table.now.until) table.now.sources.now means.items) }
 {
     let profiles = answers(alloc, table, criterion, destinations)?;
@@ -156,7 +163,8 @@ fn means_of<C: ShowsFigures>(
     requires asked { IsAskableBetween table.now.image.now.timetable.stops (asked_to_any profiles.now) }
     requires sources { AreWithin table.now.image.now table.now.sources.now }
     requires window { table.now.after ≤ table.now.until }
-    ensures { IfOk result (λ means. AllZip (IsMeanFrom C.figures (C.rules criterion.now) table.now.image.now
+    ensures { IfOk result (λ means. AllZip (IsMeanFrom C.figures (C.rules criterion.now)
+        (printed table.now.names table.now.image.now)
         (asked_to_any profiles.now) table.now.after table.now.until) table.now.sources.now means.items) }
 {
     let mut means = Vec::with_capacity(alloc, table.sources.len())?;
@@ -182,7 +190,7 @@ fn mean_of<C: ShowsFigures>(
     requires asked { IsAskableBetween table.now.image.now.timetable.stops (asked_to_any profiles.now) }
     requires sources { (stop : ℕ) → Contains sources.now stop → stop < table.now.image.now.timetable.stops }
     requires window { table.now.after ≤ table.now.until }
-    ensures { IfOk result (IsMean C.figures (C.rules criterion.now) table.now.image.now
+    ensures { IfOk result (IsMean C.figures (C.rules criterion.now) (printed table.now.names table.now.image.now)
         (from_stops (asked_to_any profiles.now) sources.now) table.now.after table.now.until) }
 {
     let points = best_points(alloc, table.image, criterion, profiles, sources)?;
@@ -220,6 +228,7 @@ fn span_of<C: ShowsFigures>(criterion: &C, point: &Point<C::V>) -> Span
 struct Answered<'a, C: ShowsFigures> {
     alloc: Global,
     image: &'a Verified,
+    names: NameForm,
     criterion: &'a C,
     profiles: &'a ProfilesToAny<C>,
     /// The stop_ids of the targets.
@@ -238,16 +247,24 @@ fn pair_rows_of<C: ShowsFigures>(
     requires answered { AnswerToAny C.rules table.now.plain.image.now.timetable profiles.now }
     requires asked { IsAskableBetween table.now.plain.image.now.timetable.stops (asked_to_any profiles.now) }
     requires sources { AreWithin table.now.plain.image.now table.now.plain.sources.now }
-    requires means { AllZip (IsMeanFrom C.figures (C.rules criterion.now) table.now.plain.image.now
+    requires means { AllZip (IsMeanFrom C.figures (C.rules criterion.now)
+        (printed table.now.plain.names table.now.plain.image.now)
         (waiting (asked_to_any profiles.now)) (asked_to_any profiles.now).from (asked_to_any profiles.now).until)
         table.now.plain.sources.now means.now }
-    ensures { IfOk result (λ text. AreRowsTo C.figures (C.rules criterion.now) false table.now.plain.image.now
+    ensures { IfOk result (λ text. AreRowsTo C.figures (C.rules criterion.now) false
+        (printed table.now.plain.names table.now.plain.image.now)
         (asked_to_any profiles.now) table.now.plain.sources.now text.items) }
 {
-    let to = set_name(alloc, table.plain.image, profiles.targets())?;
+    let to = set_name(
+        alloc,
+        table.plain.image,
+        table.plain.names,
+        profiles.targets(),
+    )?;
     let answered = Answered {
         alloc,
         image: table.plain.image,
+        names: table.plain.names,
         criterion,
         profiles,
         to: to.as_str(),
@@ -282,22 +299,26 @@ fn put_pair_from<C: ShowsFigures>(
     spans: &mut Vec<Span>,
 ) -> Result<(), AllocError>
     requires whole { AreWhole rows.old }
-    requires from { from.now ≡ set_bytes answered.now.image.now.names sources.now }
+    requires from { from.now ≡ set_bytes (printed answered.now.names answered.now.image.now).names sources.now }
     requires sources { (stop : ℕ) → Contains sources.now stop → stop < answered.now.image.now.timetable.stops }
     requires same { criterion_to_any answered.now.profiles.now ≡ answered.now.criterion.now }
     requires answered { AnswerToAny C.rules answered.now.image.now.timetable answered.now.profiles.now }
     requires asked { IsAskableBetween answered.now.image.now.timetable.stops (asked_to_any answered.now.profiles.now) }
     requires to { answered.now.to.now
-        ≡ set_bytes answered.now.image.now.names (asked_to_any answered.now.profiles.now).targets }
-    requires mean { IsMean C.figures (C.rules answered.now.criterion.now) answered.now.image.now
+        ≡ set_bytes (printed answered.now.names answered.now.image.now).names
+        (asked_to_any answered.now.profiles.now).targets }
+    requires mean { IsMean C.figures (C.rules answered.now.criterion.now)
+        (printed answered.now.names answered.now.image.now)
         (from_stops (waiting (asked_to_any answered.now.profiles.now)) sources.now)
         (asked_to_any answered.now.profiles.now).from (asked_to_any answered.now.profiles.now).until mean }
     ensures whole { OnOk result (AreWhole rows.new) }
     ensures added { (before : List (Vec ℕ)) (set : Vec ℕ) → set.items ≡ sources.now
-        → AreRowsTo C.figures (C.rules answered.now.criterion.now) false answered.now.image.now
+        → AreRowsTo C.figures (C.rules answered.now.criterion.now) false
+        (printed answered.now.names answered.now.image.now)
         (asked_to_any answered.now.profiles.now) before (text_of rows.old)
         → OnOk result (AreRowsTo C.figures (C.rules answered.now.criterion.now) false
-        answered.now.image.now (asked_to_any answered.now.profiles.now) (before ++ set ∷ []) (text_of rows.new)) }
+        (printed answered.now.names answered.now.image.now)
+        (asked_to_any answered.now.profiles.now) (before ++ set ∷ []) (text_of rows.new)) }
 {
     if meet(sources, answered.profiles.targets()) {
         return Ok(());
@@ -328,7 +349,8 @@ fn point_rows<C: ShowsFigures>(
     targets: &[u32],
 ) -> Result<Vec<u8>, AllocError>
     requires { CanBeMade table.now.plain targets.now }
-    ensures { IfOk result (λ text. AreRowsTo C.figures (C.rules criterion.now) true table.now.plain.image.now
+    ensures { IfOk result (λ text. AreRowsTo C.figures (C.rules criterion.now) true
+        (printed table.now.plain.names table.now.plain.image.now)
         (destination table.now.plain targets.now) table.now.plain.sources.now text.items) }
 {
     let destinations = table.plain.destination(alloc, targets)?;
@@ -347,13 +369,20 @@ fn point_rows_of<C: ShowsFigures>(
     requires answered { AnswerToAny C.rules table.now.plain.image.now.timetable profiles.now }
     requires asked { IsAskableBetween table.now.plain.image.now.timetable.stops (asked_to_any profiles.now) }
     requires sources { AreWithin table.now.plain.image.now table.now.plain.sources.now }
-    ensures { IfOk result (λ text. AreRowsTo C.figures (C.rules criterion.now) true table.now.plain.image.now
+    ensures { IfOk result (λ text. AreRowsTo C.figures (C.rules criterion.now) true
+        (printed table.now.plain.names table.now.plain.image.now)
         (asked_to_any profiles.now) table.now.plain.sources.now text.items) }
 {
-    let to = set_name(alloc, table.plain.image, profiles.targets())?;
+    let to = set_name(
+        alloc,
+        table.plain.image,
+        table.plain.names,
+        profiles.targets(),
+    )?;
     let answered = Answered {
         alloc,
         image: table.plain.image,
+        names: table.plain.names,
         criterion,
         profiles,
         to: to.as_str(),
@@ -374,19 +403,22 @@ fn put_points_from<C: ShowsFigures>(
     from: &str,
 ) -> Result<(), AllocError>
     requires whole { AreWhole rows.old }
-    requires from { from.now ≡ set_bytes answered.now.image.now.names sources.now }
+    requires from { from.now ≡ set_bytes (printed answered.now.names answered.now.image.now).names sources.now }
     requires sources { (stop : ℕ) → Contains sources.now stop → stop < answered.now.image.now.timetable.stops }
     requires same { criterion_to_any answered.now.profiles.now ≡ answered.now.criterion.now }
     requires answered { AnswerToAny C.rules answered.now.image.now.timetable answered.now.profiles.now }
     requires asked { IsAskableBetween answered.now.image.now.timetable.stops (asked_to_any answered.now.profiles.now) }
     requires to { answered.now.to.now
-        ≡ set_bytes answered.now.image.now.names (asked_to_any answered.now.profiles.now).targets }
+        ≡ set_bytes (printed answered.now.names answered.now.image.now).names
+        (asked_to_any answered.now.profiles.now).targets }
     ensures whole { OnOk result (AreWhole rows.new) }
     ensures added { (before : List (Vec ℕ)) (set : Vec ℕ) → set.items ≡ sources.now
-        → AreRowsTo C.figures (C.rules answered.now.criterion.now) true answered.now.image.now
+        → AreRowsTo C.figures (C.rules answered.now.criterion.now) true
+        (printed answered.now.names answered.now.image.now)
         (asked_to_any answered.now.profiles.now) before (text_of rows.old)
         → OnOk result (AreRowsTo C.figures (C.rules answered.now.criterion.now) true
-        answered.now.image.now (asked_to_any answered.now.profiles.now) (before ++ set ∷ []) (text_of rows.new)) }
+        (printed answered.now.names answered.now.image.now)
+        (asked_to_any answered.now.profiles.now) (before ++ set ∷ []) (text_of rows.new)) }
 {
     if meet(sources, answered.profiles.targets()) {
         return Ok(());

@@ -51,7 +51,7 @@ pub fn write_table<R: Threads + Sync + AllocGlobal, W: Watched, P: TableReports>
     ensures begun { OnErr result (IsTableBegun table.now (W.contents out.old) (W.contents out.new)) }
     ensures failed { IfErr result (λ error. error_kind error ≢ OutOfMemory → HasFault (W.noted out.new)) }
 {
-    let names = set_names(rt.alloc(), table.image, table.sources)?;
+    let names = set_names(rt.alloc(), table.image, table.names, table.sources)?;
     let named = NamedTable {
         plain: *table,
         names: &names,

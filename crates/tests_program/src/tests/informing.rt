@@ -148,6 +148,72 @@ answers [{\"id\":\"D \\\"4\\n5\",\"number\":3}]
 remove days.csa
 remove base_feed
 
+# A stop_id and a trip_id with an end of a line: a terminal is shown its code, except in JSON, which has one of its own.
+base
+file base_feed/stops.txt
+has stop_id,stop_name
+has A,A
+has \"B
+has 1\",B
+has C,C
+file base_feed/trips.txt
+has route_id,service_id,trip_id
+has R,S,T1
+has R,S,\"T
+has 2\"
+file base_feed/stop_times.txt
+has trip_id,arrival_time,departure_time,stop_id,stop_sequence
+has T1,08:00:00,08:00:00,A,1
+has T1,08:10:00,08:10:00,\"B
+has 1\",2
+has T1,08:30:00,08:30:00,C,3
+has \"T
+has 2\",08:12:00,08:12:00,\"B
+has 1\",1
+has \"T
+has 2\",08:20:00,08:20:00,C,2
+run build base_feed days.csa --first 20240115 --days 1 --zone fixed:0 --no-warnings
+answers stops 3 runs 2 connections 3 footpaths 3 lifted 0 flex 0 frequencies 0 skipped 0
+shows stops days.csa
+prints 0 A
+prints 1 B\\u000a1
+answers 2 C
+shows stops days.csa B --json
+answers [{\"id\":\"B\\n1\",\"number\":1}]
+shows profile days.csa --from A --to C --after 08:00:00 --until 08:12:00 --by 10:00:00 --criterion arrival --names
+prints dep 08:00:00 arr 08:20:00 : ride T1 08:00:00 A 08:10:00 B\\u000a1 walk B\\u000a1 B\\u000a1 0 \
+ride T\\u000a2 08:12:00 B\\u000a1 08:20:00 C
+answers points 1 read 3 walk none
+shows departures days.csa --to C --after 08:00:00 --until 08:12:00 --by 10:00:00 --criterion arrival
+prints A dep 08:00:00 arr 08:20:00 : ride 0 0 walk 1 1 0 ride 2 2
+prints B\\u000a1 dep 08:12:00 arr 08:20:00 : ride 2 2
+answers stops 2 points 2 read 3
+shows departures days.csa --to C --after 08:00:00 --until 08:12:00 --by 10:00:00 --criterion arrival --no-journeys
+prints A dep 08:00:00 arr 08:20:00
+prints B\\u000a1 dep 08:12:00 arr 08:20:00
+answers stops 2 points 2 read 3
+shows departures days.csa --to C --after 08:00:00 --until 08:12:00 --by 10:00:00 --criterion arrival --summary
+prints A points 1 first 08:00:00 last 08:00:00 least 1200 walk none
+prints B\\u000a1 points 1 first 08:12:00 last 08:12:00 least 480 walk none
+answers stops 2 points 2 read 3
+shows departures days.csa --to C --after 08:12:00 --until 08:12:00 --by 10:00:00 --criterion arrival --no-journeys \
+--json
+prints {\"from\":\"B\\n1\",\"points\":[{\"arr\":\"08:20:00\",\"dep\":\"08:12:00\"}],\"walk\":null}
+answers {\"points\":1,\"read\":1,\"stops\":1}
+rows targets C
+shows matrix days.csa - --to targets --after 08:00:00 --until 08:12:00 --by 10:00:00 --criterion arrival --no-warnings
+prints from,to,points,first_departure,last_departure,least_seconds,mean_seconds,walk
+prints A,C,1,08:00:00,08:00:00,1200,,
+answers B\\u000a1,C,1,08:12:00,08:12:00,480,840,
+asks matrix days.csa - --to targets --after 08:00:00 --until 08:12:00 --by 10:00:00 --criterion arrival
+prints from,to,points,first_departure,last_departure,least_seconds,mean_seconds,walk
+prints A,C,1,08:00:00,08:00:00,1200,,
+prints \"B
+answers 1\",C,1,08:12:00,08:12:00,480,840,
+remove targets
+remove days.csa
+remove base_feed
+
 # What is no image is refused as by `csa verify`.
 sample
 cut 3

@@ -2,7 +2,7 @@
 
 pub(crate) use csa_program::Machine;
 use csa_program::run;
-use image_files::{ImageDisk, WatchedWriter};
+use image_files::{ImageDisk, NameForm, WatchedWriter};
 use std::io;
 use std::io::{IsTerminal, Write};
 use std::net::{Net, TcpListener, TcpStream};
@@ -45,9 +45,10 @@ impl<'a> IsTerminal for Plain<'a> {
     }
 }
 
+/// Runs the program, to whose output names are written in this form.
 pub(crate) fn outcome_of<
     R: Machine + ImageDisk<Image = R::File> + Net<Listener = TcpListener, Stream = TcpStream>,
->(rt: &R, words: &[&str], bytes: &[u8]) -> Outcome {
+>(rt: &R, words: &[&str], bytes: &[u8], names: NameForm) -> Outcome {
     let mut input: &[u8] = bytes;
     let mut output = Vec::new(rt.alloc());
     let mut errors = Vec::new(rt.alloc());
@@ -55,7 +56,7 @@ pub(crate) fn outcome_of<
         rt,
         words,
         &mut input,
-        &mut WatchedWriter::of(&mut output),
+        &mut WatchedWriter::with_names(&mut output, names),
         &mut Plain::of(&mut errors),
     );
     Outcome {

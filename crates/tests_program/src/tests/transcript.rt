@@ -22,6 +22,7 @@
 //! | `with FILE PLACE RECORD` | writes a file of that feed anew, its record of this number (from 1) replaced |
 //! | `run WORD ..` | the words of the next command after the program's name; a word in single quotes may have spaces |
 //! | `asks WORD ..` | the same, followed by `--no-warnings` |
+//! | `shows WORD ..` | the same as `run`, at a terminal |
 //! | `profile FROM TO AFTER UNTIL BY CRITERION` | the next command is `csa profile` over the input, without warnings |
 //! | `judge FROM TO AFTER UNTIL BY LEG .. | TEXT` | `csa journey` over the input, and then `answers TEXT` |
 //! | `prints TEXT`, `tells TEXT` | one more line that must go to the output, or to the errors with `#` for seconds |
@@ -38,7 +39,7 @@
 
 use crate::tests::base_feed;
 use crate::tests::running::{Machine, Outcome, outcome_of};
-use image_files::ImageDisk;
+use image_files::{ImageDisk, NameForm};
 use image_layout::{Words, sample_words, second_sample_words};
 use std::alloc::{AllocError, Global};
 use std::fs;
@@ -58,6 +59,8 @@ struct Stage<'a> {
     path: &'a str,
     text: String,
     words: Vec<&'a str>,
+    /// How names are written to where the command prints.
+    names: NameForm,
     /// Whether the command with these words was run.
     is_tried: bool,
     printed: String,
@@ -72,6 +75,7 @@ impl<'a> Stage<'a> {
             path: "",
             text: String::new(alloc),
             words: Vec::new(alloc),
+            names: NameForm::Raw,
             is_tried: true,
             printed: String::new(alloc),
             reported: String::new(alloc),
@@ -275,7 +279,7 @@ fn take_command<'a>(
     rest: &'a str,
 ) -> Result<(), Fail> {
     let words = match kind {
-        "run" => words_of(alloc, rest)?,
+        "run" | "shows" => words_of(alloc, rest)?,
         "asks" => words_without_warnings(alloc, rest)?,
         command => asked(alloc, command, rest)?,
     };
@@ -407,7 +411,7 @@ fn run_on_stage<
 >(rt: &R, stage: &mut Stage<'_>) -> Result<Outcome, AllocError> {
     let input = stage.input(rt.alloc())?;
     stage.is_tried = true;
-    Ok(outcome_of(rt, &stage.words, &input))
+    Ok(outcome_of(rt, &stage.words, &input, stage.names))
 }
 
 /// Whether these are the expected errors, apart from seconds. If none are expected, a refused image or journey must be
@@ -508,7 +512,7 @@ fn compare_all_faults<
         words.push(*word)?;
     }
     words.push("--all-faults")?;
-    let all = outcome_of(rt, &words, &[]);
+    let all = outcome_of(rt, &words, &[], NameForm::Raw);
     let is_same = all.output.as_slice() == outcome.output.as_slice()
         && all.status == outcome.status;
     demand(rt, &words, is_same, "the output and the status");
@@ -695,7 +699,10 @@ fn follow<
             kind,
             rest,
         ),
-        "run" | "asks" | "profile" => take_command(rt.alloc(), stage, kind, rest),
+        "run" | "asks" | "profile" | "shows" => {
+            stage.names = NameForm::at(kind == "shows");
+            take_command(rt.alloc(), stage, kind, rest)
+        }
         "judge" => judge(rt, stage, rest),
         "prints" => stage.prints(rest),
         "tells" => stage.tells(rest),

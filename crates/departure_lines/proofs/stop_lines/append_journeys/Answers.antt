@@ -3,6 +3,7 @@ use Rattle.std.specs.List.{flat_map}
 use Rattle.image_facts.specs.Naming.{stop_bytes}
 use Rattle.profile_scan.specs.Everywhere.{asked_to_any, criterion_to_any}
 use Rattle.profile_scan.specs.Origins.{from_stop}
+use Rattle.image_files.specs.Naming.{printed}
 use Rattle.departure_lines.specs.Lines.{line_from}
 use Rattle.departure_lines.proofs.Stops.{has_journeys, journeys_shown}
 use Rattle.departure_lines.proofs.stop_lines.append_journeys.Goals as goal
@@ -10,16 +11,17 @@ use Rattle.departure_lines.proofs.stop_lines.append_journeys.Goals as goal
 pub returns : goal.returns
 returns g c =
     let shown = c.args.shown.now in
+    let image = printed shown.names shown.image.now in
     let t = shown.image.now.timetable in
     let q = from_stop (asked_to_any shown.profiles.now) c.args.stop in
     let old = criterion_to_any shown.profiles.now in
     let departures = c.in_ok-departures.departures.items in
-    let text = flat_map (line_from g.C.ShowsFigures.figures (stop_bytes shown.image.now.names c.args.stop)) departures in
+    let text = flat_map (line_from g.C.ShowsFigures.figures (stop_bytes image.names c.args.stop)) departures in
     let added = c.in_ok-append_lines.ensures
     ∙ ap (λ them. string_bytes c.args.lines.now ++ flat_map (line_from g.C.ShowsFigures.figures c.as_str.result.now) them) c.deref.ensures.value
     ∙ ap (λ name. string_bytes c.args.lines.now
     ++ flat_map (line_from g.C.ShowsFigures.figures name) departures) (c.as_str.ensures.value ∙ c.in_ok-name.ensures) in
-    journeys_shown g.C.Criterion.rules g.C.ShowsFigures.figures _ shown.image.now shown.profiles.now shown.criterion.now c.args.stop departures c.len.result
+    journeys_shown g.C.Criterion.rules g.C.ShowsFigures.figures _ image shown.profiles.now shown.criterion.now c.args.stop departures c.len.result
     text
     (string_bytes c.args.lines.now) (string_bytes c.append_lines.new.lines)
     (c.len.ensures ∙ sym c.deref.ensures.len ∙ ap length c.deref.ensures.value)

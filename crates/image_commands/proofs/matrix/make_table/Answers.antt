@@ -5,17 +5,19 @@ use Rattle.image_commands.proofs.matrix.make_table.Given as given
 use Rattle.image_commands.proofs.matrix.make_table.Goals.{After-table_of-table}
 use Rattle.image_commands.proofs.matrix.make_table.Goals as goal
 
-asked : (g : given.Over) (c : After-table_of-table g) → IsTableOf (g.H.ImageDisk.may_hold c.args.rt.now) c.args.image.now c.args.request c.table_of-table.result
+asked : (g : given.Over) (c : After-table_of-table g)
+    → IsTableOf (g.H.ImageDisk.may_hold c.args.rt.now) c.args.names c.args.image.now c.args.request c.table_of-table.result
 asked g c =
-    table_asked (g.H.ImageDisk.may_hold c.args.rt.now) c.args.image.now c.args.request c.table_of-table.result
+    table_asked (g.H.ImageDisk.may_hold c.args.rt.now) c.args.names c.args.image.now c.args.request c.table_of-table.result
     c.in-Ok.stops.targets.items c.in-Ok.stops.sources.items c.table_of-table.ensures.image
     (c.table_of-table.ensures.stops.0 ∙ c.deref.ensures.value) (c.table_of-table.ensures.stops.1 ∙ c.deref-in-Ok.ensures.value)
     c.table_of-table.ensures.times c.table_of-table.ensures.form c.in-Ok.ensures.targets c.in-Ok.ensures.sources
+    c.table_of-table.ensures.names
 
 pub write_unread-requires : goal.write_unread-requires
 write_unread-requires g c = (
   search rules,
-  can_be_made (g.H.ImageDisk.may_hold c.args.rt.now) c.args.image.now c.args.request c.table_of-table.result
+  can_be_made (g.H.ImageDisk.may_hold c.args.rt.now) c.args.names c.args.image.now c.args.request c.table_of-table.result
       (asked g (goal.at.write_unread-requires g c).After-table_of-table) c.requires,
 )
 

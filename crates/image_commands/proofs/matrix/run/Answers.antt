@@ -19,4 +19,4 @@ pub returns-clause-cut : goal.returns-clause-cut
 returns-clause-cut g c = λ is. inr (c.if-not-has_window.ensures, c.make_table.ensures.cut is)
 
 pub returns-clause-spent : goal.returns-clause-spent
-returns-clause-spent g c = λ is. spent_table _ _ _ _ _ c.if-not-has_window.ensures (c.make_table.ensures.spent is)
+returns-clause-spent g c = λ is. spent_table _ _ _ _ _ _ c.if-not-has_window.ensures (c.make_table.ensures.spent is)

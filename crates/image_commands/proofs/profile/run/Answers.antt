@@ -13,9 +13,10 @@ returns-in-Ok g c =
     let image = c.args.image.now in
     let request = c.args.request.now in
     let profile = c.in-Ok.profile in
+    let names = c.args.names in
     outcome_of (PrintsOnly (λ text. IsPicturePut disk request.picture profile.picture × (text ≡ string_bytes profile.text)))
-    (PrintsProfile disk image request) _ _ _ _ _ _
-    (λ s text is. inl (is.0, (profile, c.in-Ok.ensures, is.1.0, is.1.1))) (λ can. (can, (profile, c.in-Ok.ensures))) c.print_profile.ensures
+    (PrintsProfile disk names image request) _ _ _ _ _ _
+    (λ s text is. inl (is.0, (profile, c.in-Ok.ensures, is.1.0, is.1.1))) (λ can. (can, (names, profile, c.in-Ok.ensures))) c.print_profile.ensures
 
 pub returns-in-Err-Bad : goal.returns-in-Err-Bad
 returns-in-Err-Bad g c =
@@ -25,5 +26,5 @@ returns-in-Err-Bad g c =
     let bad : HasFault image request fault = search rules in
     let done = c.refuse.ensures in
     outcome_of _ _ _ _ _ _ _ _ (λ s text is. is) (λ none. absurd none)
-    (refused_or (IsAnswered (g.H.OutDisk.files c.args.rt.now) image request) (IsNoRequest image request) _ _ (refusal_line (Query fault)) _ _
+    (refused_or (IsAnswered (g.H.OutDisk.files c.args.rt.now) c.args.names image request) (IsNoRequest image request) _ _ (refusal_line (Query fault)) _ _
     (fault, bad, refl) done.status done.printed done.silent done.begun done.failed)

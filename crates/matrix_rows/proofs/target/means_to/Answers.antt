@@ -1,6 +1,7 @@
 use Rattle.std.proofs.Common.{IfOk, subst, sym}
 use Rattle.std.specs.List.{AllZip}
 use Rattle.profile_scan.specs.SetQuery.{SetQueryValue, IsAskableBetween}
+use Rattle.image_files.specs.Naming.{printed}
 use Rattle.matrix_rows.specs.Tables.{IsMeanFrom}
 use Rattle.matrix_rows.proofs.target.means_to.Goals as goal
 
@@ -12,5 +13,5 @@ pub returns : goal.returns
 returns g c =
     let table = c.args.table.now in
     subst (λ (d : SetQueryValue). IfOk c.means_of.result (λ means. AllZip (IsMeanFrom g.C.ShowsFigures.figures (g.C.Criterion.rules c.args.criterion.now)
-    table.image.now d table.after table.until) table.sources.now means.items))
+    (printed table.names table.image.now) d table.after table.until) table.sources.now means.items))
     c.in_ok-profiles.ensures.keeps.1 c.means_of.ensures

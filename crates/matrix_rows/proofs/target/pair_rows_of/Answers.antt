@@ -6,6 +6,7 @@ use Rattle.std.proofs.lemmas.Option.{slice_get-get_or}
 use Rattle.std.proofs.lemmas.Slice.Zip.{AllZip-long}
 use Rattle.profile_scan.specs.Everywhere.{asked_to_any}
 use Rattle.travel_times.specs.Rows.{text_of}
+use Rattle.image_files.specs.Naming.{printed}
 use Rattle.matrix_rows.specs.Tables.{AreRowsTo, IsMean, IsMeanFrom, from_stops, mean_in, set_bytes, waiting}
 use Rattle.matrix_rows.proofs.Answering.{on_ok, zipped_at}
 use Rattle.matrix_rows.proofs.Names.{name_at}
@@ -15,7 +16,8 @@ use Rattle.matrix_rows.proofs.target.pair_rows_of.Goals as goal
 pub loop-list_index-init : goal.loop-list_index-init
 loop-list_index-init g c = record {
   whole = c.new-rows.ensures.whole;
-  rows = no_rows g.C.ShowsFigures.figures (g.C.Criterion.rules c.args.criterion.now) false c.args.table.now.plain.image.now (asked_to_any c.args.profiles.now)
+  rows = no_rows g.C.ShowsFigures.figures (g.C.Criterion.rules c.args.criterion.now) false
+      (printed c.args.table.now.plain.names c.args.table.now.plain.image.now) (asked_to_any c.args.profiles.now)
       (text_of c.new-rows.result) c.new-rows.ensures.text;
 }
 
@@ -26,7 +28,8 @@ loop-list_index-preserved g c =
     let set = c.index-table-list_index-in-loop-list_index.result in
     record {
       whole = c.in_ok-put_pair_from.ensures.whole;
-      rows = subst (λ (ss : List (Vec ℕ)). AreRowsTo g.C.ShowsFigures.figures (g.C.Criterion.rules c.args.criterion.now) false c.args.table.now.plain.image.now
+      rows = subst (λ (ss : List (Vec ℕ)). AreRowsTo g.C.ShowsFigures.figures (g.C.Criterion.rules c.args.criterion.now) false
+          (printed c.args.table.now.plain.names c.args.table.now.plain.image.now)
           (asked_to_any c.args.profiles.now) ss (text_of c.put_pair_from.new.rows))
           (sym (take_more sources list_index set c.loop-list_index-test.true))
           (c.in_ok-put_pair_from.ensures.added (take list_index sources) (get_or sources list_index set)
@@ -43,12 +46,13 @@ put_pair_from-requires-clause-sources g c = λ stop h.
 
 pub put_pair_from-requires-clause-to : goal.put_pair_from-requires-clause-to
 put_pair_from-requires-clause-to g c =
-    c.as_str.ensures.value ∙ c.in_ok-to.ensures ∙ ap (set_bytes c.args.table.now.plain.image.now.names) c.targets.ensures
+    c.as_str.ensures.value ∙ c.in_ok-to.ensures ∙ ap (set_bytes (printed c.args.table.now.plain.names c.args.table.now.plain.image.now).names) c.targets.ensures
 
 pub returns : goal.returns
 returns g c =
     let sources = c.args.table.now.plain.sources.now in
-    let rows = AreRowsTo g.C.ShowsFigures.figures (g.C.Criterion.rules c.args.criterion.now) false c.args.table.now.plain.image.now
+    let rows = AreRowsTo g.C.ShowsFigures.figures (g.C.Criterion.rules c.args.criterion.now) false
+    (printed c.args.table.now.plain.names c.args.table.now.plain.image.now)
     (asked_to_any c.args.profiles.now) in
     on_ok _ (λ text. rows sources text.items) c.into_text.result
     (λ text is. subst (rows sources) (sym is)
@@ -60,7 +64,7 @@ pub put_pair_from-requires-clause-mean : goal.put_pair_from-requires-clause-mean
 put_pair_from-requires-clause-mean g c =
     let figures = g.C.ShowsFigures.figures in
     let rules = g.C.Criterion.rules c.args.criterion.now in
-    let image = c.args.table.now.plain.image.now in
+    let image = (printed c.args.table.now.plain.names c.args.table.now.plain.image.now) in
     let sources = c.args.table.now.plain.sources.now in
     let means = c.args.means.now in
     let list_index = c.loop-list_index.list_index in
@@ -78,7 +82,7 @@ put_pair_from-requires-clause-mean g c =
 pub put_pair_from-requires-clause-from : goal.put_pair_from-requires-clause-from
 put_pair_from-requires-clause-from g c =
     let table = c.args.table.now in
-    let names = table.plain.image.now.names in
+    let names = (printed table.plain.names table.plain.image.now).names in
     c.as_str-from.ensures.value
     ∙ name_at names table.plain.sources.now table.names.now c.loop-list_index.list_index c.index-table-list_index-in-loop-list_index.result
     c.index-table-list_index.result table.named c.loop-list_index-test.true

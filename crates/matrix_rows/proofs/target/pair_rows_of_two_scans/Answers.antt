@@ -2,6 +2,7 @@ use Rattle.std.proofs.Common.{◌∙◌, List, Option, ℕ, IfOk, false, subst, 
 use Rattle.std.specs.List.{AllZip}
 use Rattle.profile_scan.specs.SetQuery.{SetQueryValue, IsAskableBetween}
 use Rattle.profile_scan.specs.Everywhere.{asked_to_any}
+use Rattle.image_files.specs.Naming.{printed}
 use Rattle.matrix_rows.specs.Tables.{AreRowsTo, IsMeanFrom, destination, waiting}
 use Rattle.matrix_rows.proofs.Answering.{means_of_waiting, means_waited, waiting_asked}
 use Rattle.matrix_rows.proofs.target.pair_rows_of_two_scans.Goals as goal
@@ -22,16 +23,17 @@ pair_rows_of-requires-clause-means g c =
     let found = asked_to_any c.in_ok-profiles.profiles in
     let figures = g.C.ShowsFigures.figures in
     let rules = g.C.Criterion.rules c.args.criterion.now in
-    subst (λ (means : List (Option ℕ)). AllZip (IsMeanFrom figures rules table.image.now (waiting found) found.from found.until) table.sources.now means)
+    subst (λ (means : List (Option ℕ)). AllZip (IsMeanFrom figures rules
+    (printed table.names table.image.now) (waiting found) found.from found.until) table.sources.now means)
     (sym c.deref.ensures.value)
-    (means_waited figures rules table.image.now table c.args.targets.now table.sources.now c.in_ok-means.means.items found
+    (means_waited figures rules (printed table.names table.image.now) table c.args.targets.now table.sources.now c.in_ok-means.means.items found
     (c.in_ok-profiles.ensures.keeps.1 ∙ c.in_ok-destinations.ensures)
-    (means_of_waiting figures rules table.image.now table c.args.targets.now table.sources.now c.in_ok-means.means.items _
+    (means_of_waiting figures rules (printed table.names table.image.now) table c.args.targets.now table.sources.now c.in_ok-means.means.items _
     c.in_ok-waiting.ensures c.in_ok-means.ensures))
 
 pub returns : goal.returns
 returns g c =
     let table = c.args.table.now.plain in
     subst (λ (d : SetQueryValue). IfOk c.pair_rows_of.result (λ text. AreRowsTo g.C.ShowsFigures.figures (g.C.Criterion.rules c.args.criterion.now) false
-    table.image.now d table.sources.now text.items))
+    (printed table.names table.image.now) d table.sources.now text.items))
     (c.in_ok-profiles.ensures.keeps.1 ∙ c.in_ok-destinations.ensures) c.pair_rows_of.ensures

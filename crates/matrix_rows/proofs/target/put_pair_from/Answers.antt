@@ -4,6 +4,7 @@ use Rattle.csv.specs.Writing.{default_writer, row_text}
 use Rattle.profile_scan.specs.Everywhere.{asked_to_any}
 use Rattle.travel_times.specs.Fields.{pair_fields}
 use Rattle.travel_times.specs.Rows.{text_of}
+use Rattle.image_files.specs.Naming.{printed}
 use Rattle.matrix_rows.specs.Tables.{Meet, set_bytes, spans_of}
 use Rattle.matrix_rows.proofs.Answering.{on_done, same_pair}
 use Rattle.matrix_rows.proofs.Sources.{set_has_rows, set_skipped}
@@ -13,7 +14,7 @@ pub returns-then-meet-clause-added : goal.returns-then-meet-clause-added
 returns-then-meet-clause-added g c = λ before set same rows.
     let answered = c.args.answered.now in
     let d = asked_to_any answered.profiles.now in
-    set_skipped g.C.ShowsFigures.figures (g.C.Criterion.rules answered.criterion.now) false answered.image.now d
+    set_skipped g.C.ShowsFigures.figures (g.C.Criterion.rules answered.criterion.now) false (printed answered.names answered.image.now) d
     set c.args.sources.now before (text_of c.args.rows.now) same
     (subst (Meet c.args.sources.now) c.targets.ensures c.if-meet.ensures) rows
 
@@ -25,13 +26,13 @@ pub returns-clause-added : goal.returns-clause-added
 returns-clause-added g c = λ before set same rows.
     let answered = c.args.answered.now in
     let d = asked_to_any answered.profiles.now in
-    let names = answered.image.now.names in
+    let names = (printed answered.names answered.image.now).names in
     let figures = g.C.ShowsFigures.figures in
     let sources = c.args.sources.now in
     let points = cow_slice_items c.in_ok-points.points in
     let walk = c.least_walk.result in
     on_done c.put_pair.result
-    (λ adds. set_has_rows figures (g.C.Criterion.rules answered.criterion.now) false answered.image.now d
+    (λ adds. set_has_rows figures (g.C.Criterion.rules answered.criterion.now) false (printed answered.names answered.image.now) d
     set sources before (text_of c.args.rows.now)
     (row_text default_writer (pair_fields c.args.from.now answered.to.now c.deref.result.now c.args.mean walk))
     (text_of c.put_pair.new.rows) same
