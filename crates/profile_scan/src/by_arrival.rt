@@ -69,8 +69,9 @@ impl ByArrival {
     ghost use Rattle.profile_scan.specs.Adding.{AreWalksInto, StandsBetween, boardings_by, changes_from, each_of};
     ghost use Rattle.profile_scan.specs.Adding.{endings, one_way};
     ghost use Rattle.profile_scan.specs.Steps.{boardings};
-    ghost use Rattle.profile_scan.specs.ByArrival.{AreByArrival, BoardsByArrival, CanBoardByArrival, CanBoardAfterByArrival};
-    ghost use Rattle.profile_scan.specs.ByArrival.{CanBoardEachByArrival, CanLeaveByArrival, CanRenewByArrival, HasFirst, IsBestFrom};
+    ghost use Rattle.profile_scan.specs.ByArrival.{AreByArrival, BoardsByArrival, CanBoardAfterByArrival};
+    ghost use Rattle.profile_scan.specs.ByArrival.{CanBoardByArrival, CanBoardEachByArrival, CanLeaveByArrival};
+    ghost use Rattle.profile_scan.specs.ByArrival.{CanRenewByArrival, HasFirst, IsBestFrom};
     ghost use Rattle.profile_scan.specs.ByArrival.{RelabelsByArrival, RenewsByArrival, arrival_rules, arrival_rules_of};
     ghost use Rattle.profile_scan.specs.ByArrival.{ridden_point, stops_of, trips_of, value_by_arrival};
 

@@ -145,8 +145,8 @@ impl ByArrival {
         self.set_out_by_label(asked, source, *hop, origin)
     }
 
-    // The same where somebody may set out. In most scans it is rare, so it is a call and never inlined. It takes the hop
-    // itself: one that is lent to a call is written to memory at each connection.
+    // The same where somebody may set out. In most scans it is rare, so it is a call and never inlined. It takes the
+    // hop itself: one that is lent to a call is written to memory at each connection.
     #[inline(never)]
     fn set_out_by_label<S: ConnSource, O: AtSource<Arrival>>(
         &self,

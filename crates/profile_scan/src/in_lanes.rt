@@ -191,8 +191,8 @@ impl InLanes {
         Ok(())
     }
 
-    /// Boards the hop's connection, if passengers may get on there. Mostly the bound outdoes all labels of its trip, or the
-    /// trip has none, and then nothing more is read.
+    /// Boards the hop's connection, if passengers may get on there. Mostly the bound outdoes all labels of its trip, or
+    /// the trip has none, and then nothing more is read.
     #[inline(always)]
     pub fn board<S: ConnSource>(
         &mut self,

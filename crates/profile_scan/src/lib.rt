@@ -7,9 +7,10 @@
 //! from any `ConnSource`, under any criterion. It reads the connections of the query's window: those that depart at
 //! `from` or later and before `by`. (`until` limits where a journey begins, not where the window ends: later legs may
 //! depart after it.) The loop is `scan::scan_window`. It reads each index of the window once, in falling order, as its
-//! clause `log` says, and calls `Scan::step`. A step returns at once if it sees that the connection can add nothing;
-//! else it renews the bound for the connection's departure, makes a `Hop` and calls `Keeping::take`, as follows. A
-//! *label* of a trip is a way for its passengers to go on: how they leave the trip, and the value of what follows.
+//! clause `log` says, and calls `Scan::step`. A step returns at once if it sees that the connection can add nothing but
+//! what the bound excludes; else it renews the bound for the connection's departure, makes a `Hop` and calls
+//! `Keeping::take`, as follows. A *label* of a trip is a way for its passengers to go on: how they leave the trip, and
+//! the value of what follows.
 //!
 //! 1. Leave the trip, if passengers may get off. The journey may end there, or one footpath on (`hop.final_entry`):
 //!    `Trips::end` offers the connection's trip a label that leaves it so, with the value of that arrival. Or the
@@ -33,12 +34,15 @@
 //! A leg is counted where its trip is boarded, in 2 and 3: a label's value doesn't include it.
 //!
 //! What a scan keeps of trips and stops has the trait `Keeping`, so that a criterion can have a form of its own, which
-//! it names by `Scanned`. `InLists`, whose functions 1 and 3 name, serves any criterion. `ByTrips` is the form of
-//! arrival and trips. There the *front* of a stop at a time, the points from then on that no other betters, is nine
-//! *lanes*: lane k has the earliest arrival with at most k trips. A trip has eight. So all values are compared at once:
-//! `InLanes::change` lowers a trip's lanes to those of the stop's front, and `InLanes::board` those of a stop's front
-//! to the trip's, with one trip more. What has more trips than there are lanes is kept beside them, in bags (`Beyond`),
-//! and offered to these one by one.
+//! it names by `Scanned`. `InLists`, whose functions 1 and 3 name, serves any criterion. `ByArrival` is the form of
+//! arrival alone: a trip has one label, and no point of a stop's list arrives earlier than the list's first. So the
+//! first points of all stops are at hand (`FirstPoint`): `ByArrival::change` compares one with the trip's label and
+//! with the bound, and mostly reads nothing else, and so does `ByArrival::board` at each stop that it offers to.
+//! `ByTrips` is the form of arrival and trips. There the *front* of a stop at a time, the points from then on that no
+//! other betters, is nine *lanes*: lane k has the earliest arrival with at most k trips. A trip has eight. So all
+//! values are compared at once: `InLanes::change` lowers a trip's lanes to those of the stop's front, and
+//! `InLanes::board` those of a stop's front to the trip's, with one trip more. What has more trips than there are lanes
+//! is kept beside them, in bags (`Beyond`), and offered to these one by one.
 //!
 //! What a scan keeps where journeys set out has the trait `AtSource`. `profile_between` answers one question, and keeps
 //! an `Origin`: one list of the points found, from all sources together. `profiles_to_any`, which answers from every
