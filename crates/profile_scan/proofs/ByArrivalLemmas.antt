@@ -1,6 +1,7 @@
 -- What is kept by arrival alone takes offers in.
-use Rattle.std.proofs.Common.{◌≡◌, ◌≢◌, ◌⊎◌, ℕ, zero, suc, ◌+◌, ◌-◌, ◌<◌, ◌≤◌, List, [], ◌∷◌, ◌++◌, length, map, replicate, set, take, drop, Contains, slice_get, slice_index, ◌↔◌}
-use Rattle.std.proofs.Common.{Bool, true, false, nat_le, nat_lt, min, Option, Some, None, inl, inr, refl, sym, ap, ◌∙◌, subst, arith}
+use Rattle.std.proofs.Common.{◌≡◌, ◌⊎◌, ℕ, zero, suc, ◌+◌, ◌-◌, ◌<◌, ◌≤◌, List, []}
+use Rattle.std.proofs.Common.{◌∷◌, ◌++◌, length, replicate, set, take, drop, Contains, slice_get, slice_index, ◌↔◌}
+use Rattle.std.proofs.Common.{true, false, nat_le, nat_lt, min, Option, Some, None, inl, inr, refl, sym, ap, ◌∙◌, subst, arith}
 use Rattle.std.specs.Global.{Vec}
 use Rattle.std.specs.Vec.{with_item}
 use Rattle.std.proofs.lemmas.Bool.{cases_Bool, cases_eq, cases_lt, le-leb, leb-true, lt-ltb, ltb-true, true≢false}
@@ -8,8 +9,9 @@ use Rattle.std.proofs.lemmas.List.{get_or_past, length-replicate, length-set, ni
 use Rattle.std.proofs.lemmas.List.Folds.{list_any_at}
 use Rattle.std.proofs.lemmas.Option.{none-some, same_Some, slice_get_cases, slice_get_within}
 use Rattle.timetable.proofs.LegalLemmas.{At-Contains, Contains-At}
-use Rattle.reasoning.proofs.ListLemmas.{contains_first, contains_only, extends_none, extends_one, not_in_nil, slice_get-replicate-is, slice_get-set_other, slice_get-set_same}
-use Rattle.criteria.specs.Laws.{Admits, IsTime, NoWorse, time_limit}
+use Rattle.reasoning.proofs.ListLemmas.{contains_first, contains_only, extends_one}
+use Rattle.reasoning.proofs.ListLemmas.{not_in_nil, slice_get-replicate-is, slice_get-set_other, slice_get-set_same}
+use Rattle.criteria.specs.Laws.{Admits, IsTime, time_limit}
 use Rattle.criteria.specs.contracts.arrival.ArrivalCriterion.TheImpl.Laws.{laws-law}
 use Rattle.criteria.specs.declared.arrival.Arrival.{Arrival}
 use Rattle.bags.specs.declared.point.Point.{Point}
@@ -19,7 +21,8 @@ use Rattle.timetable.specs.declared.network.Footpath.{Footpath}
 use Rattle.timetable.specs.Legal.{At}
 use Rattle.timetable.specs.TimetableValue.{TimetableValue}
 use Rattle.timetable.specs.Journeys.{start_secs}
-use Rattle.fronts.specs.Lists.{AreMoreLists, HasTaken, IsEmptyAlone, IsFrontFrom, IsSound, entries_of, front_at, items_of, list_points, lists_criterion, steps_of}
+use Rattle.fronts.specs.Lists.{AreMoreLists, HasTaken, IsEmptyAlone, IsFrontFrom, IsSound}
+use Rattle.fronts.specs.Lists.{entries_of, front_at, items_of, list_points, lists_criterion, steps_of}
 use Rattle.fronts.specs.Putting.{IsLate}
 use Rattle.fronts.specs.declared.entry.RiddenLabel.{RiddenLabel}
 use Rattle.fronts.specs.declared.front_lists.FrontLists.{FrontLists}
@@ -32,13 +35,14 @@ use Rattle.profile_scan.specs.Values.{started}
 use Rattle.profile_scan.specs.Points.{Covers}
 use Rattle.profile_scan.specs.Matching.{Spellings, from_to}
 use Rattle.profile_scan.specs.Steps.{Boarding, Offer, TakesIn, TakesInBut, boardings}
-use Rattle.profile_scan.specs.Bound.{Excludes, ExcludesMore, any_no_worse}
+use Rattle.profile_scan.specs.Bound.{Excludes}
 use Rattle.profile_scan.specs.Adding.{AreRidden, IsEnding, StandsBetween, boardings_after, boardings_by, changes_from, each_of, endings, label_points, one_way}
-use Rattle.profile_scan.specs.ScanRecords.{IsExit, ScanRecords, Grows, scan_records, spelling_of}
+use Rattle.profile_scan.specs.ScanRecords.{IsExit, scan_records, spelling_of}
 use Rattle.profile_scan.specs.Hops.{StandsAt}
 use Rattle.profile_scan.specs.Keeping.{AdmitsKept, IsIdle}
 use Rattle.profile_scan.specs.KeptParts.{BagsTake}
-use Rattle.profile_scan.specs.ByArrival.{AreByArrival, AreUnderByArrival, BoardsByArrival, BoundExcludes, CanBoardAfterByArrival, CanLeaveByArrival, CanRenewByArrival, IsBestFrom, IsFirst}
+use Rattle.profile_scan.specs.ByArrival.{AreByArrival, AreUnderByArrival, BoardsByArrival, BoundExcludes}
+use Rattle.profile_scan.specs.ByArrival.{CanBoardAfterByArrival, CanLeaveByArrival, CanRenewByArrival, IsBestFrom, IsFirst}
 use Rattle.profile_scan.specs.ByArrival.{IsLikeByArrival, RelabelsByArrival, RenewsByArrival, ShowsFront, arrival_rules, arrival_rules_of, as_point, heads_of}
 use Rattle.profile_scan.specs.ByArrival.{label_if, label_in, labels_of, never, ridden_point, stops_of, trips_of, value_by_arrival}
 use Rattle.profile_scan.specs.declared.by_arrival.ByArrival.{ByArrival}
@@ -47,12 +51,11 @@ use Rattle.profile_scan.specs.declared.final_walks.FinalWalk.{FinalWalk}
 use Rattle.profile_scan.specs.declared.hop.Hop.{Hop}
 use Rattle.profile_scan.specs.declared.scan_records.Exit.{Exit}
 use Rattle.profile_scan.specs.declared.scan_records.Exit.TheVariants.{Changes, Ends}
-use Rattle.profile_scan.specs.declared.scan_records.SetOut.{SetOut}
 use Rattle.profile_scan.proofs.EndLemmas.{takes_the_end}
 use Rattle.profile_scan.proofs.KeptLemmas.{bags_all, bags_none, labels_as, labels_none}
 use Rattle.profile_scan.proofs.OfferedLemmas.{takes_as_it_is}
 use Rattle.profile_scan.proofs.Offers.{but_as, but_none, sure, takes_but, takes_unless}
-use Rattle.profile_scan.proofs.RideLemmas.{boarded_at, by_walk}
+use Rattle.profile_scan.proofs.RideLemmas.{boarded_at}
 use Rattle.profile_scan.proofs.ScanRecordLemmas.{exit_next, grows_on, steps_grow}
 
 -- nothing has changed

@@ -368,7 +368,8 @@ module _ (q : SetQueryValue) (hop : Hop TimeTrips) (old : ByTrips) (can : CanLea
       let all = one_then q hop old can ended (λ _. ⊥) (λ p. Excludes trip_rules hop.bound.now p.value) (NoChange (Excludes trip_rules hop.bound.now))
       (λ tags. endings trip_rules tags hop.place hop.connection q (final_walk_in hop.final_entry)) (λ tags. changes_from tags hop.place hop.connection.arr bag)
       (λ tags. only_if (hop.connection.alight ≡ true) (endings_and_changes trip_rules tags hop.place hop.connection q (final_walk_in hop.final_entry) bag)) new
-      (λ tags xs ys zs. ends_and_changes trip_rules q hop.place hop.connection (final_walk_in hop.final_entry) (Excludes trip_rules hop.bound.now) tags bag xs ys zs
+      (λ tags xs ys zs. ends_and_changes trip_rules q hop.place hop.connection (final_walk_in hop.final_entry) (Excludes trip_rules hop.bound.now) tags
+      bag xs ys zs
       (λ walk opened. ending_admits q hop.connection (final_walk_in hop.final_entry) walk can.hop.by opened) alights) first to_change in
       record {
         are = all.are;

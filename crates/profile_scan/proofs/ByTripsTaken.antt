@@ -43,7 +43,7 @@ use Rattle.profile_scan.specs.declared.hop.Hop.{Hop}
 use Rattle.profile_scan.specs.declared.in_lanes.InLanes.{InLanes}
 use Rattle.profile_scan.proofs.LaneOffers.{as_point, covers_trans}
 use Rattle.profile_scan.proofs.LanesLeft.{label_admits}
-use Rattle.profile_scan.proofs.Offers.{but_none, takes_as, takes_none}
+use Rattle.profile_scan.proofs.Offers.{but_none, takes_as}
 use Rattle.profile_scan.proofs.ScanRecordLemmas.{grows_none}
 
 -- the bag at an index
@@ -269,29 +269,6 @@ module _ {O : Type 0} (t : TimetableValue) (sources : List ℕ → ℕ → List 
             (boardings trip_rules t tags hop.place stop labels) (was.bag stop) (now.bag stop)) (sym (boards.labels trip))
             (boards.takes stop outs before all
             (record { exits = extends_none was.exits; steps = extends_none was.steps; set_outs = set_outs index }) (grows_none all));
-      }
-
-  -- without labels, nobody does
-  pub nobody_goes_on : (lanes : ByTrips) (origin : O) → (value_by_trips lanes).labels hop.connection.trip ≡ []
-      → GoesOn trip_rules t sources kept q hop (value_by_trips lanes) (value_by_trips lanes) origin origin
-  nobody_goes_on lanes origin empty =
-      let is = value_by_trips lanes in
-      let trip = hop.connection.trip in
-      let none : (p : Point TimeTrips) → Contains (is.labels trip) p → ⊥ = λ p h. not_in_nil p (subst (λ xs. Contains xs p) empty h) in
-      record {
-        writes = record { exits = extends_none is.exits; steps = extends_none is.steps };
-        set_outs = λ index. extends_none (kept origin index).set_outs;
-        labels = λ k. refl;
-        sets_out = λ index.
-            let all = scan_records is.exits is.steps (kept origin index).set_outs in
-            takes_none trip_rules (settings_out trip_rules t (asked_from sources q index)
-            (from_to (spelling_of t.footpaths all) (spelling_of t.footpaths all)) hop.place (is.labels trip)) (kept origin index).found
-            (λ way may. none way.label may.is_label);
-        boards = λ index stop lt.
-            let all = scan_records is.exits is.steps (kept origin index).set_outs in
-            but_none trip_rules (λ way. Excludes trip_rules hop.bound.now way.label.value) (boardings trip_rules t
-            (from_to (spelling_of t.footpaths all) (spelling_of t.footpaths all)) hop.place stop (is.labels trip)) (is.bag stop)
-            (λ way may. none way.label may.is_label);
       }
 
 -- the label of one more point

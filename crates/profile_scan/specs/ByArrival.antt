@@ -1,5 +1,5 @@
 -- What is kept of trips and stops by arrival alone.
-use Rattle.std.specs.Prelude.{◌≡◌, ℕ, ◌+◌, ◌<◌, ◌≤◌, Bool, true, false, List, [], ◌∷◌, length, map, nat_le, nat_lt, slice_get, slice_index, Contains}
+use Rattle.std.specs.Prelude.{◌≡◌, ℕ, ◌<◌, ◌≤◌, Bool, true, false, List, [], ◌∷◌, length, map, nat_le, nat_lt, slice_get, slice_index, Contains}
 use Rattle.std.specs.Prelude.{Option, Some, None}
 use Rattle.std.specs.Ordering.{nat_cmp}
 use Rattle.criteria.specs.Laws.{Rules, Admits, IsTime, IsSecs, time_limit}

@@ -1,5 +1,4 @@
 use Rattle.std.proofs.Common.{refl, sym, ap, ◌∙◌, arith}
-use Rattle.bags.specs.declared.point.Point.{Point}
 use Rattle.profile_scan.proofs.ByArrivalLemmas.{shows_none, shows_one}
 use Rattle.profile_scan.proofs.by_arrival.first_of.Goals as goal
 

@@ -1,4 +1,3 @@
-use Rattle.std.proofs.Common.{sym, subst, ◌<◌, ◌≡◌, ◌≤◌, ℕ}
 use Rattle.criteria.specs.contracts.arrival.ArrivalCriterion.TheImpl.Laws.{laws-law}
 use Rattle.profile_scan.specs.ByArrival.{arrival_rules, value_by_arrival}
 use Rattle.profile_scan.specs.SetQuery.{question}

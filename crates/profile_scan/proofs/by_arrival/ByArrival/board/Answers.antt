@@ -1,4 +1,4 @@
-use Rattle.std.proofs.Common.{◌≡◌, Some, length, refl, slice_get, sym, subst, arith, ◌∙◌}
+use Rattle.std.proofs.Common.{◌≡◌, Some, length, refl, slice_get, arith}
 use Rattle.std.proofs.lemmas.Option.{slice_get_read}
 use Rattle.std.proofs.lemmas.Result.{on_ok_weaker}
 use Rattle.profile_scan.proofs.BoardLemmas.{walks_into_it}
@@ -43,6 +43,6 @@ returns g c =
     let limit = c.requires.are.limit in
     on_ok_weaker c.board_walks.result
     (all_boarded t c.args.hop.now c.args.self.now c.requires.are c.index-label.result.now
-    (label_at g (goal.at.returns g c).After-index-label) c.requires.stands c.if-not-hop.false (omega (arith, limit, c.if-label-self.false)) c.walks_into-begin.result.0
-    c.walks_into-begin.result.1 c.walks_into-begin.ensures.exact c.board_walks.new.self)
+    (label_at g (goal.at.returns g c).After-index-label) c.requires.stands c.if-not-hop.false (omega (arith, limit, c.if-label-self.false))
+    c.walks_into-begin.result.0 c.walks_into-begin.result.1 c.walks_into-begin.ensures.exact c.board_walks.new.self)
     c.board_walks.ensures

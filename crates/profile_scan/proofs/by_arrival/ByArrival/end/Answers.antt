@@ -1,7 +1,6 @@
-use Rattle.std.proofs.Common.{Option, Some, None, sym, ◌≡◌, ℕ, subst, refl}
+use Rattle.std.proofs.Common.{sym, subst}
 use Rattle.std.proofs.lemmas.Result.{on_ok_weaker}
 use Rattle.criteria.specs.Laws.{IsTime}
-use Rattle.timetable.specs.declared.network.Footpath.{Footpath}
 use Rattle.profile_scan.specs.ScanState.{final_walk_in}
 use Rattle.profile_scan.specs.SetQuery.{question}
 use Rattle.profile_scan.proofs.ByArrivalLemmas.{ended, none_ended}

@@ -1,4 +1,4 @@
-use Rattle.std.proofs.Common.{◌<◌, ◌≤◌, ◌∙◌, if◌then◌else◌, inl, inr, length, nat_lt, refl, ap, subst, sym, ℕ, arith}
+use Rattle.std.proofs.Common.{◌<◌, ◌≤◌, ◌∙◌, if◌then◌else◌, inl, inr, length, refl, ap, subst, sym, ℕ, arith}
 use Rattle.std.proofs.lemmas.Bool.{cases_lt, leb-true, lt-ltb}
 use Rattle.std.proofs.lemmas.Option.{slice_get_read}
 use Rattle.profile_scan.specs.ScanState.{final_walk_in}

@@ -2,7 +2,7 @@ use Rattle.std.proofs.Common.{◌≡◌, ◌<◌, ℕ, sym, subst, ◌∙◌}
 use Rattle.profile_scan.specs.SetQuery.{question}
 use Rattle.profile_scan.specs.ScanRecords.{KeptValue}
 use Rattle.profile_scan.specs.Keeping.{Leaves}
-use Rattle.profile_scan.specs.ByArrival.{AreByArrival, BoundExcludes, arrival_rules, stops_of, trips_of, value_by_arrival}
+use Rattle.profile_scan.specs.ByArrival.{BoundExcludes, arrival_rules, stops_of, trips_of, value_by_arrival}
 use Rattle.profile_scan.proofs.ByArrivalLemmas.{admits_kept, renewed_are, renewed_stops, renewed_trips, renewed_value, still_excludes}
 use Rattle.profile_scan.proofs.KeptLemmas.{goes_on}
 use Rattle.profile_scan.proofs.PartLemmas.{hop_within}

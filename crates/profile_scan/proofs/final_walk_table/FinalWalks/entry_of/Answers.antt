@@ -1,4 +1,4 @@
-use Rattle.std.proofs.Common.{Some, length, map, refl, slice_get, sym, ap, ◌∙◌, arith}
+use Rattle.std.proofs.Common.{Some, length, refl, slice_get, sym, ap, ◌∙◌, arith}
 use Rattle.std.proofs.lemmas.List.{length-map}
 use Rattle.std.proofs.lemmas.Option.{slice_get_read}
 use Rattle.profile_scan.specs.FinalWalkEntries.{is_walk}

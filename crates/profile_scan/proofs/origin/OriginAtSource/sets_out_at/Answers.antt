@@ -1,4 +1,4 @@
-use Rattle.std.proofs.Common.{false, subst}
+use Rattle.std.proofs.Common.{subst}
 use Rattle.profile_scan.specs.SetQuery.{question}
 use Rattle.profile_scan.specs.Starts.{SaysLed, SaysSource}
 use Rattle.profile_scan.proofs.BoardLemmas.{nobody_boards, nobody_starts}

@@ -1,4 +1,4 @@
-use Rattle.std.proofs.Common.{◌≡◌, false, OnOk, sym, ◌∙◌, subst, arith}
+use Rattle.std.proofs.Common.{◌≡◌, false, OnOk, sym, ◌∙◌, subst}
 use Rattle.std.proofs.lemmas.Bool.{true≢false}
 use Rattle.reasoning.proofs.ListLemmas.{extends_none}
 use Rattle.timetable.specs.declared.network.Connection.{Connection}
@@ -12,9 +12,7 @@ use Rattle.profile_scan.specs.Bound.{survivors}
 use Rattle.profile_scan.specs.ScanState.{points_at}
 use Rattle.profile_scan.specs.Parts.{AdmitsLabels, Boards}
 use Rattle.profile_scan.proofs.Offers.{takes_none}
-use Rattle.profile_scan.proofs.BoundLemmas.{from_survivors}
-use Rattle.profile_scan.proofs.RideLemmas.{one_alone, ridden_admitted, no_ridden}
-use Rattle.profile_scan.proofs.BoardLemmas.{walks_into_it, boardings_taken}
+use Rattle.profile_scan.proofs.RideLemmas.{one_alone}
 use Rattle.profile_scan.proofs.stops.Stops.board.Goals as goal
 
 -- a connection that isn't boarded

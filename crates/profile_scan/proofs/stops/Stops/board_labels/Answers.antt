@@ -1,8 +1,5 @@
-use Rattle.std.proofs.Common.{◌≡◌, false, OnOk, sym, ◌∙◌, subst, arith}
-use Rattle.std.proofs.lemmas.Bool.{true≢false}
+use Rattle.std.proofs.Common.{arith}
 use Rattle.reasoning.proofs.ListLemmas.{extends_none}
-use Rattle.timetable.specs.declared.network.Connection.{Connection}
-use Rattle.timetable.specs.Journeys.{connection_at}
 use Rattle.fronts.specs.Lists.{steps_of}
 use Rattle.profile_scan.specs.Matching.{from_to}
 use Rattle.profile_scan.specs.ScanRecords.{spelling_of}
@@ -10,10 +7,9 @@ use Rattle.profile_scan.specs.Steps.{boardings}
 use Rattle.profile_scan.specs.Adding.{label_points}
 use Rattle.profile_scan.specs.Bound.{survivors}
 use Rattle.profile_scan.specs.ScanState.{points_at}
-use Rattle.profile_scan.specs.Parts.{AdmitsLabels, Boards}
 use Rattle.profile_scan.proofs.Offers.{takes_none}
 use Rattle.profile_scan.proofs.BoundLemmas.{from_survivors}
-use Rattle.profile_scan.proofs.RideLemmas.{one_alone, ridden_admitted, no_ridden}
+use Rattle.profile_scan.proofs.RideLemmas.{ridden_admitted, no_ridden}
 use Rattle.profile_scan.proofs.BoardLemmas.{walks_into_it, boardings_taken}
 use Rattle.profile_scan.proofs.stops.Stops.board_labels.Goals as goal
 
