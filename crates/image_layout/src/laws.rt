@@ -51,7 +51,8 @@ pub fn which_layouts()
     ensures first_alone { (t : TimetableValue) (n : NamesValue) → IsImage (image_in FIRST_LAYOUT t n) t n → AreFirst n }
 {}
 
-/// Bytes spell at most one list of words. So words that are written as bytes and read again are the same.
+/// Bytes spell at most one list of words of 32 bits. So such words that are written as bytes and read again are the
+/// same.
 pub fn one_word_list()
     ensures { (v w : List ℕ) → All (λ x. x < 2 ^ 32) v → All (λ x. x < 2 ^ 32) w → bytes_of v ≡ bytes_of w → v ≡ w }
 {}
