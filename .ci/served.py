@@ -164,6 +164,10 @@ class Server:
         with open(f"/proc/{self.process.pid}/status", encoding="utf-8") as status:
             return next(int(line.split()[1]) for line in status if line.startswith(which + ":")) / 1000
 
+    def descriptors(self):
+        """Returns how many file descriptors it has open."""
+        return len(os.listdir(f"/proc/{self.process.pid}/fd"))
+
     def stop(self):
         self.process.terminate()
         self.process.wait()

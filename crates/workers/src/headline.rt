@@ -26,14 +26,14 @@ use std::thread::Threads;
 
 /// Serves all clients and loads the feeds that they order, as [`run_workers`] does, at shelves without a lock.
 ///
-/// This contract is the headline of the program. Each clause is one name of `specs/Headline.antt` or `Sessions`:
+/// This contract is the headline of the program, in names of `specs/Headline.antt` and `Sessions`:
 ///
 /// - `ready`: 1 to 16 seats and the loader's are of these shelves.
 /// - `closes`: a client's reader and writer may be closed in any state in which a session at one of these seats may
 ///   leave them, with that session's end. A reader or writer can't be dropped, so each is closed in the end.
-/// - `left`: no further client comes, and what held of their source holds still; the seats are of these shelves. In
-///   any one state of the table that has the loader and a seat, the histories that `loaded` and `served` speak of are
-///   beginnings of one. After an `Err`, either no client was taken from the source, or no further one comes; of
+/// - `left`: no further client comes, and what held of their source holds still; the seats are of these shelves. By a
+///   law, in any one state of the table that has the loader and a seat, the histories that `loaded` and `served` speak
+///   of are beginnings of one. After an `Err`, either no client was taken from the source, or no further one comes; of
 ///   sessions nothing is said then.
 /// - `served`: each client who came was dealt to exactly one worker and had one session at its seat, unless it couldn't
 ///   be opened. Each line that was read has its reply, up to where the session ended. If the seat held nothing at
