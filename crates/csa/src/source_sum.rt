@@ -2,4 +2,4 @@
 
 /// The sum of all sources but this file, as `release/sources --program` prints it. `release/stamp` writes it, and
 /// `.ci/run` compares it with the sources.
-pub const SOURCES: &str = "b28e801456862e867b64a0f7c568863b811e2c732bf95162b81ab4b315cd5159";
+pub const SOURCES: &str = "9f41d77bcf5138fa91cf27e993d39b184b4ae1a065e96f3777dfe0dcbdc4d11b";

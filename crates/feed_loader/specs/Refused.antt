@@ -85,8 +85,8 @@ pub record AreFootpathsRefused (feed : Feed) (plan : Plan) (fault : LoadFault) :
   pub listed_are : AreFeedPaths feed listed
   pub too_large : IsFault listed MAX_FOOTPATHS MAX_WALK_SECS refusal
 
--- memory ran out while an image was made of a joined feed: 23 comes only once the stops are counted, 43 once the names are known, 76 once the image is
--- written
+-- memory ran out while an image was made of a joined feed: 23 comes only once the stops are counted, 43 only if the feed has names that fit, 76 only if
+-- it has an image
 abbrev pub RanOut : Feed → Plan → LoadFault → Type 0
 RanOut feed plan (faults.Table fault) = fault.kind ≡ kinds.OutOfMemory
 RanOut feed plan (faults.Day fault) = (fault ≡ days.OutOfMemory) × (length feed.stops.items ≤ MAX_STOPS)
