@@ -15,7 +15,6 @@ by_arrival = record {
   no_worse = nat_le;
   list_order = nat_cmp;
   admits = λ v. nat_lt v time_limit;
-  is_total = true;
 }
 
 abbrev pub arrival_figures : ℕ → Figures
@@ -30,7 +29,6 @@ by_trips = record {
   no_worse = λ v w. nat_le v.time w.time && nat_le v.trips w.trips;
   list_order = λ v w. ordering_then (nat_cmp v.time w.time) (nat_cmp v.trips w.trips);
   admits = λ v. nat_lt v.time time_limit && nat_le v.trips 65535;
-  is_total = false;
 }
 
 abbrev pub trips_figures : TimeTrips → Figures
@@ -45,7 +43,6 @@ by_walking = record {
   no_worse = λ v w. nat_le v.time w.time && (nat_le v.trips w.trips && nat_le v.walked w.walked);
   list_order = λ v w. ordering_then (nat_cmp v.time w.time) (ordering_then (nat_cmp v.trips w.trips) (nat_cmp v.walked w.walked));
   admits = λ v. nat_lt v.time time_limit && (nat_le v.trips 65535 && nat_le v.walked 4294967295);
-  is_total = false;
 }
 
 abbrev pub walking_figures : TimeTripsWalk → Figures

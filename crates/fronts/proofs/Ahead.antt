@@ -55,11 +55,9 @@ module _ {V : Type 0} (rules : Rules V) (ride : RiddenLabel V) where
         late = late;
         keeps = record {
           boarded = boardings_none rules boarding (ride ∷ []) steps [] refl;
-          few = omega arith;
           fresh = λ p h. absurd (not_in_nil p h);
           all = one_walked boarding.secs (front entries items after) [] (inr low);
         };
-        alone = λ says. omega arith;
       } in
       takes_none rules laws entries items head boarding after (ride ∷ []) steps [] known refl
 
@@ -94,13 +92,11 @@ module _ {V : Type 0} (rules : Rules V) (laws : Laws rules) (entries : List (Fro
           late = late_here;
           keeps = record {
             boarded = m.0;
-            few = omega arith;
             fresh = λ p h. subst (λ (z : Item V). betters rules (front entries items head) z.value ≡ false)
                 (sym (contains_only (record { departure = boarding.departure; value = v; tag = length steps }) p h)) fresh;
             all = one_walked rules ride boarding.secs (front entries items head) (value_kept (length steps))
                 (inl (subst (Betters rules (value_kept (length steps))) worth m.2));
           };
-          alone = λ says. omega arith;
         }
 
     known_one : AreWalked rules entries items head boarding head (ride ∷ []) new

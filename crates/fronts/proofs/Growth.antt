@@ -43,7 +43,6 @@ are_more rules entries old new are ext = record {
   never = are.never;
   back = are.back;
   within = λ m e at. let old_within = are.within m e at in let grows = extends_long old new ext in omega arith;
-  alone = are.alone;
   each = λ m.
       subst (λ ps. IsLinked rules (departure_of entries m) (next_of entries m)
       (departure_of entries (next_of entries m)) ps (front entries new (next_of entries m)))

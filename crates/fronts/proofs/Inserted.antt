@@ -10,7 +10,6 @@ use Rattle.fronts.specs.declared.entry.Step.{Step}
 use Rattle.fronts.specs.Front.{front, next_of, departure_of, points_from, Betters, Covers, Extends}
 use Rattle.fronts.specs.Entries.{AreEntries}
 use Rattle.fronts.specs.Putting.{IsLate, IsPath, DepartBefore, CoversAll, MayPut, IsUnion}
-use Rattle.fronts.specs.Labels.{SaysTotal}
 use Rattle.fronts.specs.Walking.{MayInsert, AreKept, TakesBoardings}
 use Rattle.fronts.proofs.Growth.{extends_long, same_points, same_departure, same_next}
 use Rattle.fronts.proofs.Joining.{joined_here}
@@ -57,25 +56,23 @@ pub record AreWalked {V : Type 0} (rules : Rules V) (entries : List (FrontEntry 
   pub may : MayInsert rules entries items head boarding.secs ridden
   pub late : IsLate entries items head boarding.departure after
   pub keeps : AreKept rules (front entries items after) steps boarding ridden kept
-  pub alone : SaysTotal rules → length kept ≤ 1
 
 -- the same, where the list was passed and the values were walked in what was read of it
 pub walked : {V : Type 0} (rules : Rules V) (entries : List (FrontEntry V)) (items : List (Item V))
     (head : ℕ) (boarding : Boarding) (after : ℕ) (ridden : List (RiddenLabel V)) (steps : List Step) (kept : List (Item V))
     (passed met : List (FrontEntry V)) (passed_items met_items : List (Item V))
     → passed ≡ entries → passed_items ≡ items → met ≡ entries → met_items ≡ items
-    → MayInsert rules entries items head boarding.secs ridden → (SaysTotal rules → length ridden ≤ 1)
+    → MayInsert rules entries items head boarding.secs ridden
     → IsLate passed passed_items head boarding.departure after
     → AreKept rules (front met met_items after) steps boarding ridden kept
     → AreWalked rules entries items head boarding after ridden steps kept
 walked {V} rules entries items head boarding after ridden steps kept passed met passed_items met_items
-    passed_is passed_items_is met_is met_items_is may few late keeps = record {
+    passed_is passed_items_is met_is met_items_is may late keeps = record {
       may = may;
       late = subst (λ es. IsLate es items head boarding.departure after) passed_is
           (subst (λ ps. IsLate passed ps head boarding.departure after) passed_items_is late);
       keeps = subst (λ es. AreKept rules (front es items after) steps boarding ridden kept) met_is
           (subst (λ ps. AreKept rules (front met ps after) steps boarding ridden kept) met_items_is keeps);
-      alone = λ says. let most = few says in let fewer = keeps.few in omega arith;
     }
 
 module _ {V : Type 0} (rules : Rules V) (laws : Laws rules) (entries : List (FrontEntry V)) (items : List (Item V))
@@ -119,7 +116,6 @@ module _ {V : Type 0} (rules : Rules V) (laws : Laws rules) (entries : List (Fro
     departs = λ p h. (are.keeps.boarded p h).departs;
     admitted = kept_admitted;
     fresh = are.keeps.fresh;
-    alone = are.alone;
   }
 
   pub takes_covers : (two : List (FrontEntry V)) (two_items : List (Item V)) (put : List (Item V)) → Extends entries two

@@ -11,20 +11,11 @@ use Rattle.fronts.specs.Front.{front, next_of, departure_of, points_from, Better
 use Rattle.fronts.specs.Entries.{AreEntries}
 use Rattle.fronts.specs.Putting.{betters, left_by, CoversAll, MayPut, IsUnion, MayJoin}
 use Rattle.fronts.proofs.Growth.{same_points, same_next}
-use Rattle.fronts.proofs.Points.{of_front, of_next, front_or_next, front_betters_all, front_few, points_admitted}
+use Rattle.fronts.proofs.Points.{of_front, of_next, front_or_next, front_betters_all, points_admitted}
 use Rattle.fronts.proofs.OnePut.{betters_some}
 
 betters_from : {V : Type 0} (rules : Rules V) (points : List (Item V)) (v : V) → Betters rules points v → betters rules points v ≡ true
 betters_from {V} rules points v (p, h, w) = list_any-from_Any (λ (q : Item V). rules.no_worse q.value v) points (h.0, p, h.1, h.2, w)
-
--- of at most one, at most one passes
-few_pass : {X : Type 0} (test : X → Bool) (xs : List X) → length xs ≤ 1 → length (filter test xs) ≤ 1
-few_pass test [] few = omega arith
-few_pass {X} test (x ∷ []) few = elim (cases_Bool (test x)) [
-  | inl t ↦ subst (λ b. length {A = X} (cond b (x ∷ []) []) ≤ 1) (sym t) (omega arith)
-  | inr f ↦ subst (λ b. length {A = X} (cond b (x ∷ []) []) ≤ 1) (sym f) (omega arith)
-]
-few_pass test (x ∷ y ∷ xs) few = absurd (omega arith)
 
 module _ {V : Type 0} (rules : Rules V) (laws : Laws rules) (entries : List (FrontEntry V)) (items : List (Item V))
     (from index : ℕ) (may : MayJoin rules entries items from index)
@@ -106,9 +97,6 @@ module _ {V : Type 0} (rules : Rules V) (laws : Laws rules) (entries : List (Fro
     departs = λ p h. (kept_is p h).1;
     admitted = λ p h. (may.sound.each from).admitted p (kept_is p h).0;
     fresh = kept_fresh;
-    alone = λ says. subst (λ ps. length ps ≤ 1) (sym is)
-        (few_pass (λ (q : Item V). not (betters rules (front entries items index) q.value)) (front entries items from)
-        (front_few rules entries items may.sound says from));
   }
 
   -- what is kept is put before the list

@@ -8,8 +8,6 @@ pub mod OnePut
 pub mod Joining
 pub mod Walks
 pub mod Inserted
-pub mod Each
 pub mod Mapped
 pub mod Runs
-pub mod Slots
 pub mod Ahead

@@ -13,7 +13,6 @@ use Rattle.fronts.specs.declared.entry.RiddenLabel.{RiddenLabel}
 use Rattle.fronts.specs.declared.entry.Step.{Step}
 use Rattle.fronts.specs.Front.{own, front, points_from, Covers}
 use Rattle.fronts.specs.Entries.{AreEntries}
-use Rattle.fronts.specs.Labels.{SaysTotal}
 use Rattle.fronts.specs.Putting.{IsLate}
 use Rattle.fronts.specs.Walking.{TakesBoardings}
 use Rattle.fronts.specs.declared.front_lists.FrontLists.{FrontLists}
@@ -69,18 +68,6 @@ module _ {V : Type 0} where
     takes = takes_points (rules_of (lists_criterion old)) (steps_of new) boarding ridden
         (points_from (entries_of old) (items_of old) head) (points_from (entries_of new) (items_of new) taken) takes.1;
   }
-
-  -- under a total order a front is one point
-  pub one_point : (rules : Rules V) (entries : List (FrontEntry V)) (items : List (Item V))
-      → AreEntries rules entries items → SaysTotal rules → (m : ℕ) → 0 < m → m < length entries
-      → 1 ≡ length (map point_of (front entries items m))
-  one_point rules entries items are says m some lt = elim (slice_get_cases entries m).1 [
-    | inl s ↦
-        let e = s.0 in
-        ap (λ n. length (map point_of (own e ∷ take n (drop e.rest items)))) (sym (are.alone says m e s.2))
-        ∙ sym (ap (λ ps. length (map point_of ps)) (front_at entries items m e some lt (sym s.3)))
-    | inr o ↦ (let past = o.0 in absurd (omega arith))
-  ]
 
   pub points_made_of : (rules : Rules V) (laws : Laws rules) (entries : List (FrontEntry V)) (items : List (Item V))
       → AreEntries rules entries items → (head time m : ℕ) → IsLate entries items head time m

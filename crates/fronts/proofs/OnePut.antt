@@ -11,7 +11,6 @@ use Rattle.fronts.specs.declared.entry.Item.{Item}
 use Rattle.fronts.specs.declared.entry.FrontEntry.{FrontEntry}
 use Rattle.fronts.specs.Front.{own, front, next_in, next_of, departure_in, departure_of, points_from, Betters, Extends}
 use Rattle.fronts.specs.Entries.{IsLinked, AreEntries, AreMore}
-use Rattle.fronts.specs.Labels.{SaysTotal}
 use Rattle.fronts.specs.Putting.{betters, outdoes_alone, left_by, MayPut, IsPut, IsUnion, IsJoined, Follows}
 use Rattle.fronts.proofs.Growth.{same_points}
 use Rattle.fronts.proofs.Points.{of_front, of_next, front_or_next, unrolled, next_within, departs_at, next_at, first_betters, rest_betters}
@@ -39,31 +38,6 @@ none_left rules x [] out = refl
 none_left rules x (p ∷ []) out = ap (λ b. cond (not (b || false)) (p ∷ []) []) out
 none_left rules x (p ∷ q ∷ points) out = absurd (true≢false (sym out))
 
--- under a total order, a point that none of a list betters leaves nothing of it
-leaves_none : {V : Type 0} (rules : Rules V) → Laws rules → SaysTotal rules → (x : Item V) → Admits rules x.value
-    → (points : List (Item V)) → ((p : Item V) → Contains points p → Admits rules p.value)
-    → betters rules points x.value ≡ false → left_by rules (x ∷ []) points ≡ []
-leaves_none rules laws says x fair [] admitted fresh = refl
-leaves_none rules laws says x fair (p ∷ ps) admitted fresh = elim (cases_Bool (rules.no_worse p.value x.value)) [
-  | inl t ↦ absurd (true≢false (sym (first_betters rules (p ∷ ps) ps p x.value refl t) ∙ fresh))
-  | inr f ↦
-      let over = laws.total says p.value x.value (admitted p (contains_first p ps)) fair f in
-      ap (λ b. cond (not (b || false)) (p ∷ left_by rules (x ∷ []) ps) (left_by rules (x ∷ []) ps)) over
-      ∙ leaves_none rules laws says x fair ps (λ q h. admitted q (contains_rest q p ps h))
-      (sym (rest_betters rules (p ∷ ps) ps p x.value refl f) ∙ fresh)
-]
-
--- under a total order nothing is put beside the point
-put_alone : {V : Type 0} (rules : Rules V) → Laws rules → (entries : List (FrontEntry V)) (items : List (Item V))
-    → AreEntries rules entries items → (departure m : ℕ) (points : List (Item V))
-    → MayPut rules entries items departure m points → SaysTotal rules
-    → drop 1 points ++ left_by rules points (front entries items m) ≡ []
-put_alone rules laws entries items are departure m [] may says = let some = may.some in absurd (omega arith)
-put_alone rules laws entries items are departure m (x ∷ []) may says =
-    leaves_none rules laws says x (may.admitted x (contains_first x [])) (front entries items m) (are.each m).admitted
-    (may.fresh x (contains_first x []))
-put_alone rules laws entries items are departure m (x ∷ y ∷ ps) may says = let few = may.alone says in absurd (omega arith)
-
 -- what is put
 module _ {V : Type 0} (rules : Rules V) (laws : Laws rules) (entries : List (FrontEntry V)) (items more : List (Item V))
     (are : AreEntries rules entries items) (departure m : ℕ) (points : List (Item V))
@@ -72,7 +46,7 @@ module _ {V : Type 0} (rules : Rules V) (laws : Laws rules) (entries : List (Fro
     (follows : Follows (departure_of entries m) (next_of entries m) m departure e.next)
     (filled : more ≡ items ++ (drop 1 points ++ left_by rules points (front entries items m)))
     (part : take e.count (drop e.rest more) ≡ drop 1 points ++ left_by rules points (front entries items m))
-    (room : e.rest + e.count ≤ length more) (alone : SaysTotal rules → e.count ≡ 0) where
+    (room : e.rest + e.count ≤ length more) where
   pub put_extends : Extends items more
   put_extends = (drop 1 points ++ left_by rules points (front entries items m), filled)
 
@@ -162,7 +136,7 @@ module _ {V : Type 0} (rules : Rules V) (laws : Laws rules) (entries : List (Fro
 
   pub put_are : AreEntries rules (entries ++ e ∷ []) more
   put_are =
-      pushed rules entries items more are put_extends e room put_next alone
+      pushed rules entries items more are put_extends e room put_next
       (subst (λ d. IsLinked rules d e.next (departure_of entries e.next) (own e ∷ take e.count (drop e.rest more)) (front entries items e.next)) (sym departs)
       (subst (λ ps. IsLinked rules departure e.next (departure_of entries e.next) ps (front entries items e.next)) (sym put_whole) put_linked))
 
@@ -255,21 +229,21 @@ is_put : {V : Type 0} (rules : Rules V) (laws : Laws rules) (entries : List (Fro
     → Follows (departure_of entries m) (next_of entries m) m departure e.next
     → more ≡ items ++ (drop 1 points ++ left_by rules points (front entries items m))
     → take e.count (drop e.rest more) ≡ drop 1 points ++ left_by rules points (front entries items m)
-    → e.rest + e.count ≤ length more → (SaysTotal rules → e.count ≡ 0) → (now : List (FrontEntry V)) (index : ℕ)
+    → e.rest + e.count ≤ length more → (now : List (FrontEntry V)) (index : ℕ)
     → now ≡ entries ++ e ∷ [] → index ≡ length entries
     → IsPut rules entries now items more departure m points index
-is_put {V} rules laws entries items more departure m points may e first departs f filled part room alone now index pushed_is index_is =
+is_put {V} rules laws entries items more departure m points may e first departs f filled part room now index pushed_is index_is =
     subst (λ n. IsPut rules entries now items more departure m points n) (sym index_is)
     (subst (λ (es : List (FrontEntry V)). IsPut rules entries es items more departure m points (length entries)) (sym pushed_is) (record {
-      departs = put_departs rules laws entries items more may.sound departure m points may e first departs f filled part room alone;
+      departs = put_departs rules laws entries items more may.sound departure m points may e first departs f filled part room;
       joined = record {
         more_are = record {
-          sound = put_are rules laws entries items more may.sound departure m points may e first departs f filled part room alone;
+          sound = put_are rules laws entries items more may.sound departure m points may e first departs f filled part room;
           entries_more = (e ∷ [], refl);
           items_more = (_, filled);
         };
-        within = put_within rules laws entries items more may.sound departure m points may e first departs f filled part room alone;
-        union = put_union rules laws entries items more may.sound departure m points may e first departs f filled part room alone;
+        within = put_within rules laws entries items more may.sound departure m points may e first departs f filled part room;
+        union = put_union rules laws entries items more may.sound departure m points may e first departs f filled part room;
       };
     }))
 
@@ -285,7 +259,7 @@ put_one {V} rules laws entries now items m index x e after may out own_is rest c
     let f = follows_at entries m x.departure e.next after may.within after_is follows in
     is_put rules laws entries items items x.departure m (x ∷ []) may e (ap (λ z. z ∷ []) own_is)
     (ap (λ (z : Item V). z.departure) own_is) f (sym (append-nil items) ∙ ap (λ xs. items ++ xs) (sym left))
-    (ap (λ n. take n (drop e.rest items)) count ∙ sym left) (omega arith) (λ says. count) now index pushed_is index_is
+    (ap (λ n. take n (drop e.rest items)) count ∙ sym left) (omega arith) now index pushed_is index_is
 
 -- all that the code does, at the end
 pub put_all : {V : Type 0} (rules : Rules V) (laws : Laws rules) (entries read now : List (FrontEntry V))
@@ -309,10 +283,7 @@ put_all {V} rules laws entries read now items more departure m index points e af
     ++ (drop 1 points ++ left_by rules points (front es items m))) same in
     let part = part_pushed items more (drop 1 points ++ left_by rules points (front entries items m)) e.rest e.count filled_here rest count in
     is_put rules laws entries items more departure m points may e first departs f filled_here part (omega arith)
-    (λ says. let none : length more ≡ length items = ap length (filled_here
-    ∙ ap (λ xs. items ++ xs) (put_alone rules laws entries items may.sound departure m points may says) ∙ append-nil items) in
-    omega arith) now index
-    pushed_is index_is
+    now index pushed_is index_is
   where
     item : ℕ → V → ℕ → Item V
     item d v t = record { departure = d; value = v; tag = t }

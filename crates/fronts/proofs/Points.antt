@@ -10,7 +10,6 @@ use Rattle.fronts.specs.declared.entry.Item.{Item}
 use Rattle.fronts.specs.declared.entry.FrontEntry.{FrontEntry}
 use Rattle.fronts.specs.Front.{own, front_of, front, next_in, departure_in, next_of, departure_of, points_to, points_from, Betters}
 use Rattle.fronts.specs.Entries.{AreEntries}
-use Rattle.fronts.specs.Labels.{SaysTotal}
 use Rattle.fronts.specs.Putting.{IsLate, betters, outdoes_alone}
 
 -- on the way to the first late entry
@@ -143,16 +142,6 @@ module _ {V : Type 0} (rules : Rules V) (entries : List (FrontEntry V)) (items :
     λ p h late. front_betters_all laws m p (is.all p h late),
   )
 
-  -- under a total order a front is at most one point
-  pub front_few : SaysTotal rules → (m : ℕ) → length (front entries items m) ≤ 1
-  front_few says zero = omega arith
-  front_few says (suc m) = few_of (slice_get entries (suc m)) refl
-    where
-      few_of : (o : Option (FrontEntry V)) → slice_get entries (suc m) ≡ o → length (front_of items o) ≤ 1
-      few_of None at = omega arith
-      few_of (Some e) at =
-          subst (λ n. length (own e ∷ take n (drop e.rest items)) ≤ 1) (sym (are.alone says (suc m) e at)) (omega arith)
-
 -- an entry that is read, read once more
 pub read_again : {V : Type 0} (entries : List (FrontEntry V)) (m : ℕ) (e : FrontEntry V)
     → e ≡ get_or entries m e → get_or entries m e ≡ get_or entries m (get_or entries m e)
@@ -203,11 +192,6 @@ pub entry_part : {V : Type 0} (rules : Rules V) (entries : List (FrontEntry V)) 
     → AreEntries rules entries items → (m : ℕ) (e : FrontEntry V) → m < length entries → e ≡ get_or entries m e
     → e.rest + e.count ≤ length items
 entry_part rules entries items are m e lt is = are.within m e (slice_get-get_or entries m e lt ∙ ap Some (sym is))
-
-pub entry_alone : {V : Type 0} (rules : Rules V) (entries : List (FrontEntry V)) (items : List (Item V))
-    → AreEntries rules entries items → SaysTotal rules → (m : ℕ) (e : FrontEntry V) → m < length entries
-    → e ≡ get_or entries m e → e.count ≡ 0
-entry_alone rules entries items are says m e lt is = are.alone says m e (slice_get-get_or entries m e lt ∙ ap Some (sym is))
 
 pub entry_admitted : {V : Type 0} (rules : Rules V) (entries : List (FrontEntry V)) (items : List (Item V))
     → AreEntries rules entries items → (m : ℕ) (e : FrontEntry V) → 0 < m → m < length entries → e ≡ get_or entries m e

@@ -10,7 +10,6 @@ use Rattle.fronts.specs.declared.entry.Item.{Item}
 use Rattle.fronts.specs.declared.entry.FrontEntry.{FrontEntry}
 use Rattle.fronts.specs.Front.{own, front_of, front, next_in, next_of, departure_in, departure_of, Extends}
 use Rattle.fronts.specs.Entries.{IsLinked, IsEntry, AreEntries}
-use Rattle.fronts.specs.Labels.{SaysTotal}
 use Rattle.fronts.proofs.Growth.{extends_long, same_front, same_next, same_departure}
 use Rattle.fronts.proofs.Points.{next_within}
 
@@ -46,7 +45,7 @@ front_past entries items (suc m) at = ap (front_of items) at
 
 module _ {V : Type 0} (rules : Rules V) (entries : List (FrontEntry V)) (items more : List (Item V))
     (are : AreEntries rules entries items) (ext : Extends items more) (e : FrontEntry V)
-    (fits : e.rest + e.count ≤ length more) (next : e.next < length entries) (alone : SaysTotal rules → e.count ≡ 0)
+    (fits : e.rest + e.count ≤ length more) (next : e.next < length entries)
     (linked : IsLinked rules e.departure e.next (departure_of entries e.next) (own e ∷ take e.count (drop e.rest more)) (front entries items e.next)) where
   new : List (FrontEntry V)
   new = entries ++ e ∷ []
@@ -74,15 +73,6 @@ module _ {V : Type 0} (rules : Rules V) (entries : List (FrontEntry V)) (items m
               subst (λ (z : FrontEntry V). z.rest + z.count ≤ length more) same fits)
           | inr o ↦ elim o [
             | inl low ↦ (let old = are.within m f (sym (slice_get-front entries (e ∷ []) m low) ∙ at) in let grows = extends_long items more ext in omega arith)
-            | inr high ↦ (let lt = slice_get_within (entries ++ e ∷ []) m f at in absurd (omega arith))
-          ]
-        ];
-        alone = λ says m f at. elim (cases_order m (length entries)) [
-          | inl here ↦ (let same : e ≡ f = same_Some e f
-              (sym (ap (slice_get (entries ++ e ∷ [])) here ∙ slice_get-middle entries e []) ∙ at) in
-              subst (λ (z : FrontEntry V). z.count ≡ 0) same (alone says))
-          | inr o ↦ elim o [
-            | inl low ↦ are.alone says m f (sym (slice_get-front entries (e ∷ []) m low) ∙ at)
             | inr high ↦ (let lt = slice_get_within (entries ++ e ∷ []) m f at in absurd (omega arith))
           ]
         ];

@@ -9,9 +9,9 @@ use Rattle.std.proofs.lemmas.List.Elements.{Contains-append_cases, Contains-appe
 use Rattle.reasoning.proofs.ListLemmas.{from_filter}
 use Rattle.criteria.specs.Laws.{Rules, Admits}
 use Rattle.fronts.specs.declared.labels.Label.{Label}
-use Rattle.fronts.specs.declared.run_labels.LabelRun.{LabelRun}
-use Rattle.fronts.specs.RunLabels.{AreApart, AreRuns, AreRunLabels, ArePut, ArePartlyPut, labels_in, no_run, run_at}
-use Rattle.fronts.specs.declared.run_labels.RunLabels.{RunLabels}
+use Rattle.fronts.specs.declared.labels.LabelRun.{LabelRun}
+use Rattle.fronts.specs.Labels.{AreApart, AreRuns, AreLabels, ArePut, ArePartlyPut, labels_at, labels_in, no_run, run_at}
+use Rattle.fronts.specs.declared.labels.Labels.{Labels}
 use Rattle.fronts.specs.Offered.{others}
 use Rattle.fronts.proofs.Growth.{extends_long, same_part}
 
@@ -157,9 +157,9 @@ with_admitted rules labels run v label admitted fits l h = elim (Contains-push_c
 ]
 
 -- labels of trips where no run has changed, and of what was to be put at the end maybe not all is there
-pub runs_sound : {V : Type 0} (rules : Rules V) (old now : RunLabels V) (new : List (Label V)) → AreRunLabels rules old
+pub runs_sound : {V : Type 0} (rules : Rules V) (old now : Labels V) (new : List (Label V)) → AreLabels rules old
     → now.runs.items ≡ old.runs.items → ArePartlyPut old.labels.items new now.labels.items
-    → ((l : Label V) → Contains new l → Admits rules l.value) → AreRunLabels rules now
+    → ((l : Label V) → Contains new l → Admits rules l.value) → AreLabels rules now
 runs_sound rules old now new are same put fits =
     let grows = extends_long old.labels.items now.labels.items put.extends in
     record {
@@ -170,3 +170,10 @@ runs_sound rules old now new are same put fits =
       });
       admitted = λ l h. elim (put.only l h) [ inl was ↦ are.admitted l was | inr is ↦ fits l is ];
     }
+
+-- the labels of a trip are of values that the laws speak of
+pub labels_admitted : {V : Type 0} (rules : Rules V) (labels : Labels V) → AreLabels rules labels → (trip : ℕ) (l : Label V)
+    → Contains (labels_at labels trip) l → Admits rules l.value
+labels_admitted rules labels are trip l h =
+    let run = run_at labels.runs.items trip in
+    are.admitted l (in_part labels.labels.items run.first run.count l h)

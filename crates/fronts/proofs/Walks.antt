@@ -14,7 +14,6 @@ use Rattle.fronts.specs.declared.entry.RiddenLabel.{RiddenLabel}
 use Rattle.fronts.specs.declared.entry.Step.{Step}
 use Rattle.fronts.specs.Front.{Betters, Extends}
 use Rattle.fronts.specs.Entries.{IsEntry, AreEntries}
-use Rattle.fronts.specs.Labels.{SaysTotal}
 use Rattle.fronts.specs.Walking.{IsKept, IsBoarding, AreBoardings, AllWalked}
 use Rattle.fronts.proofs.Growth.{same_at}
 use Rattle.fronts.proofs.Pushing.{linked_none}
@@ -86,17 +85,12 @@ only_end {V} rules v = record {
   never = refl;
   back = λ m. omega arith;
   within = within;
-  alone = alone;
   each = each;
 }
   where
     within : (m : ℕ) (e : FrontEntry V) → slice_get (ending v ∷ []) m ≡ Some e → e.rest + e.count ≤ length {A = Item V} []
     within zero e at = (let same : ending v ≡ e = cc in subst (λ (z : FrontEntry V). z.rest + z.count ≤ 0) same (omega arith))
     within (suc m) e at = absurd cc
-
-    alone : SaysTotal rules → (m : ℕ) (e : FrontEntry V) → slice_get (ending v ∷ []) m ≡ Some e → e.count ≡ 0
-    alone says zero e at = (let same : ending v ≡ e = cc in subst (λ (z : FrontEntry V). z.count ≡ 0) same refl)
-    alone says (suc m) e at = absurd cc
 
     each : (m : ℕ) → IsEntry rules (ending v ∷ []) [] m
     each zero = linked_none rules 4294967295 4294967295

@@ -4,7 +4,6 @@ use Rattle.criteria.specs.Laws.{Rules, Admits}
 use Rattle.fronts.specs.declared.entry.Item.{Item}
 use Rattle.fronts.specs.declared.entry.FrontEntry.{FrontEntry}
 use Rattle.fronts.specs.Front.{front, next_of, departure_of, Betters, Extends}
-use Rattle.fronts.specs.Labels.{SaysTotal}
 
 -- an entry carries a front, given the next entry on its list, if there is one
 pub record IsLinked {V : Type 0} (rules : Rules V) (departure next later : ℕ)
@@ -33,8 +32,6 @@ pub record AreEntries {V : Type 0} (rules : Rules V) (entries : List (FrontEntry
   pub back : (m : ℕ) → next_of entries (suc m) ≤ m
   pub within : (m : ℕ) (e : FrontEntry V) → slice_get entries m ≡ Some e → e.rest + e.count ≤ length items
   pub each : (m : ℕ) → IsEntry rules entries items m
-  -- under a total order a front is the entry's own point
-  pub alone : SaysTotal rules → (m : ℕ) (e : FrontEntry V) → slice_get entries m ≡ Some e → e.count ≡ 0
 
 -- entries and items are only added, and all entries carry their fronts
 pub record AreMore {V : Type 0} (rules : Rules V) (entries : List (FrontEntry V)) (items : List (Item V))

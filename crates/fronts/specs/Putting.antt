@@ -7,7 +7,6 @@ use Rattle.fronts.specs.declared.entry.Item.{Item}
 use Rattle.fronts.specs.declared.entry.FrontEntry.{FrontEntry}
 use Rattle.fronts.specs.Front.{front, next_of, departure_of, points_from, Covers, Extends}
 use Rattle.fronts.specs.Entries.{AreEntries, AreMore}
-use Rattle.fronts.specs.Labels.{SaysTotal}
 
 -- whether a point of a list is no worse than v (an equal one counts)
 abbrev pub betters : {V : Type 0} → Rules V → List (Item V) → V → Bool
@@ -66,8 +65,6 @@ pub record MayPut {V : Type 0} (rules : Rules V) (entries : List (FrontEntry V))
   pub departs : (p : Item V) → Contains points p → p.departure ≡ departure
   pub admitted : (p : Item V) → Contains points p → Admits rules p.value
   pub fresh : (p : Item V) → Contains points p → betters rules (front entries items m) p.value ≡ false
-  -- under a total order there is only one
-  pub alone : SaysTotal rules → length points ≤ 1
 
 -- a list is made of two sets of points: each of its points is in one of them, and it covers all that they cover
 pub record IsUnion {V : Type 0} (rules : Rules V) (a b new : List (Item V)) : Type 0 where

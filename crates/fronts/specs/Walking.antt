@@ -49,7 +49,6 @@ pub record MayInsert {V : Type 0} (rules : Rules V) (entries : List (FrontEntry 
 pub record AreKept {V : Type 0} (rules : Rules V) (points : List (Item V)) (steps : List Step) (boarding : Boarding)
     (ridden : List (RiddenLabel V)) (kept : List (Item V)) : Type 0 where
   pub boarded : AreBoardings rules steps boarding ridden kept
-  pub few : length kept ≤ length ridden
   pub fresh : (p : Item V) → Contains kept p → betters rules points p.value ≡ false
   pub all : AllWalked rules points boarding.secs ridden (length ridden) kept
 

@@ -82,9 +82,6 @@ impl<C: Criterion> FrontLists<C> {
         if index == 0 {
             return 0;
         }
-        if self.criterion.is_total() {
-            return 1;
-        }
         let entry = self.entries[index as usize];
         entry.count as usize + 1
     }
@@ -126,9 +123,6 @@ impl<C: Criterion> FrontLists<C> {
         if ridden.len() == 1 {
             return self.insert_one(head, boarding, ridden[0]);
         }
-        if self.criterion.is_total() {
-            return self.take_each(head, boarding, ridden);
-        }
         insert(
             &self.criterion,
             &mut self.entries,
@@ -140,26 +134,6 @@ impl<C: Criterion> FrontLists<C> {
             boarding,
             ridden,
         )
-    }
-
-    // Takes the ridden values in, one after the other. Under a total criterion a trip has at most one, so this is rare.
-    #[inline(never)]
-    fn take_each(
-        &mut self,
-        head: u32,
-        boarding: Boarding,
-        ridden: &[RiddenLabel<C::V>],
-    ) -> Result<u32, AllocError>
-        requires may { MayTake C.rules self.old head boarding.secs ridden.now }
-        ensures more { AreMoreLists C.rules self.old self.new }
-        ensures taken { IfOk result (HasTaken C.rules boarding ridden.now self.old head self.new) }
-    {
-        let mut new = head;
-        for k in 0..ridden.len() {
-            let ride = ridden[k];
-            new = self.insert_one(new, boarding, ride)?;
-        }
-        Ok(new)
     }
 
     /// Takes one ridden value, after a footpath, into a list, as [`FrontLists::insert`] takes several.

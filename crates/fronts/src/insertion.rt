@@ -5,7 +5,6 @@ ghost use Rattle.fronts.specs.Front.{points_from, Extends};
 ghost use Rattle.fronts.specs.Entries.{AreMore};
 ghost use Rattle.fronts.specs.Putting.{HasJoined, IsJoined, MayJoin, MayJoinAll};
 ghost use Rattle.fronts.specs.Walking.{MayInsert, TakesBoardings};
-ghost use Rattle.fronts.specs.Labels.{SaysTotal};
 
 use crate::entry::{Arena, Boarding, FrontEntry, Item, RiddenLabel, Step};
 use crate::keeping::{keep_front, keep_walked};
@@ -83,7 +82,6 @@ pub fn insert<C: Criterion>(
     ridden: &[RiddenLabel<C::V>],
 ) -> Result<u32, AllocError>
     requires may { MayInsert (C.rules criterion.now) entries.old.items items.old.items head boarding.secs ridden.now }
-    requires few { SaysTotal (C.rules criterion.now) → length ridden.now ≤ 1 }
     ensures more { AreMore (C.rules criterion.now) entries.old.items items.old.items entries.new.items items.new.items }
     ensures steps { Extends steps.old.items steps.new.items }
     ensures takes { IfOk result (λ new. (new < length entries.new.items)

@@ -10,14 +10,12 @@ mod insertion;
 mod keeping;
 mod labels;
 mod putting;
-mod run_labels;
 mod search;
-mod slot_labels;
 mod valued;
 mod vectors;
 
 pub use entry::{Boarding, FrontEntry, Item, RiddenLabel, Step};
 pub use front_lists::FrontLists;
-pub use labels::{Label, Labels, label_count, labels_of, no_labels, offer_label};
+pub use labels::{Label, Labels, offer_label};
 pub use valued::{HasValue, some_no_worse};
 pub use vectors::{append, copies};

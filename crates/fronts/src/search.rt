@@ -30,7 +30,7 @@ pub fn front_betters<C: Criterion>(
     if criterion.no_worse(&entry.value, value) {
         return true;
     }
-    if criterion.is_total() {
+    if entry.count == 0 {
         return false;
     }
     some_no_worse(criterion, part(arena.items, entry.rest, entry.count), value)

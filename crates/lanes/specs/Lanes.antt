@@ -14,7 +14,6 @@ trip_rules = record {
   no_worse = λ v w. nat_le v.time w.time && nat_le v.trips w.trips;
   list_order = λ v w. ordering_then (nat_cmp v.time w.time) (nat_cmp v.trips w.trips);
   admits = λ v. nat_lt v.time time_limit && nat_le v.trips 65535;
-  is_total = false;
 }
 
 -- no time

@@ -33,7 +33,6 @@ arrival_rules = record {
   no_worse = nat_le;
   list_order = nat_cmp;
   admits = λ v. nat_lt v time_limit;
-  is_total = true;
 }
 
 abbrev pub arrival_rules_of : Arrival → Rules ℕ

@@ -16,7 +16,6 @@ both_rules a b = record {
   no_worse = λ v w. a.no_worse v.0 w.0 && b.no_worse v.1 w.1;
   list_order = λ v w. ordering_then (a.list_order v.0 w.0) (b.list_order v.1 w.1);
   admits = λ v. a.admits v.0 && b.admits v.1;
-  is_total = false;
 }
 
 not_less : {A : Type 0} → Greater ≡ Less → A
@@ -112,5 +111,4 @@ module _ {V W : Type 0} (a : Rules V) (b : Rules W) where
       order_chains = λ u v w x y z h k.
           chained u v w x y z (a.list_order u.0 v.0) (a.list_order v.0 w.0) refl refl h k;
       order_exact = exact;
-      total = λ says. absurd (false≢true says);
     }

@@ -7,7 +7,7 @@ ghost use Rattle.std.specs.Cmp.{nat_cmp_total};
 ghost use Rattle.std.proofs.lemmas.Bool.{le-leb, lt-ltb};
 ghost use Rattle.std.proofs.lemmas.Map.Lookups.{exact_unsigned};
 ghost use Rattle.criteria.specs.Laws.{time_limit};
-ghost use Rattle.criteria.specs.NumberLaws.{nat_le-refl, nat_le-trans, nat_le-antisymm, nat_le-turns};
+ghost use Rattle.criteria.specs.NumberLaws.{nat_le-refl, nat_le-trans, nat_le-antisymm};
 ghost use Rattle.tests_scan.specs.Bonus.{less_monotone, less_below};
 
 use super::images::image;
@@ -37,7 +37,6 @@ impl Criterion for WithBonus {
       no_worse = nat_le;
       list_order = nat_cmp;
       admits = λ v. nat_lt v time_limit;
-      is_total = true;
     } };
 
     fn arrive(&self, time: u32) -> u32 {
@@ -60,10 +59,6 @@ impl Criterion for WithBonus {
         value.cmp(other)
     }
 
-    fn is_total(&self) -> bool {
-        true
-    }
-
     ghost laws = { λ _. record {
       arrive_admits = λ time h. lt-ltb time time_limit h;
       ride_admits = λ v a. less_below 60 v time_limit a;
@@ -79,7 +74,6 @@ impl Criterion for WithBonus {
       order_turns = λ v w a b. nat_cmp_total.antisymm v w;
       order_chains = λ u v w a b c h k. nat_cmp_total.trans u v w h k;
       order_exact = λ v w a b h. exact_unsigned v w h;
-      total = λ _ v w _ _ h. nat_le-turns v w h;
     } };
 }
 

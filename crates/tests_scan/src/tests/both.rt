@@ -50,10 +50,6 @@ impl<A: Criterion, B: Criterion> Criterion for Both<A, B> {
         self.0.riding_worsens() && self.1.riding_worsens()
     }
 
-    fn is_total(&self) -> bool {
-        false
-    }
-
     ghost laws = { λ both. both_laws (A.rules both.0) (B.rules both.1) (A.laws both.0) (B.laws both.1) };
 }
 

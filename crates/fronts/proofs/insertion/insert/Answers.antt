@@ -32,7 +32,7 @@ known g c =
     walked (g.C.Criterion.rules c.args.criterion.now) c.args.entries.now.items c.args.items.now.items c.args.head
     c.args.boarding c.in_ok-after.after c.args.ridden.now c.keep_walked.new.steps.items c.keep_walked.new.kept.items
     c.deref.result.now c.deref-3.result.now c.deref-2.result.now c.deref-4.result.now c.deref.ensures.value
-    c.deref-2.ensures.value c.deref-3.ensures.value c.deref-4.ensures.value c.requires.may c.requires.few
+    c.deref-2.ensures.value c.deref-3.ensures.value c.deref-4.ensures.value c.requires.may
     c.in_ok-after.ensures.late c.in_ok-keep_walked.ensures.1
 
 -- the entries that are passed, as they stand before the put

@@ -1,5 +1,4 @@
 use Rattle.std.proofs.Common.{◌≡◌, length, Contains, false, inl, inr, ap, sym, ◌∙◌, subst, arith}
-use Rattle.std.proofs.lemmas.List.{length_push}
 use Rattle.std.proofs.lemmas.List.Elements.{Contains-push_cases}
 use Rattle.reasoning.proofs.ListLemmas.{extends_none, extends_on, not_in_nil}
 use Rattle.criteria.specs.Laws.{Admits}
@@ -17,7 +16,6 @@ loop-i-init g c = record {
   more = extends_none c.args.steps.now.items;
   boarded = boardings_none (g.C.Criterion.rules c.args.criterion.now) c.args.boarding c.args.ridden.now c.args.steps.now.items c.clear.new.self.items
       c.clear.ensures.items;
-  few = let none = ap length c.clear.ensures.items in omega arith;
   fresh = λ p h. absurd (not_in_nil p (subst (λ ps. Contains ps p) c.clear.ensures.items h));
   all = λ k d lt. absurd (omega arith);
 }
@@ -40,7 +38,6 @@ returns g c = (
   c.loop-i.invariant.more,
   record {
     boarded = c.loop-i.invariant.boarded;
-    few = let few = c.loop-i.invariant.few in omega arith;
     fresh = c.loop-i.invariant.fresh;
     all = λ k d lt. c.loop-i.invariant.all k d (omega arith);
   },
@@ -63,14 +60,6 @@ loop-i-preserved g c =
           rw (w.steps-is, w.kept-is) (record {
             more = extends_on c.args.steps.now.items c.loop-i.steps.items w.keep_value.new.steps.items inv.more (_, w.in_ok-keep_value.ensures.steps_more);
             boarded = m.0;
-            few = let more = ap length w.in_ok-keep_value.ensures.kept_more in
-                let pushed = length_push c.loop-i.kept.items (record {
-                  departure = c.args.boarding.departure;
-                  value = c.walk-value.result;
-                  tag = length c.loop-i.steps.items;
-                }) in
-                let few = inv.few in
-                omega arith;
             fresh = λ p h. elim (Contains-push_cases c.loop-i.kept.items (record {
               departure = c.args.boarding.departure;
               value = c.walk-value.result;
@@ -87,7 +76,6 @@ loop-i-preserved g c =
       | else-not-front_betters w ↦ rw (w.steps-is, w.kept-is) (record {
         more = inv.more;
         boarded = inv.boarded;
-        few = let few = inv.few in omega arith;
         fresh = inv.fresh;
         all = all_more rules c.args.boarding
             c.args.ridden.now points c.loop-i.kept.items c.loop-i.kept.items c.loop-i.i r

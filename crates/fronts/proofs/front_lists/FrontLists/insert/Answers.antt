@@ -1,11 +1,7 @@
 use Rattle.std.proofs.Common.{refl}
 use Rattle.fronts.proofs.Growth.{more_lists}
 use Rattle.fronts.proofs.Mapped.{taken_if_ok}
-use Rattle.fronts.proofs.Slots.{says_not}
 use Rattle.fronts.proofs.front_lists.FrontLists.insert.Goals as goal
-
-pub insert-requires-clause-few : goal.insert-requires-clause-few
-insert-requires-clause-few g c = λ says. absurd (says_not c.is_total.ensures c.if-is_total.false says)
 
 pub returns-clause-more : goal.returns-clause-more
 returns-clause-more g c = more_lists g.C.Criterion.rules c.args.self.now _ c.insert.ensures.more refl c.insert.ensures.steps

@@ -2,7 +2,7 @@ use Rattle.std.proofs.Common.{rules, ◌++◌, length, ap, ◌∙◌, arith}
 use Rattle.std.proofs.lemmas.Slice.{between_to_end}
 use Rattle.fronts.proofs.Leaving.{match_err}
 use Rattle.fronts.proofs.Runs.{end_puts, over_puts, put_twice}
-use Rattle.fronts.proofs.run_labels.put.Goals as goal
+use Rattle.fronts.proofs.labels.put.Goals as goal
 
 pub returns-then-count-run : goal.returns-then-count-run
 returns-then-count-run g c =

@@ -4,8 +4,8 @@ use Rattle.std.proofs.lemmas.List.Elements.{filter-append}
 use Rattle.criteria.specs.Laws.{Rules}
 use Rattle.fronts.specs.declared.labels.Label.{Label}
 use Rattle.fronts.specs.Offered.{others}
-use Rattle.fronts.proofs.run_labels.keep_others.Goals.{then-not-no_worse+in_ok-push, else-not-no_worse}
-use Rattle.fronts.proofs.run_labels.keep_others.Goals as goal
+use Rattle.fronts.proofs.labels.keep_others.Goals.{then-not-no_worse+in_ok-push, else-not-no_worse}
+use Rattle.fronts.proofs.labels.keep_others.Goals as goal
 
 -- one label more
 others_more : {V : Type 0} (rules : Rules V) (v : V) (labels : List (Label V)) (k : ℕ) (x : Label V) → k < length labels
