@@ -1,7 +1,6 @@
 -- Items as points.
-use Rattle.std.proofs.Common.{◌≡◌, ℕ, ◌<◌, ◌≤◌, true, List, [], ◌∷◌, length, take, drop, map, Contains, Result, Ok, Err, IfOk, inl, inr}
-use Rattle.std.proofs.Common.{sym, ◌∙◌, ap, subst, arith}
-use Rattle.std.proofs.lemmas.Option.{slice_get_cases}
+use Rattle.std.proofs.Common.{◌≡◌, ℕ, ◌<◌, ◌≤◌, true, List, [], ◌∷◌, length, map, Contains, Result, Ok, Err, IfOk, inl, inr}
+use Rattle.std.proofs.Common.{sym, subst}
 use Rattle.reasoning.proofs.ListLemmas.{contains_cases, contains_first, contains_rest, not_in_nil}
 use Rattle.criteria.specs.Laws.{Rules, Laws, Admits}
 use Rattle.bags.specs.declared.point.Point.{Point}
@@ -11,13 +10,13 @@ use Rattle.fronts.specs.declared.entry.Item.{Item}
 use Rattle.fronts.specs.declared.entry.FrontEntry.{FrontEntry}
 use Rattle.fronts.specs.declared.entry.RiddenLabel.{RiddenLabel}
 use Rattle.fronts.specs.declared.entry.Step.{Step}
-use Rattle.fronts.specs.Front.{own, front, points_from, Covers}
+use Rattle.fronts.specs.Front.{front, points_from, Covers}
 use Rattle.fronts.specs.Entries.{AreEntries}
 use Rattle.fronts.specs.Putting.{IsLate}
 use Rattle.fronts.specs.Walking.{TakesBoardings}
 use Rattle.fronts.specs.declared.front_lists.FrontLists.{FrontLists}
 use Rattle.fronts.specs.Lists.{point_of, lists_criterion, entries_of, items_of, steps_of, IsBettered, TakesRidden, HasTaken}
-use Rattle.fronts.proofs.Points.{front_at, front_from, points_admitted}
+use Rattle.fronts.proofs.Points.{front_from, points_admitted}
 
 module _ {V : Type 0} where
   pub into_points : (xs : List (Item V)) (x : Item V) → Contains xs x → Contains (map point_of xs) (point_of x)

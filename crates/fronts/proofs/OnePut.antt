@@ -5,7 +5,7 @@ use Rattle.std.proofs.Common.{length-append, append-nil, append_assoc, Result, O
 use Rattle.std.proofs.lemmas.Bool.{cases_Bool, true≢false}
 use Rattle.std.proofs.lemmas.List.{length_push, drop_at, take_all}
 use Rattle.std.proofs.lemmas.List.Elements.{Contains-append_left, Contains-append_right, Contains-append_cases}
-use Rattle.reasoning.proofs.ListLemmas.{from_filter, into_filter, one_passes, slice_get-middle, contains_first, contains_rest}
+use Rattle.reasoning.proofs.ListLemmas.{from_filter, into_filter, one_passes, slice_get-middle}
 use Rattle.criteria.specs.Laws.{Rules, Laws, Admits}
 use Rattle.fronts.specs.declared.entry.Item.{Item}
 use Rattle.fronts.specs.declared.entry.FrontEntry.{FrontEntry}
@@ -13,7 +13,7 @@ use Rattle.fronts.specs.Front.{own, front, next_in, next_of, departure_in, depar
 use Rattle.fronts.specs.Entries.{IsLinked, AreEntries, AreMore}
 use Rattle.fronts.specs.Putting.{betters, outdoes_alone, left_by, MayPut, IsPut, IsUnion, IsJoined, Follows}
 use Rattle.fronts.proofs.Growth.{same_points}
-use Rattle.fronts.proofs.Points.{of_front, of_next, front_or_next, unrolled, next_within, departs_at, next_at, first_betters, rest_betters}
+use Rattle.fronts.proofs.Points.{of_front, of_next, front_or_next, unrolled, next_within, departs_at, next_at}
 use Rattle.fronts.proofs.Pushing.{front_new, pushed}
 
 pub betters_some : {V : Type 0} (rules : Rules V) (points : List (Item V)) (v : V) → betters rules points v ≡ true → Betters rules points v

@@ -1,5 +1,5 @@
 -- Ridden values kept after a footpath, and what an insertion makes of a list.
-use Rattle.std.specs.Prelude.{◌≡◌, ◌⊎◌, ℕ, ◌<◌, ◌≤◌, false, List, [], ◌∷◌, ◌++◌, Contains, slice_get, slice_index_or, Some, length}
+use Rattle.std.specs.Prelude.{◌≡◌, ◌⊎◌, ℕ, ◌<◌, false, List, [], ◌∷◌, ◌++◌, Contains, slice_get, slice_index_or, Some, length}
 use Rattle.criteria.specs.Laws.{Rules, Admits, IsSecs}
 use Rattle.fronts.specs.declared.entry.Boarding.{Boarding}
 use Rattle.fronts.specs.declared.entry.FrontEntry.{FrontEntry}

@@ -1,4 +1,4 @@
-use Rattle.std.proofs.Common.{◌≡◌, length, Contains, false, inl, inr, ap, sym, ◌∙◌, subst, arith}
+use Rattle.std.proofs.Common.{◌≡◌, length, Contains, false, inl, inr, sym, ◌∙◌, subst, arith}
 use Rattle.std.proofs.lemmas.List.Elements.{Contains-push_cases}
 use Rattle.reasoning.proofs.ListLemmas.{extends_none, extends_on, not_in_nil}
 use Rattle.criteria.specs.Laws.{Admits}

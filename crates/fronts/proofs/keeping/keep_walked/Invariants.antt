@@ -1,4 +1,4 @@
-use Rattle.std.proofs.Common.{◌≡◌, ◌≤◌, length, Contains, false}
+use Rattle.std.proofs.Common.{◌≡◌, Contains, false}
 use Rattle.fronts.specs.declared.entry.Item.{Item}
 use Rattle.fronts.specs.Front.{front, Extends}
 use Rattle.fronts.specs.Putting.{betters}
