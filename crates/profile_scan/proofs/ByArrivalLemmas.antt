@@ -1,13 +1,14 @@
 -- What is kept by arrival alone takes offers in.
 use Rattle.std.proofs.Common.{◌≡◌, ◌⊎◌, ℕ, zero, suc, ◌+◌, ◌-◌, ◌<◌, ◌≤◌, List, []}
 use Rattle.std.proofs.Common.{◌∷◌, ◌++◌, length, replicate, set, take, drop, Contains, slice_get, slice_index, ◌↔◌}
-use Rattle.std.proofs.Common.{true, false, nat_le, nat_lt, min, Option, Some, None, inl, inr, refl, sym, ap, ◌∙◌, subst, arith}
+use Rattle.std.proofs.Common.{get_or, true, false, nat_le, nat_lt, min, Option, Some, None, inl, inr, refl, sym, ap, ◌∙◌, subst, arith}
 use Rattle.std.specs.Global.{Vec}
 use Rattle.std.specs.Vec.{with_item}
 use Rattle.std.proofs.lemmas.Bool.{cases_Bool, cases_eq, cases_lt, le-leb, leb-true, lt-ltb, ltb-true, true≢false}
-use Rattle.std.proofs.lemmas.List.{get_or_past, length-replicate, length-set, nil_from_length}
+use Rattle.std.proofs.lemmas.List.{get_or_past, length-replicate, length-set, take_more}
+use Rattle.std.proofs.lemmas.List.Elements.{Contains-append_left, Contains-push, Contains-push_cases}
 use Rattle.std.proofs.lemmas.List.Folds.{list_any_at}
-use Rattle.std.proofs.lemmas.Option.{none-some, same_Some, slice_get_cases, slice_get_within}
+use Rattle.std.proofs.lemmas.Option.{none-some, same_Some, slice_get_cases, slice_get_within, slice_get-get_or}
 use Rattle.timetable.proofs.LegalLemmas.{At-Contains, Contains-At}
 use Rattle.reasoning.proofs.ListLemmas.{contains_first, contains_only, extends_one}
 use Rattle.reasoning.proofs.ListLemmas.{not_in_nil, slice_get-replicate-is, slice_get-set_other, slice_get-set_same}
@@ -28,7 +29,7 @@ use Rattle.fronts.specs.declared.entry.RiddenLabel.{RiddenLabel}
 use Rattle.fronts.specs.declared.front_lists.FrontLists.{FrontLists}
 use Rattle.fronts.specs.declared.labels.Label.{Label}
 use Rattle.fronts.proofs.Growth.{extends_long, same_lists}
-use Rattle.fronts.proofs.Mapped.{list_admitted, one_point, points_bettered, points_made_of}
+use Rattle.fronts.proofs.Mapped.{list_admitted, points_bettered, points_made_of}
 use Rattle.profile_scan.specs.ScanState.{final_walk_in}
 use Rattle.profile_scan.specs.SetQuery.{SetQueryValue}
 use Rattle.profile_scan.specs.Values.{started}
@@ -64,12 +65,6 @@ still_like kept are = record { are = are; stops = refl; trips = refl; bound = re
 
 pub like_then : (old mid new : ByArrival) → IsLikeByArrival old mid → IsLikeByArrival mid new → IsLikeByArrival old new
 like_then old mid new a b = record { are = b.are; stops = b.stops ∙ a.stops; trips = b.trips ∙ a.trips; bound = b.bound ∙ a.bound }
-
--- the only item of a list
-only_one : {X : Type 0} (xs : List X) (x : X) → 1 ≡ length xs → slice_get xs 0 ≡ Some x → xs ≡ x ∷ []
-only_one [] x long at = absurd (omega (arith, long))
-only_one (y ∷ []) x long at = ap (λ z. z ∷ []) (same_Some y x at)
-only_one (y ∷ z ∷ zs) x long at = absurd (omega (arith, long))
 
 -- the label of a trip
 module _ (l : Label ℕ) where
@@ -261,27 +256,39 @@ is_first lists sound f within shows = record {
   best = best_of_front lists f.head 0 f.head f (whole_list lists sound f.head within) shows;
 }
 
--- the front of an entry is at most one point
-pub shows_none : (lists : FrontLists Arrival ℕ) (entry : ℕ) (f : FirstPoint) → length (front_at lists entry) ≡ 0 → never ≤ f.time
-    → ShowsFront (front_at lists entry) f
-shows_none lists entry f long none = record {
-  only = λ lt. absurd (omega (arith, lt, none));
-  least = λ p is. absurd (not_in_nil p (subst (λ ps. Contains ps p) (nil_from_length (front_at lists entry) long) is));
-}
+-- of no points, none is shown
+pub shows_none : (front : List (Point ℕ)) (f : FirstPoint) → never ≤ f.time → ShowsFront (take 0 front) f
+shows_none front f none = record { only = λ lt. absurd (omega (arith, lt, none)); least = λ p is. absurd (not_in_nil p is) }
 
-pub shows_one : (lists : FrontLists Arrival ℕ) → IsSound arrival_rules_of lists → (entry : ℕ) (f : FirstPoint) (p : Point ℕ)
-    → entry < length (entries_of lists) → slice_get (front_at lists entry) 0 ≡ Some p → p ≡ as_point f → ShowsFront (front_at lists entry) f
-shows_one lists sound zero f p within at is = absurd (none-some p at)
-shows_one lists sound (suc m) f p within at is =
-    let one = only_one (front_at lists (suc m)) p
-    (one_point arrival_rules (entries_of lists) (items_of lists) sound refl (suc m) (omega arith) within) at in
-    record {
-      only = λ lt. subst (λ ps. Contains ps (as_point f)) (sym one) (subst (λ q. Contains (p ∷ []) q) is (contains_first p []));
-      least = λ q h.
-          let same : q ≡ p = contains_only p q (subst (λ ps. Contains ps q) one h) in
-          let value : q.value ≡ f.time = ap (λ (x : Point ℕ). x.value) (same ∙ is) in
-          omega (arith, value);
-    }
+-- one point more
+module _ (front : List (Point ℕ)) (k : ℕ) (p : Point ℕ) (at : slice_get front k ≡ Some p) where
+  more_are : take (k + 1) front ≡ take k front ++ p ∷ []
+  more_are = let lt = slice_get_within front k p at in
+      take_more front k p lt
+      ∙ ap (λ x. take k front ++ x ∷ []) (same_Some (get_or front k p) p (sym (slice_get-get_or front k p lt) ∙ at))
+
+  -- it is no better than what is shown
+  pub shows_still : (f : FirstPoint) → f.time ≤ p.value → ShowsFront (take k front) f → ShowsFront (take (k + 1) front) f
+  shows_still f late shows = subst (λ ps. ShowsFront ps f) (sym more_are) (record {
+    only = λ lt. Contains-append_left (take k front) (p ∷ []) (as_point f) (shows.only lt);
+    least = λ q h. elim (Contains-push_cases (take k front) p q h) [
+      | inl was ↦ shows.least q was
+      | inr e ↦ (let value : p.value ≡ q.value = ap (λ (x : Point ℕ). x.value) e in omega (arith, late, value))
+    ];
+  })
+
+  -- or better, and is shown
+  pub shows_better : (f new : FirstPoint) → p ≡ as_point new → p.value < f.time → ShowsFront (take k front) f
+      → ShowsFront (take (k + 1) front) new
+  shows_better f new is early shows =
+      let value : p.value ≡ new.time = ap (λ (x : Point ℕ). x.value) is in
+      subst (λ ps. ShowsFront ps new) (sym more_are) (record {
+        only = λ lt. subst (Contains (take k front ++ p ∷ [])) is (Contains-push (take k front) p);
+        least = λ q h. elim (Contains-push_cases (take k front) p q h) [
+          | inl was ↦ (let low = shows.least q was in omega (arith, low, early, value))
+          | inr e ↦ (let same : p.value ≡ q.value = ap (λ (x : Point ℕ). x.value) e in omega (arith, same, value))
+        ];
+      })
 
 -- one changes to no point that isn't news, and to the best
 module _ (hop : Hop ℕ) (old : ByArrival) (are : AreByArrival old) (excludes : BoundExcludes hop.bound.now old) (first : FirstPoint)

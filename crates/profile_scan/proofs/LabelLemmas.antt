@@ -10,7 +10,7 @@ use Rattle.fronts.specs.declared.labels.Label.{Label}
 use Rattle.fronts.specs.declared.labels.Labels.{Labels}
 use Rattle.fronts.specs.Labels.{AreLabels, labels_at}
 use Rattle.fronts.specs.Offered.{is_beaten, others}
-use Rattle.fronts.proofs.Slots.{labels_admitted}
+use Rattle.fronts.proofs.Runs.{labels_admitted}
 use Rattle.profile_scan.specs.Steps.{TakesIn}
 use Rattle.profile_scan.specs.Adding.{IsRelabelled, label_points, one_way, only_if, trip_points}
 

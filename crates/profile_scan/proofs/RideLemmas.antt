@@ -84,35 +84,6 @@ module _ {V : Type 0} (rules : Rules V) (values : List V) (labels : List (Point 
     each = λ l h. let in_labels = from_survivors rules values labels l h in is.each l (all_stand labels n l long in_labels.0) in_labels.1;
   }
 
--- a list of one element
-pub one_alone : {X : Type 0} (xs : List X) (x : X) → length xs ≡ 1 → x ≡ get_or xs 0 x → xs ≡ x ∷ []
-one_alone [] x long is = absurd (omega arith)
-one_alone (y ∷ []) x long is = ap (λ z. z ∷ []) (sym is)
-one_alone (y ∷ z ∷ zs) x long is = absurd (omega arith)
-
--- what holds of the only element
-pub of_only : {X : Type 0} (P : X → Type 0) (x : X) → P x → (y : X) → Contains (x ∷ []) y → P y
-of_only P x holds y h = elim (Contains-push_cases [] x y h) [ inl n ↦ absurd (not_in_nil y n) | inr e ↦ subst P e holds ]
-
--- one label alone
-module _ {V : Type 0} (rules : Rules V) (values : List V) (x : Point V) where
-  pub alone_ridden : (r : RiddenLabel V) → any_no_worse rules values r.value ≡ false → r.value ≡ rules.ride x.value
-      → r.label ≡ x.tag → AreRidden rules (survivors rules values (x ∷ [])) (r ∷ [])
-  alone_ridden r free worth label =
-      ridden_all rules values (x ∷ []) (0 + 1) (r ∷ []) (omega arith)
-      (ridden_more rules values (x ∷ []) 0 x [] (r ∷ []) refl (rides_one rules values x r [] (r ∷ []) free worth label refl)
-      (ridden_none rules values (x ∷ []) [] refl))
-
-  pub alone_bettered : (v : V) → v ≡ rules.ride x.value → any_no_worse rules values v ≡ true
-      → AreRidden rules (survivors rules values (x ∷ [])) []
-  alone_bettered v worth bettered =
-      ridden_all rules values (x ∷ []) (0 + 1) [] (omega arith)
-      (ridden_more rules values (x ∷ []) 0 x [] [] refl (rides_none rules values x v [] worth bettered)
-      (ridden_none rules values (x ∷ []) [] refl))
-
-  pub alone_admitted : Admits rules x.value → (p : Point V) → Contains (survivors rules values (x ∷ [])) p → Admits rules p.value
-  alone_admitted fair p h = of_only (λ (z : Point V). Admits rules z.value) x fair p (from_survivors rules values (x ∷ []) p h).0
-
 -- boarding connection `first` after the footpath at an index
 abbrev pub by_walk : ℕ → ℕ → ℕ → Footpath → Boarding
 by_walk departure first place walk = record { departure = departure; first = first; walk = place; secs = walk.secs }

@@ -1,6 +1,6 @@
 -- The rules of arrival and trips keep the laws.
 use Rattle.std.proofs.Common.{◌+◌, nat_le}
-use Rattle.std.proofs.lemmas.Bool.{le-leb, and_from, false≢true}
+use Rattle.std.proofs.lemmas.Bool.{le-leb, and_from}
 use Rattle.criteria.specs.Laws.{Laws}
 use Rattle.criteria.specs.NumberLaws.{nat_le-refl}
 use Rattle.criteria.specs.TimeTripsLaws.{arrival_admitted, trips_admitted, no_worse-refl, no_worse-trans}
@@ -23,5 +23,4 @@ trip_laws = record {
   order_turns = λ v w a b. by_time_then_trips.antisymm v w;
   order_chains = λ u v w a b c h k. by_time_then_trips.trans u v w h k;
   order_exact = λ v w a b h. tied_parts v w h;
-  total = λ says. absurd (false≢true says);
 }

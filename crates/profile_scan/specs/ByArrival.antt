@@ -80,7 +80,7 @@ pub record IsBestFrom (points : List (Point ℕ)) (time : ℕ) (best : FirstPoin
   pub made_of : best.time < never → Contains points (as_point best) × (time ≤ best.departure) × IsTime best.time
   pub least : (p : Point ℕ) → Contains points p → time ≤ p.departure → best.time ≤ p.value
 
--- the only point of a front, if it has one
+-- the best point of a front, if it has one
 pub record ShowsFront (front : List (Point ℕ)) (first : FirstPoint) : Type 0 where
   pub only : first.time < never → Contains front (as_point first)
   pub least : (p : Point ℕ) → Contains front p → first.time ≤ p.value

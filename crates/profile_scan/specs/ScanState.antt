@@ -14,7 +14,6 @@ use Rattle.profile_scan.specs.Plain.{IsPlainOf}
 use Rattle.profile_scan.specs.Matching.{Matches, ScanValue, from_to}
 use Rattle.profile_scan.specs.Steps.{IsStep}
 use Rattle.profile_scan.specs.ScanRecords.{KeptValue, SourceValue, ScanRecords, scan_records, spelling_of}
-use Rattle.profile_scan.specs.declared.last_offers.LastOffer.{LastOffer}
 use Rattle.profile_scan.specs.declared.stops.Stops.{Stops}
 use Rattle.profile_scan.specs.declared.scan.State.{State}
 use Rattle.profile_scan.specs.declared.final_walks.FinalWalk.{FinalWalk}
@@ -25,26 +24,13 @@ use Rattle.profile_scan.specs.FinalWalkEntries.{is_walk}
 abbrev pub points_at : {K V : Type 0} → Stops K V → ℕ → List (Point V)
 points_at stops stop = list_points stops.lists (slice_index stops.heads.items stop)
 
--- a stop's `LastOffer` is right: for each time before `before`, its points have one that departs then or later and is no worse than `value`
-pub record IsLastOffer {V : Type 0} (rules : Rules V) (points : List (Point V)) (offered : LastOffer V) : Type 0 where
-  pub admitted : Admits rules offered.value
-  pub covers : (time : ℕ) → time < offered.before → IsCovered rules points time offered.value
-
--- the records of `count` stops that were offered nothing
-pub record AreNewOffers {V : Type 0} (rules : Rules V) (count : ℕ) (offers : List (LastOffer V)) : Type 0 where
-  pub long : length offers ≡ count
-  pub none : (k : ℕ) (offered : LastOffer V) → slice_get offers k ≡ Some offered → (offered.before ≡ 0) × Admits rules offered.value
-
--- `count` lists under a criterion, each with a right `LastOffer`
+-- `count` lists under a criterion
 pub record AreStops {K V : Type 0} (rules_of : K → Rules V) (criterion : K) (count : ℕ)
     (stops : Stops K V) : Type 0 where
   pub under : lists_criterion stops.lists ≡ criterion
   pub sound : IsSound rules_of stops.lists
   pub long : vec_len stops.heads ≡ count
   pub within : (stop : ℕ) → slice_index stops.heads.items stop < length (entries_of stops.lists)
-  pub many : length stops.offers.items ≡ count
-  pub offered : (stop : ℕ) (offered : LastOffer V) → slice_get stops.offers.items stop ≡ Some offered
-      → IsLastOffer (rules_of criterion) (points_at stops stop) offered
 
 -- the seconds of the footpath from a stop to the target, if there is one
 abbrev pub IsDirectSecs : TimetableValue → ℕ → ℕ → Option ℕ → Type 0

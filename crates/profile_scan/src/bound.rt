@@ -113,18 +113,7 @@ pub fn any_no_worse<C: Criterion>(criterion: &C, values: &[C::V], value: &C::V) 
     requires value { Admits (C.rules criterion.now) value.now }
     ensures { result ≡ any_no_worse (C.rules criterion.now) values.now value.now }
 {
-    if !criterion.is_total() {
-        return some_no_worse(criterion, values, value);
-    }
-    // Under a total criterion a bound has one value: of two values one is no worse than the other, and only that one is
-    // kept. But any list may be passed in, so the others, of which a bound has none, are searched too.
-    let Some((first, others)) = values.split_first() else {
-        return false;
-    };
-    if criterion.no_worse(first, value) {
-        return true;
-    }
-    some_no_worse(criterion, others, value)
+    some_no_worse(criterion, values, value)
 }
 
 // Drops each value that the given one is no worse than.

@@ -270,28 +270,32 @@ impl ByArrival {
     }
 }
 
-// The only point of an entry's front, if it has one, as the first of a list.
+// The best point of an entry's front, if it has one, as the first of a list. By arrival a front is one point, so the
+// loop ends after it.
 #[inline(always)]
 fn first_of(lists: &FrontLists<Arrival>, entry: u32) -> Result<FirstPoint, AllocError>
     requires { HasList arrival_rules_of lists.now entry }
     ensures { IfOk result (λ first. (first.head ≡ entry) × ShowsFront (front_at lists.now entry) first) }
 {
-    if lists.front_len(entry) == 0 {
-        return Ok(FirstPoint {
-            time: NEVER,
-            departure: NEVER,
-            tag: 0,
-            head: entry,
-        });
-    }
-    let point = lists.front_point(entry, 0);
-    let tag = number_of(point.tag)?;
-    Ok(FirstPoint {
-        time: point.value,
-        departure: point.departure,
-        tag,
+    let mut first = FirstPoint {
+        time: NEVER,
+        departure: NEVER,
+        tag: 0,
         head: entry,
-    })
+    };
+    for k in 0..lists.front_len(entry) {
+        let point = lists.front_point(entry, k);
+        if point.value < first.time {
+            let tag = number_of(point.tag)?;
+            first = FirstPoint {
+                time: point.value,
+                departure: point.departure,
+                tag,
+                head: entry,
+            };
+        }
+    }
+    Ok(first)
 }
 
 // The least of some values, or `NEVER` if there is none.

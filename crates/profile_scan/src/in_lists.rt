@@ -7,12 +7,11 @@ use crate::at_source::AtSource;
 use crate::final_walks::{FinalWalk, final_walk_of};
 use crate::hop::{Hop, ScanQuery};
 use crate::keeping::Keeping;
-use crate::last_offers::none_offered;
 use crate::scan_records::Exit;
 use crate::stops::Stops;
 use crate::trips::Trips;
 use criteria::Criterion;
-use fronts::{FrontLists, Step, label_count, labels_of, no_labels};
+use fronts::{FrontLists, Labels, Step};
 use sources::ConnSource;
 use std::alloc::{AllocError, Global};
 use timetable::Connection;
@@ -38,18 +37,16 @@ impl<C: Criterion> Keeping<C> for InLists<C> {
         trips: u32,
         expected: usize,
     ) -> Result<Self, AllocError> {
-        let labels = no_labels(alloc, criterion, trips)?;
+        let labels = Labels::new(alloc, trips)?;
         let exits = Vec::with_capacity(alloc, expected / 8)?;
         let lists = FrontLists::new(alloc, *criterion, expected)?;
         let heads = vec![in alloc; 0u32; stops as usize]?;
-        let offers = none_offered(alloc, criterion, stops as usize)?;
         let ridden = Vec::new(alloc);
         Ok(InLists {
             trips: Trips { labels, exits },
             stops: Stops {
                 lists,
                 heads,
-                offers,
                 ridden,
             },
         })
@@ -57,13 +54,13 @@ impl<C: Criterion> Keeping<C> for InLists<C> {
 
     // The stop is looked at first: few lead nowhere, but half of the trips have labels, and a branch on that is often
     // mispredicted.
-    fn is_idle(&self, asked: &ScanQuery<C>, connection: &Connection, entry: FinalWalk) -> bool {
+    fn is_idle(&self, _asked: &ScanQuery<C>, connection: &Connection, entry: FinalWalk) -> bool {
         let head = self.stops.head(connection.to);
         let nowhere = alighting_leads_nowhere(connection, entry, head);
         if !nowhere {
             return false;
         }
-        if label_count(&asked.criterion, &self.trips.labels, connection.trip) > 0 {
+        if self.trips.labels.count(connection.trip) > 0 {
             return false;
         }
         true
@@ -80,7 +77,7 @@ impl<C: Criterion> Keeping<C> for InLists<C> {
             self.trips.end(asked, hop)?;
             self.trips.change(asked, hop, &self.stops)?;
         }
-        let labels = labels_of(&asked.criterion, &self.trips.labels, hop.connection.trip);
+        let labels = self.trips.labels.of(hop.connection.trip);
         if labels.len() == 0 {
             return Ok(());
         }

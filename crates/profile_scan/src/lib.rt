@@ -27,9 +27,8 @@
 //!    stops that such footpaths lead to.
 //! 3. Board, if passengers may get on: for each footpath into the stop where the connection begins, its loop included,
 //!    `Stops::board` offers, to the stop where that footpath begins, points whose departure is the connection's less
-//!    the footpath's seconds (`board_walk`, and `board_walk_one` for a single value). It appends to the lists and
-//!    changes `heads`, `offers` and the scratch vector `ridden`; it reads the same labels and `hop.bound`, and never
-//!    the points found.
+//!    the footpath's seconds (`board_walk`). It appends to the lists and changes `heads` and the scratch vector
+//!    `ridden`; it reads the same labels and `hop.bound`, and never the points found.
 //!
 //! A leg is counted where its trip is boarded, in 2 and 3: a label's value doesn't include it.
 //!
@@ -94,7 +93,6 @@ mod in_lanes;
 mod in_lists;
 mod journey_nodes;
 mod keeping;
-mod last_offers;
 pub mod laws;
 mod nodes;
 mod origin;

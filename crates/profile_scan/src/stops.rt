@@ -1,8 +1,6 @@
 //! What a scan keeps for each stop: a list of points. Boarding a connection adds to it.
 
-use crate::bound::any_no_worse;
 use crate::hop::{Hop, ScanQuery};
-use crate::last_offers::LastOffer;
 use crate::riding::{number_of, ride_labels};
 use criteria::Criterion;
 use fronts::{Boarding, FrontLists, Label, RiddenLabel};
@@ -11,14 +9,13 @@ use std::alloc::AllocError;
 use std::ops::Range;
 use timetable::Footpath;
 
-/// For each stop the head of its list of points, and its `LastOffer`. A point's tag is the index in `lists` of its
-/// step: a footpath, the connection boarded after it, and the label by which one rides on.
+/// For each stop the head of its list of points. A point's tag is the index in `lists` of its step: a footpath, the
+/// connection boarded after it, and the label by which one rides on.
 #[derive(Drop)]
 pub struct Stops<C: Criterion> {
     pub lists: FrontLists<C>,
     pub heads: Vec<u32>,
-    pub offers: Vec<LastOffer<C::V>>,
-    // scratch memory of boarding a trip with several labels: their values with the ride, overwritten each time
+    // scratch memory of boarding: the values of a trip's labels with the ride, overwritten each time
     pub ridden: Vec<RiddenLabel<C::V>>,
 }
 
@@ -36,21 +33,6 @@ impl<C: Criterion> Stops<C> {
         ensures { result ≡ slice_index self.now.heads.items stop }
     {
         self.heads[stop as usize]
-    }
-
-    // Whether a stop's `LastOffer`, the last that `board_walk_one` made to it, shows that its list has a point no worse
-    // than `value` that departs at `time` or later. If not, the list may have one nonetheless.
-    #[inline(always)]
-    fn was_offered(&self, criterion: &C, stop: u32, time: u32, value: &C::V) -> bool
-        requires has { HasStop C.rules criterion.now stop self.now }
-        requires value { Admits (C.rules criterion.now) value.now }
-        ensures { result ≡ true → IsCovered (C.rules criterion.now) (points_at self.now stop) time value.now }
-    {
-        let offered = self.offers[stop as usize];
-        if time >= offered.before {
-            return false;
-        }
-        criterion.no_worse(&offered.value, value)
     }
 
     // Offers, for each ridden value, the point of taking a footpath and then boarding, to the list of the stop where
@@ -106,97 +88,6 @@ impl<C: Criterion> Stops<C> {
         Ok(())
     }
 
-    // Like `board_walk` for a single ridden value, unless the stop's `LastOffer` shows that its list covers the point.
-    // Only here is that record written.
-    #[inline(always)]
-    fn board_walk_one(
-        &mut self,
-        asked: &ScanQuery<C>,
-        hop: &Hop<C::V>,
-        walk_index: usize,
-        walk: Footpath,
-        ride: RiddenLabel<C::V>,
-    ) -> Result<(), AllocError>
-        requires { CanBoardAfter C.rules asked.now.criterion walk (ride ∷ []) self.old }
-        ensures { OnOk result (BoardsAfter C.rules asked.now.criterion (vec_len self.old.heads) hop.now walk_index walk
-            (ride ∷ []) self.old self.new) }
-    {
-        let dep = hop.connection.dep;
-        if walk.secs > dep {
-            return Ok(());
-        }
-        let value = asked.criterion.walk(walk.secs, &ride.value);
-        if self.was_offered(&asked.criterion, walk.from, dep - walk.secs, &value) {
-            return Ok(());
-        }
-        let number = number_of(walk_index)?;
-        let head = self.head(walk.from);
-        let boarding = Boarding {
-            departure: dep - walk.secs,
-            first: hop.place,
-            walk: number,
-            secs: walk.secs,
-        };
-        let new = self.lists.insert_one(head, boarding, ride)?;
-        self.heads[walk.from as usize] = new;
-        self.offers[walk.from as usize] = LastOffer {
-            before: (dep - walk.secs).saturating_add(1),
-            value,
-        };
-        Ok(())
-    }
-
-    // Goes over the footpaths at the indices `walks`, which lead to the stop where a connection begins, and boards with
-    // one ridden value after each.
-    #[inline(always)]
-    fn board_walks_one<S: ConnSource>(
-        &mut self,
-        asked: &ScanQuery<C>,
-        source: &S,
-        hop: &Hop<C::V>,
-        walks: Range<usize>,
-        ride: RiddenLabel<C::V>,
-    ) -> Result<(), AllocError>
-        requires { CanBoardAfterEach C.rules asked.now.criterion (S.timetable source.now)
-            walks.start walks.end hop.now (ride ∷ []) self.old }
-        ensures { OnOk result (BoardsAfterEach C.rules asked.now.criterion (S.timetable source.now)
-            walks.start walks.end hop.now (ride ∷ []) self.old self.new) }
-    {
-        for walk_index in walks.start..walks.end {
-            let walk = source.footpath_into(hop.connection.from as usize, walk_index);
-            self.board_walk_one(asked, hop, walk_index, walk, ride)?;
-        }
-        Ok(())
-    }
-
-    // Boards a connection with the only label of its trip, unless a value of `hop.bound` is no worse than the label's
-    // value with the ride.
-    #[inline(always)]
-    fn board_only_label<S: ConnSource>(
-        &mut self,
-        asked: &ScanQuery<C>,
-        source: &S,
-        hop: &Hop<C::V>,
-        label: &Label<C::V>,
-    ) -> Result<(), AllocError>
-        requires can { CanBoard C.rules (S.timetable source.now) asked.now hop.now (label.now ∷ []) self.old }
-        requires boards { hop.now.connection.board ≡ true }
-        ensures { OnOk result
-            (Boards C.rules asked.now.criterion (S.timetable source.now) hop.now (label.now ∷ []) self.old self.new) }
-    {
-        let value = asked.criterion.ride(&label.value);
-        if any_no_worse(&asked.criterion, hop.bound, &value) {
-            return Ok(());
-        }
-        let ride = RiddenLabel {
-            value,
-            label: label.tag,
-        };
-        let (begin, end) = source.walks_into(hop.connection.from as usize);
-        self.board_walks_one(asked, source, hop, begin..end, ride)?;
-        Ok(())
-    }
-
     /// Boards a connection, if passengers may get on there: offers to the list of each stop with a footpath there, for
     /// each label of the trip, the point of boarding with it, unless a value of `hop.bound` is no worse than the
     /// label's value with the ride.
@@ -215,15 +106,12 @@ impl<C: Criterion> Stops<C> {
         if !hop.connection.board {
             return Ok(());
         }
-        if labels.len() == 1 {
-            return self.board_only_label(asked, source, hop, &labels[0]);
-        }
         self.board_labels(asked, source, *hop, labels)
     }
 
-    // Does what `board` does for a connection where passengers may get on, whatever the number of labels. It goes over
-    // all of them and is large, so it is a call and never inlined. It takes the hop itself: one that is lent to a call
-    // is written to memory at each connection.
+    // Does what `board` does for a connection where passengers may get on. It goes over all labels and is large, so it
+    // is a call and never inlined. It takes the hop itself: one that is lent to a call is written to memory at each
+    // connection.
     #[inline(never)]
     fn board_labels<S: ConnSource>(
         &mut self,

@@ -23,7 +23,7 @@ use crate::set_query::SetQuery;
 use crate::stops::Stops;
 use bags::Point;
 use criteria::Criterion;
-use fronts::{Labels, append, labels_of, offer_label, some_no_worse};
+use fronts::{Labels, append, offer_label, some_no_worse};
 use std::alloc::AllocError;
 use timetable::{Connection, Footpath};
 
@@ -121,7 +121,7 @@ impl<C: Criterion> Trips<C> {
             (one_way 0 point.now.value (IsExit tags (Changes hop.now.place point.now.tag))))
             self.old self.new) }
     {
-        let labels = labels_of(&asked.criterion, &self.labels, hop.connection.trip);
+        let labels = self.labels.of(hop.connection.trip);
         if some_no_worse(&asked.criterion, labels, &point.value) {
             return Ok(());
         }

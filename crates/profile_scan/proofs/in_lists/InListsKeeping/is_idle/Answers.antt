@@ -10,11 +10,14 @@ use Rattle.profile_scan.proofs.in_lists.InListsKeeping.is_idle.Goals as goal
 pub head-head-requires : goal.head-head-requires
 head-head-requires g c = subst (λ (n : ℕ). c.args.connection.now.to < n) (sym c.requires.under.at_stops.long) c.requires.stop
 
-pub label_count-requires : goal.label_count-requires
-label_count-requires g c = record {
-  there = subst (λ (n : ℕ). c.args.connection.now.trip < n) (sym c.requires.under.long) c.requires.trip;
-  sound = c.requires.under.labels;
-}
+pub count-requires : goal.count-requires
+count-requires g c = (
+  g.C.Criterion.rules c.args._asked.now.criterion,
+  record {
+    there = subst (λ (n : ℕ). c.args.connection.now.trip < n) (sym c.requires.under.long) c.requires.trip;
+    sound = c.requires.under.labels;
+  },
+)
 
 pub returns : goal.returns
 returns g c is stops_are trips_are values under =
@@ -23,8 +26,8 @@ returns g c is stops_are trips_are values under =
     let cn = c.args.connection.now in
     let labels = c.args.self.now.trips.labels in
     let nothing = c.alighting_leads_nowhere-nowhere.ensures.0 c.if-not-nowhere.false in
-    let no_label : c.label_count.result ≡ 0 = omega (arith, c.if-label_count-gt0.false) in
-    let none = nil_from_length (labels_at labels cn.trip) (sym c.label_count.ensures ∙ no_label) in
+    let no_label : c.count.result ≡ 0 = omega (arith, c.if-count-gt0.false) in
+    let none = nil_from_length (labels_at labels cn.trip) (sym c.count.ensures ∙ no_label) in
     let empty = ap (map point_of) (none_at_end (g.C.Criterion.rules (lists_criterion lists)) (entries_of lists) (items_of lists)
     c.requires.under.at_stops.sound) in
     record {

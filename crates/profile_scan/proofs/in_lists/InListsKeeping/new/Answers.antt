@@ -15,7 +15,7 @@ returns g c =
     λ stop. ap (λ hs. slice_index hs stop) zeros ∙ slice_index-replicate c.args.stops stop in
     let new : InLists g.row.C.Denot g.row.C-V.Denot = record {
       trips = record { labels = c.in_ok-labels.labels; exits = c.in_ok-exits.exits };
-      stops = record { lists = lists; heads = c.in_ok-heads.heads; offers = c.in_ok-offers.offers; ridden = c.new-ridden.result };
+      stops = record { lists = lists; heads = c.in_ok-heads.heads; ridden = c.new-ridden.result };
     } in
     record {
       under = are_lists g.C.Criterion.rules c.args.criterion.now c.args.stops c.args.trips new (record {
@@ -23,10 +23,7 @@ returns g c =
         sound = c.in_ok-lists.ensures.sound;
         long = c.in_ok-heads.heads.ok.0 ∙ ap length zeros ∙ length-replicate {A = ℕ} c.args.stops 0;
         within = λ stop. subst (λ n. n < length (entries_of lists)) (sym (no_head stop)) c.in_ok-lists.ensures.sound.some;
-        many = c.in_ok-offers.ensures.long;
-        offered = λ stop offered at. let none = c.in_ok-offers.ensures.none stop offered at in
-            record { admitted = none.1; covers = λ time early. let impossible = none.0 in absurd (omega (arith, early, impossible)) };
-      }) c.in_ok-labels.ensures.long c.in_ok-labels.ensures.labels;
+      }) c.in_ok-labels.ensures.long (c.in_ok-labels.ensures.sound (g.C.Criterion.rules c.args.criterion.now));
       bags = λ stop. ap (list_points lists) (no_head stop) ∙ c.in_ok-lists.ensures.empty;
       labels = λ trip. ap label_points (c.in_ok-labels.ensures.none trip);
     }

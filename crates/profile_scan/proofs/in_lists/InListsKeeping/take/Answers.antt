@@ -17,7 +17,7 @@ use Rattle.profile_scan.proofs.LabelLemmas.{no_trip_points, trip_admitted}
 use Rattle.profile_scan.proofs.PartLemmas.{changes_on, hop_within, still_there}
 use Rattle.profile_scan.proofs.TakenInLists.{HasLeft, are_lists, gone_on, left_by, left_in_lists, left_none, none_goes_on}
 use Rattle.profile_scan.proofs.in_lists.InListsKeeping.take.Given as given
-use Rattle.profile_scan.proofs.in_lists.InListsKeeping.take.Goals.{After-labels_of-labels, Start, else-hop, then-hop+in_ok-end+in_ok-change}
+use Rattle.profile_scan.proofs.in_lists.InListsKeeping.take.Goals.{After-of-labels, Start, else-hop, then-hop+in_ok-end+in_ok-change}
 use Rattle.profile_scan.proofs.in_lists.InListsKeeping.take.Goals as goal
 
 within : (g : given.Over) (c : goal.Start g) → IsHop (g.C.Criterion.rules c.args.asked.now.criterion) (question c.args.asked.now.query) c.args.hop.now
@@ -53,20 +53,22 @@ change-requires g c =
       };
     }
 
-pub labels_of-labels-requires : goal.labels_of-labels-requires
-labels_of-labels-requires g c =
+pub of-labels-requires : goal.of-labels-requires
+of-labels-requires g c =
     let rules = g.C.Criterion.rules c.args.asked.now.criterion in
     let trip = c.args.hop.now.connection.trip in
-    let has = has_trip g (goal.at.labels_of-labels-requires g c).Start in
-    elim c.if-hop.branch [
-      | then-hop+in_ok-end+in_ok-change w ↦ subst (λ (s : InLists g.row.C.Denot g.row.C-V.Denot). HasTrip rules s.trips.labels trip) (sym w.self-is)
-          (still_there rules trip c.args.self.now.trips w.change.new.self has
-          (changes_on rules trip c.args.self.now.trips w.end.new.self w.change.new.self w.in_ok-end.ensures.trip w.in_ok-change.ensures.trip))
-      | else-hop w ↦ subst (λ (s : InLists g.row.C.Denot g.row.C-V.Denot). HasTrip rules s.trips.labels trip) (sym w.self-is) has
-    ]
+    let has = has_trip g (goal.at.of-labels-requires g c).Start in (
+      rules,
+      elim c.if-hop.branch [
+        | then-hop+in_ok-end+in_ok-change w ↦ subst (λ (s : InLists g.row.C.Denot g.row.C-V.Denot). HasTrip rules s.trips.labels trip) (sym w.self-is)
+            (still_there rules trip c.args.self.now.trips w.change.new.self has
+            (changes_on rules trip c.args.self.now.trips w.end.new.self w.change.new.self w.in_ok-end.ensures.trip w.in_ok-change.ensures.trip))
+        | else-hop w ↦ subst (λ (s : InLists g.row.C.Denot g.row.C-V.Denot). HasTrip rules s.trips.labels trip) (sym w.self-is) has
+      ],
+    )
 
 -- the trip is left, and nothing else has changed
-left : (g : given.Over) (c : goal.After-labels_of-labels g)
+left : (g : given.Over) (c : goal.After-of-labels g)
     → HasLeft (g.C.Criterion.rules c.args.asked.now.criterion) (question c.args.asked.now.query) c.args.hop.now c.args.self.now.stops
     c.args.self.now.trips c.if-hop.self.trips
     × (c.if-hop.self ≡ record { trips = c.if-hop.self.trips; stops = c.args.self.now.stops })
@@ -80,17 +82,17 @@ left g c =
     × (s ≡ record { trips = s.trips; stops = old.stops }) in
     elim c.if-hop.branch [
       | then-hop+in_ok-end+in_ok-change w ↦ subst Left (sym w.self-is) (
-        left_by rules laws q hop old.stops (within g (goal.at.After-labels_of-labels g c).Start) old.trips w.end.new.self w.change.new.self
+        left_by rules laws q hop old.stops (within g (goal.at.After-of-labels g c).Start) old.trips w.end.new.self w.change.new.self
             w.if-hop.true w.in_ok-end.ensures w.in_ok-change.ensures,
         refl,
       )
       | else-hop w ↦ subst Left (sym w.self-is) (
-        left_none rules laws q hop old.stops old.trips (has_trip g (goal.at.After-labels_of-labels g c).Start) w.if-hop.false,
+        left_none rules laws q hop old.stops old.trips (has_trip g (goal.at.After-of-labels g c).Start) w.if-hop.false,
         refl,
       )
     ]
 
-leaves : (g : given.Over) (c : goal.After-labels_of-labels g)
+leaves : (g : given.Over) (c : goal.After-of-labels g)
     → Leaves (g.C.Criterion.rules c.args.asked.now.criterion) (question c.args.asked.now.query) c.args.hop.now
     (value_in c.args.self.now) (value_in c.if-hop.self)
 leaves g c =
@@ -101,35 +103,35 @@ leaves g c =
     (sym is.1) (left_in_lists rules (question c.args.asked.now.query) c.args.hop.now old.stops old.trips c.if-hop.self.trips is.0)
 
 -- its labels are of values that the laws speak of
-admits : (g : given.Over) (c : goal.After-labels_of-labels g) (p : Point g.row.C-V.Denot)
-    → Contains (label_points c.labels_of-labels.result.now) p → Admits (g.C.Criterion.rules c.args.asked.now.criterion) p.value
+admits : (g : given.Over) (c : goal.After-of-labels g) (p : Point g.row.C-V.Denot)
+    → Contains (label_points c.of-labels.result.now) p → Admits (g.C.Criterion.rules c.args.asked.now.criterion) p.value
 admits g c =
     let rules = g.C.Criterion.rules c.args.asked.now.criterion in
     subst (λ (xs : List (Label g.row.C-V.Denot)). (p : Point g.row.C-V.Denot) → Contains (label_points xs) p → Admits rules p.value)
-    (sym c.labels_of-labels.ensures)
+    (sym c.of-labels.ensures)
     (trip_admitted rules c.if-hop.self.trips.labels (left g c).0.trip.labels.labels c.args.hop.now.connection.trip)
 
 pub set_out-requires : goal.set_out-requires
 set_out-requires g c = record {
   hop = c.requires.hop;
   under = c.requires.source;
-  labels = admits g (goal.at.set_out-requires g c).After-labels_of-labels;
+  labels = admits g (goal.at.set_out-requires g c).After-of-labels;
 }
 
 -- the stops are the old ones
-stops_are : (g : given.Over) (c : goal.After-labels_of-labels g)
+stops_are : (g : given.Over) (c : goal.After-of-labels g)
     → AreStops g.C.Criterion.rules c.args.asked.now.criterion (g.S.ConnSource.timetable c.args.source.now).stops c.if-hop.self.stops
 stops_are g c = subst (λ (s : InLists g.row.C.Denot g.row.C-V.Denot). AreStops g.C.Criterion.rules c.args.asked.now.criterion
     (g.S.ConnSource.timetable c.args.source.now).stops s.stops) (sym (left g c).1) c.requires.keeping.at_stops
 
 pub board-requires : goal.board-requires
 board-requires g c =
-    let point = (goal.at.board-requires g c).After-labels_of-labels in
+    let point = (goal.at.board-requires g c).After-of-labels in
     record { hop = c.requires.hop; stops = stops_are g point; labels = admits g point }
 
 pub returns : goal.returns
 returns g c =
-    let point = (goal.at.returns g c).After-labels_of-labels in
+    let point = (goal.at.returns g c).After-of-labels in
     let is = (left g point).0 in
     let rules = g.C.Criterion.rules c.args.asked.now.criterion in
     let t = g.S.ConnSource.timetable c.args.source.now in
@@ -148,17 +150,17 @@ returns g c =
           c.in_ok-set_out.ensures.set_outs
           (λ index. subst (λ (xs : List (Label g.row.C-V.Denot)). SourceTakes rules t.footpaths
           (λ tags. settings_out rules t (asked_from sources q index) tags hop.place (label_points xs))
-          (kept c.args.origin.now index) (kept c.set_out.new.self index)) c.labels_of-labels.ensures (c.in_ok-set_out.ensures.takes index))
+          (kept c.args.origin.now index) (kept c.set_out.new.self index)) c.of-labels.ensures (c.in_ok-set_out.ensures.takes index))
           c.in_ok-board.ensures.stops.steps
           (λ stop. subst (λ (xs : List (Label g.row.C-V.Denot)). StopTakes rules t.footpaths stop
           (λ tags. boardings rules t tags hop.place stop (survivors rules hop.bound.now (label_points xs))) mid.stops c.board.new.self)
-          c.labels_of-labels.ensures (c.in_ok-board.ensures.takes stop));
+          c.of-labels.ensures (c.in_ok-board.ensures.takes stop));
     }
 
 -- the trip has no labels
 pub returns-then-labels-eq0 : goal.returns-then-labels-eq0
 returns-then-labels-eq0 g c =
-    let point = (goal.at.returns-then-labels-eq0 g c).After-labels_of-labels in
+    let point = (goal.at.returns-then-labels-eq0 g c).After-of-labels in
     let is = (left g point).0 in
     let rules = g.C.Criterion.rules c.args.asked.now.criterion in
     let t = g.S.ConnSource.timetable c.args.source.now in
@@ -170,5 +172,5 @@ returns-then-labels-eq0 g c =
       between = value_in mid;
       leaves = leaves g point;
       goes_on = none_goes_on rules t g.O.AtSource.sources g.O.AtSource.kept (question c.args.asked.now.query) c.args.hop.now mid c.args.origin.now
-          (no_trip_points mid.trips.labels c.args.hop.now.connection.trip (ap length (sym c.labels_of-labels.ensures) ∙ c.if-labels-eq0.true));
+          (no_trip_points mid.trips.labels c.args.hop.now.connection.trip (ap length (sym c.of-labels.ensures) ∙ c.if-labels-eq0.true));
     }

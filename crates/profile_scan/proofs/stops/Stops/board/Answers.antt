@@ -1,4 +1,4 @@
-use Rattle.std.proofs.Common.{◌≡◌, false, OnOk, sym, ◌∙◌, subst}
+use Rattle.std.proofs.Common.{◌≡◌, false, sym, ◌∙◌, subst}
 use Rattle.std.proofs.lemmas.Bool.{true≢false}
 use Rattle.reasoning.proofs.ListLemmas.{extends_none}
 use Rattle.timetable.specs.declared.network.Connection.{Connection}
@@ -10,9 +10,7 @@ use Rattle.profile_scan.specs.Steps.{boardings}
 use Rattle.profile_scan.specs.Adding.{label_points}
 use Rattle.profile_scan.specs.Bound.{survivors}
 use Rattle.profile_scan.specs.ScanState.{points_at}
-use Rattle.profile_scan.specs.Parts.{AdmitsLabels, Boards}
 use Rattle.profile_scan.proofs.Offers.{takes_none}
-use Rattle.profile_scan.proofs.RideLemmas.{one_alone}
 use Rattle.profile_scan.proofs.stops.Stops.board.Goals as goal
 
 -- a connection that isn't boarded
@@ -32,19 +30,3 @@ returns-then-not-hop g c = record {
       (points_at c.args.self.now stop) (λ way may. true≢false (sym may.boards ∙ not_boarded c.args.hop.now.connection
       (connection_at (g.S.ConnSource.timetable c.args.source.now) c.args.hop.now.place) c.requires.hop.stands.is c.if-not-hop.true));
 }
-
--- the trip has one label alone
-pub board_only_label-requires-clause-can : goal.board_only_label-requires-clause-can
-board_only_label-requires-clause-can g c = record {
-  hop = c.requires.hop;
-  stops = c.requires.stops;
-  labels = subst (AdmitsLabels (g.C.Criterion.rules c.args.asked.now.criterion))
-      (one_alone c.args.labels.now c.index-labels-0.result c.if-labels-eq1.true c.index-labels-0.is) c.requires.labels;
-}
-
-pub returns-then-labels-eq1 : goal.returns-then-labels-eq1
-returns-then-labels-eq1 g c =
-    let only = one_alone c.args.labels.now c.index-labels-0.result c.if-labels-eq1.true c.index-labels-0.is in
-    subst (λ ls. OnOk c.board_only_label.result (Boards g.C.Criterion.rules c.args.asked.now.criterion
-    (g.S.ConnSource.timetable c.args.source.now) c.args.hop.now ls c.args.self.now c.board_only_label.new.self)) (sym only)
-    c.board_only_label.ensures

@@ -32,8 +32,6 @@ board_walks-requires g c =
           sound = c.requires.can.stops.sound;
           long = c.requires.can.stops.long;
           within = c.requires.can.stops.within;
-          many = c.requires.can.stops.many;
-          offered = c.requires.can.stops.offered;
         };
         ridden = ridden_admitted rules (survivors rules values labels) laws
             (λ p h. c.requires.can.labels p (from_survivors rules values labels p h).0) c.ride_labels.new.ridden.items
@@ -70,8 +68,6 @@ returns-then-len-eq0 g c = record {
               sound = c.requires.can.stops.sound;
               long = c.requires.can.stops.long;
               within = c.requires.can.stops.within;
-              many = c.requires.can.stops.many;
-              offered = c.requires.can.stops.offered;
             };
         steps = extends_none (steps_of c.args.self.now.lists);
       };

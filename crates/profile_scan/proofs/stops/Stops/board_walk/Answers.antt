@@ -5,7 +5,6 @@ use Rattle.fronts.proofs.Growth.{extends_long, same_lists}
 use Rattle.profile_scan.specs.ScanRecords.{scan_records, spelling_of}
 use Rattle.profile_scan.proofs.ScanRecordLemmas.{grows_on, steps_grow}
 use Rattle.profile_scan.proofs.StopLemmas.{heads_within}
-use Rattle.profile_scan.proofs.OfferedLemmas.{kept_under, offered_on}
 use Rattle.profile_scan.proofs.RideLemmas.{boarded_at, by_walk}
 use Rattle.profile_scan.specs.Matching.{from_to}
 use Rattle.profile_scan.specs.Adding.{boardings_after}
@@ -14,7 +13,6 @@ use Rattle.profile_scan.proofs.PartLemmas.{lists_none}
 use Rattle.profile_scan.specs.ScanState.{points_at}
 use Rattle.profile_scan.proofs.stops.Stops.board_walk.Goals as goal
 
--- what the stops were offered stays good
 pub returns : goal.returns
 returns g c =
     let rules_of = g.C.Criterion.rules in
@@ -29,8 +27,6 @@ returns g c =
     let within : walk.from < length heads.items = subst (λ n. walk.from < n) heads.ok.0 c.requires.stop in
     let same = same_lists rules_of lists new are.sound c.insert.ensures.more in
     let taken = c.in_ok-new.ensures.taken in
-    let kept = kept_under rules_of (lists_criterion lists) criterion are.under (list_points lists c.head-head.result)
-    (list_points new c.in_ok-new.new) taken.takes.kept in
     record {
       stops = record {
         stops = record {
@@ -39,10 +35,6 @@ returns g c =
           long = refl;
           within = heads_within heads.items walk.from c.in_ok-new.new bound (length (entries_of new)) are.within
               (extends_long (entries_of lists) (entries_of new) c.insert.ensures.more.entries) taken.within;
-          many = are.many;
-          offered = λ stop offered at.
-              offered_on (rules_of criterion) (list_points lists) (list_points new) heads.items bound are.within same walk.from
-              c.head-head.result c.in_ok-new.new c.head-head.ensures within kept stop offered (are.offered stop offered at);
         };
         steps = c.insert.ensures.more.steps;
         ridden = refl;

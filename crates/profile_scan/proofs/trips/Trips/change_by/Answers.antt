@@ -5,7 +5,7 @@ use Rattle.criteria.specs.Laws.{Admits}
 use Rattle.fronts.specs.declared.labels.Label.{Label}
 use Rattle.fronts.specs.Labels.{labels_at}
 use Rattle.fronts.specs.Offered.{is_beaten}
-use Rattle.fronts.proofs.Slots.{labels_admitted}
+use Rattle.fronts.proofs.Runs.{labels_admitted}
 use Rattle.profile_scan.specs.Bound.{any_no_worse}
 use Rattle.profile_scan.specs.Matching.{from_to}
 use Rattle.profile_scan.specs.ScanRecords.{IsExit, spelling_of}
@@ -19,7 +19,7 @@ use Rattle.profile_scan.proofs.trips.Trips.change_by.Goals as goal
 pub some_no_worse-requires-clause-points : goal.some_no_worse-requires-clause-points
 some_no_worse-requires-clause-points g c l h =
     labels_admitted (g.C.Criterion.rules c.args.asked.now.criterion) c.args.self.now.labels c.requires.can.trip.sound
-    c.args.hop.now.connection.trip l (subst (λ (ls : List (Label g.row.C-V.Denot)). Contains ls l) c.labels_of-labels.ensures h)
+    c.args.hop.now.connection.trip l (subst (λ (ls : List (Label g.row.C-V.Denot)). Contains ls l) c.of-labels.ensures h)
 
 pub returns-then-some_no_worse : goal.returns-then-some_no_worse
 returns-then-some_no_worse g c = record {
@@ -30,7 +30,7 @@ returns-then-some_no_worse g c = record {
       let rules = g.C.Criterion.rules c.args.asked.now.criterion in
       let p = c.args.point.now in
       let labels = labels_at c.args.self.now.labels c.args.hop.now.connection.trip in
-      let above = ap (λ (ls : List (Label g.row.C-V.Denot)). is_beaten rules ls p.value) (sym c.labels_of-labels.ensures)
+      let above = ap (λ (ls : List (Label g.row.C-V.Denot)). is_beaten rules ls p.value) (sym c.of-labels.ensures)
       ∙ sym c.some_no_worse.ensures ∙ c.if-some_no_worse.true in
       beaten_takes rules labels p.value (IsExit (from_to (spelling_of walks before) (spelling_of walks all)) (Changes c.args.hop.now.place p.tag))
       (any_no_worse rules c.args.hop.now.bound.now (rules.ride p.value) ≡ false) above;
