@@ -174,7 +174,7 @@ module _ (hop : Hop TimeTrips) (walk_index number : ℕ) (walk : Footpath) (old 
     }
 
 -- labels of a trip are admitted, also ridden
-lanes_admit : (trips : TripLanes) (trip : ℕ) (l : Point TimeTrips) → Contains (label_points (labels_at trips trip)) l
+pub lanes_admit : (trips : TripLanes) (trip : ℕ) (l : Point TimeTrips) → Contains (label_points (labels_at trips trip)) l
     → Admits trip_rules (trip_rules.ride l.value)
 lanes_admit trips trip l is =
     let m = from_map as_point (labels_at trips trip) l is in
