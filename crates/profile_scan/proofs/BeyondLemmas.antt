@@ -176,7 +176,7 @@ module _ (q : SetQueryValue) (hop : Hop TimeTrips) (old : ByTrips) (can : CanLea
   one_taken fits named =
       let olds = points_beyond old.beyond.labels.items trip in
       let news = points_beyond beyond.labels.items trip in
-      rear_takes trip_rules (λ _. ⊥) (one_way 0 value fits) (label_points (labels_at old.lanes.trips trip)) olds news
+      rear_takes trip_rules (label_points (labels_at old.lanes.trips trip))
       (takes_but trip_rules (λ _. ⊥) (one_way 0 value fits) olds news
       (subst (λ (ps : List (Point TimeTrips)). TakesIn trip_rules (one_way 0 value fits) ps news) (fills.labels trip)
       (inserted_takes trip_rules trip_laws (points_beyond filled.labels.items trip) news (record { departure = 0; value = value; tag = tag }) fits stands

@@ -40,9 +40,9 @@ use Rattle.profile_scan.proofs.BeyondLemmas.{label_is_bag, point_is_bag}
 use Rattle.profile_scan.proofs.KeptLemmas.{bags_all, bags_as, bags_beside, bags_closed, bags_first, bags_next, bags_none, bags_then}
 use Rattle.profile_scan.proofs.LaneOffers.{as_point}
 use Rattle.profile_scan.proofs.LanesBoarded.{lanes_admit, ride_admitted}
-use Rattle.profile_scan.proofs.Offers.{all_stand, but_as, inserted_takes, stands_in, takes_but, takes_if, takes_unless}
+use Rattle.profile_scan.proofs.Offers.{all_stand, but_as, each_more, inserted_takes, stands_in, takes_but, takes_if, takes_unless}
 use Rattle.profile_scan.proofs.ScanRecordLemmas.{grows_on, stays, step_spelled}
-use Rattle.profile_scan.proofs.Together.{boardings_both, each_more, rear_takes}
+use Rattle.profile_scan.proofs.Together.{boardings_both, rear_takes}
 use Rattle.profile_scan.proofs.TripLaws.{trip_laws}
 
 -- nothing changes
@@ -151,8 +151,7 @@ module _ (hop : Hop TimeTrips) (walk : Footpath) (boarding : Boarding) (label : 
     in_union tags named stop now same =
         subst (λ ps. TakesInBut trip_rules (λ _. Excludes trip_rules hop.bound.now label.value) (Offered tags stop) ((value_by_trips old).bag stop)
         (ps ++ points_beyond beyond.points.items stop)) (sym same)
-        (rear_takes trip_rules (λ _. Excludes trip_rules hop.bound.now label.value) (Offered tags stop) (points_at old.lanes.stops stop)
-        (points_beyond old.beyond.points.items stop) (points_beyond beyond.points.items stop) (at_stop tags named stop))
+        (rear_takes trip_rules (points_at old.lanes.stops stop) (at_stop tags named stop))
 
     pub label_falls : stands ≡ false → BoardsLabel (record { lanes = old.lanes; beyond = beyond })
     label_falls falls = record {
@@ -257,8 +256,8 @@ module _ (hop : Hop TimeTrips) (walk_index : ℕ) (walk : Footpath) (old : ByTri
         → BoardsBeyond (stops_of mid.lanes.stops) (trips_of mid.lanes.trips) hop (boards_label hop walk boarding label) mid new → BoardsSome hop walk boarding old (n + 1) new
     labels_next n label mid new at =
         boards_then (bags_then trip_rules (λ walks are. (are, are)) (λ stop tags.
-        each_more trip_rules Labels (boarding_of walk boarding stop tags) (λ l. Excused l.value) n label ((value_by_trips old).bag stop)
-        ((value_by_trips mid).bag stop) ((value_by_trips new).bag stop) at (λ l way is opened. ride_admitted l.value (labels_admitted l is))))
+        each_more trip_rules Labels (boarding_of walk boarding stop tags) (λ l. Excused l.value) n label at
+        (λ l way is opened. ride_admitted l.value (labels_admitted l is))))
 
     pub labels_all : (n : ℕ) (new : ByTrips) → length Labels ≤ n → boarding.walk ≡ walk_index → boarding.first ≡ hop.place
         → boarding.departure ≡ hop.connection.dep - walk.secs → walk.secs ≤ hop.connection.dep → BoardsSome hop walk boarding old n new
@@ -352,8 +351,7 @@ module _ (t : TimetableValue) (q : SetQueryValue) (known : Starts) (hop : Hop Ti
       → boards_all trip_rules t hop ((value_by_trips old).labels hop.connection.trip) (value_by_trips old) (value_by_trips new)
   both_boarded new =
       bags_then trip_rules (λ walks are. (are, are))
-      (λ stop tags. boardings_both trip_rules t (Excludes trip_rules hop.bound.now) tags hop.place stop Lane Rest ((value_by_trips old).bag stop)
-      ((value_by_trips mid).bag stop) ((value_by_trips new).bag stop)
+      (λ stop tags. boardings_both trip_rules t (Excludes trip_rules hop.bound.now) tags hop.place stop Lane Rest
       (λ way opened. lanes_admit old.lanes.trips hop.connection.trip way.label opened.is_label))
       (bags_beside trip_rules (points_beyond old.beyond.points.items) (points_beyond old.beyond.labels.items) first.takes)
 

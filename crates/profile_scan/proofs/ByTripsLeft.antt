@@ -32,8 +32,8 @@ use Rattle.profile_scan.specs.declared.scan_records.Exit.TheVariants.{Changes}
 use Rattle.profile_scan.proofs.BeyondLemmas.{point_is_bag}
 use Rattle.profile_scan.proofs.LaneOffers.{as_point}
 use Rattle.profile_scan.proofs.KeptLemmas.{labels_as, labels_beside, labels_none, labels_then, left}
-use Rattle.profile_scan.proofs.Offers.{all_stand, but_as, excused_as, stands_in}
-use Rattle.profile_scan.proofs.Together.{changes_both, each_more, with_missed}
+use Rattle.profile_scan.proofs.Offers.{all_stand, but_as, each_more, excused_as, stands_in}
+use Rattle.profile_scan.proofs.Together.{changes_both, with_missed}
 use Rattle.profile_scan.proofs.TripLaws.{trip_laws}
 
 -- what is taken in, seen as something else
@@ -177,8 +177,7 @@ module _ (q : SetQueryValue) (hop : Hop TimeTrips) (old : ByTrips) (can : CanLea
           one_then first
           (labels_then trip_rules (λ tags.
           with_missed (λ p. Excludes trip_rules values p.value) (λ p. IsBeatenByEight (front_at old.lanes.stops entry) p.value)
-          tags hop.place hop.connection.arr (points_at old.lanes.stops hop.connection.to) ((value_by_trips old).labels trip)
-          ((value_by_trips mid).labels trip) ((value_by_trips new).labels trip) stop_admits from.0 from.1 from.2 no_worse))
+          tags hop.place hop.connection.arr (points_at old.lanes.stops hop.connection.to) stop_admits from.0 from.1 from.2 no_worse))
           (subst (λ n. RelabelsByTrips values (LabelsTake trip_rules trip (λ _. ⊥)
           (λ tags. one_way 0 from.0.value (IsExit tags (Changes hop.place n)))) mid new)
           (step_is ∙ sym from.4)
@@ -229,9 +228,7 @@ module _ (q : SetQueryValue) (hop : Hop TimeTrips) (old : ByTrips) (can : CanLea
       → ChangesSome (n + 1) new
   changes_next n p mid new at before =
       one_then q hop old can before (labels_then trip_rules (λ tags.
-      each_more trip_rules Points (ChangeOf tags) (λ y. Excused y.value) n p ((value_by_trips old).labels hop.connection.trip)
-      ((value_by_trips mid).labels hop.connection.trip) ((value_by_trips new).labels hop.connection.trip) at
-      (λ y way is opened. points_admitted_beyond y is)))
+      each_more trip_rules Points (ChangeOf tags) (λ y. Excused y.value) n p at (λ y way is opened. points_admitted_beyond y is)))
 
   pub changes_all : (n : ℕ) (new : ByTrips) → length Points ≤ n → ChangesSome n new
       → RelabelsByTrips hop.bound.now (takes_changes trip_rules hop Points) old new
@@ -262,14 +259,12 @@ module _ (q : SetQueryValue) (hop : Hop TimeTrips) (old : ByTrips) (can : CanLea
       → RelabelsByTrips hop.bound.now (takes_changes trip_rules hop (points_beyond changed.beyond.points.items hop.connection.to)) changed new
       → LeavesByTrips q hop old new
   has_left alights ended changed new first second third =
-      let trip = hop.connection.trip in
       let can_change = still_can q hop old can first in
       let by_bags = subst (λ ps. RelabelsByTrips hop.bound.now (takes_changes trip_rules hop ps) changed new) (second.points hop.connection.to) third in
       let to_change : RelabelsByTrips hop.bound.now (takes_changes trip_rules hop ((value_by_trips ended).bag hop.connection.to)) ended new =
       one_then q hop ended can_change second (labels_then trip_rules (λ tags.
       changes_both trip_rules (λ p. Excused p.value) tags hop.place hop.connection.arr (points_at ended.lanes.stops hop.connection.to)
-      (points_beyond ended.beyond.points.items hop.connection.to) ((value_by_trips ended).labels trip) ((value_by_trips changed).labels trip)
-      ((value_by_trips new).labels trip) (stop_admits q hop ended can_change))) by_bags in
+      (points_beyond ended.beyond.points.items hop.connection.to) (stop_admits q hop ended can_change))) by_bags in
       let all : RelabelsByTrips hop.bound.now (Leaves trip_rules q hop) old new =
       one_then q hop old can first (left trip_rules trip_laws q hop can.hop alights) to_change in
       record { are = all.are; leaves = all.takes }

@@ -102,7 +102,6 @@ module _ {V : Type 0} (rules : Rules V) where
       let both : LabelsTake rules hop.connection.trip (NoChange (Excludes rules hop.bound.now)) (λ tags. only_if (hop.connection.alight ≡ true)
       (endings_and_changes rules tags hop.place hop.connection q way bag)) old new =
       labels_then (λ tags. ends_and_changes rules q hop.place hop.connection way (Excludes rules hop.bound.now) tags bag
-      (old.labels hop.connection.trip) (mid.labels hop.connection.trip) (new.labels hop.connection.trip)
       (λ walk. end_admits rules laws hop.connection q way walk within.arrival within.by within.secs) alights)
       ended (subst (λ ps. takes_changes rules hop ps mid new) (ended.bags hop.connection.to) changed) in
       record {
@@ -196,10 +195,10 @@ module _ {V : Type 0} (rules : Rules V) where
         → BagsTake rules (λ walks. slice_get walks k ≡ Some walk) Excused
         (λ stop tags. boardings_by rules tags hop.place hop.connection stop labels walk) mid new
         → After (k + 1) old new
-    bags_next k walk {old} {mid} {new} low at admits =
+    bags_next k walk low at admits =
         bags_then (λ walks are. (are, ap (λ ws. slice_get ws k) are ∙ at))
         (λ stop tags. but_more rules (StandsBetween t.footpaths begin k) (StandsBetween t.footpaths begin (k + 1))
-        (boardings_by rules tags hop.place hop.connection stop labels) Excused walk (old.bag stop) (mid.bag stop) (new.bag stop)
+        (boardings_by rules tags hop.place hop.connection stop labels) (λ _. Excused) walk
         (between_more t.footpaths begin k) (k, low, omega arith, at) (λ y. between_split t.footpaths begin k walk y at)
         (λ y label there opened. admits label opened.1 y (Contains-At t.footpaths there.0 y there.3)))
 
@@ -230,25 +229,23 @@ module _ {V : Type 0} (rules : Rules V) where
 
     pub labels_beside : {A : Type 0} {trip : ℕ} {Excused : A → Type 0} {offer : Spellings → Offer A V} {old new : KeptValue V}
         → LabelsTake rules trip Excused offer old new → LabelsTake rules trip Excused offer (beside old) (beside new)
-    labels_beside {trip = trip} {Excused = Excused} {offer = offer} {old = old} {new = new} taken = record {
+    labels_beside {trip = trip} taken = record {
       exits = taken.exits;
       steps = taken.steps;
       bags = λ stop. ap (λ ps. ps ++ points stop) (taken.bags stop);
       other_trips = λ k other. ap (λ ps. ps ++ labels k) (taken.other_trips k other);
       takes = λ walks set_outs before all first_grows then_grows.
-          front_takes rules Excused (offer (from_to (spelling_of walks before) (spelling_of walks all))) (old.labels trip) (new.labels trip) (labels trip)
-          (taken.takes walks set_outs before all first_grows then_grows);
+          front_takes rules (labels trip) (taken.takes walks set_outs before all first_grows then_grows);
     }
 
     pub bags_beside : {A : Type 0} {AreWalks : List Footpath → Type 0} {Excused : A → Type 0} {offer : ℕ → Spellings → Offer A V} {old new : KeptValue V}
         → BagsTake rules AreWalks Excused offer old new → BagsTake rules AreWalks Excused offer (beside old) (beside new)
-    bags_beside {Excused = Excused} {offer = offer} {old = old} {new = new} taken = record {
+    bags_beside taken = record {
       exits = taken.exits;
       steps = taken.steps;
       labels = λ trip. ap (λ ps. ps ++ labels trip) (taken.labels trip);
       takes = λ walks are stop set_outs before all first_grows then_grows.
-          front_takes rules Excused (offer stop (from_to (spelling_of walks before) (spelling_of walks all))) (old.bag stop) (new.bag stop) (points stop)
-          (taken.takes walks are stop set_outs before all first_grows then_grows);
+          front_takes rules (points stop) (taken.takes walks are stop set_outs before all first_grows then_grows);
     }
 
   module _ {O : Type 0} (t : TimetableValue) (sources : List ℕ → ℕ → List ℕ) (kept : O → ℕ → SourceValue V) (q : SetQueryValue) (hop : Hop V) where
