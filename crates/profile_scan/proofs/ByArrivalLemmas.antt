@@ -4,7 +4,7 @@ use Rattle.std.proofs.Common.{◌∷◌, ◌++◌, length, replicate, set, take,
 use Rattle.std.proofs.Common.{true, false, nat_le, nat_lt, min, Option, Some, None, inl, inr, refl, sym, ap, ◌∙◌, subst, arith}
 use Rattle.std.specs.Global.{Vec}
 use Rattle.std.specs.Vec.{with_item}
-use Rattle.std.proofs.lemmas.Bool.{cases_Bool, cases_eq, cases_lt, le-leb, leb-true, lt-ltb, ltb-true, true≢false}
+use Rattle.std.proofs.lemmas.Bool.{cases_Bool, cases_eq, cases_lt, le-leb, leb-true, lt-ltb, ltb-true}
 use Rattle.std.proofs.lemmas.List.{get_or_past, length-replicate, length-set, nil_from_length}
 use Rattle.std.proofs.lemmas.List.Folds.{list_any_at}
 use Rattle.std.proofs.lemmas.Option.{none-some, same_Some, slice_get_cases, slice_get_within}
@@ -36,7 +36,7 @@ use Rattle.profile_scan.specs.Points.{Covers}
 use Rattle.profile_scan.specs.Matching.{Spellings, from_to}
 use Rattle.profile_scan.specs.Steps.{Boarding, Offer, TakesIn, TakesInBut, boardings}
 use Rattle.profile_scan.specs.Bound.{Excludes}
-use Rattle.profile_scan.specs.Adding.{AreRidden, IsEnding, StandsBetween, boardings_after, boardings_by, changes_from, each_of, endings, label_points, one_way}
+use Rattle.profile_scan.specs.Adding.{AreRidden, IsEnding, StandsBetween, boardings_by, changes_from, each_of, endings, label_points, one_way}
 use Rattle.profile_scan.specs.ScanRecords.{IsExit, scan_records, spelling_of}
 use Rattle.profile_scan.specs.Hops.{StandsAt}
 use Rattle.profile_scan.specs.Keeping.{AdmitsKept, IsIdle}
@@ -53,8 +53,7 @@ use Rattle.profile_scan.specs.declared.scan_records.Exit.{Exit}
 use Rattle.profile_scan.specs.declared.scan_records.Exit.TheVariants.{Changes, Ends}
 use Rattle.profile_scan.proofs.EndLemmas.{takes_the_end}
 use Rattle.profile_scan.proofs.KeptLemmas.{bags_all, bags_as, bags_closed, bags_none, labels_as, labels_none}
-use Rattle.profile_scan.proofs.OfferedLemmas.{takes_as_it_is}
-use Rattle.profile_scan.proofs.Offers.{but_as, excused_as, sure, takes_but, takes_unless}
+use Rattle.profile_scan.proofs.Offers.{but_as, excused_as, sure, takes_but}
 use Rattle.profile_scan.proofs.RideLemmas.{boarded_at}
 use Rattle.profile_scan.proofs.ScanRecordLemmas.{exit_next, grows_on, steps_grow}
 

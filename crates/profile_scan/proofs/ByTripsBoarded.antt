@@ -38,7 +38,6 @@ use Rattle.profile_scan.specs.declared.hop.Hop.{Hop}
 use Rattle.profile_scan.specs.declared.in_lanes.InLanes.{InLanes}
 use Rattle.profile_scan.proofs.BeyondLemmas.{label_is_bag, point_is_bag}
 use Rattle.profile_scan.proofs.KeptLemmas.{bags_all, bags_as, bags_beside, bags_closed, bags_first, bags_next, bags_none, bags_then}
-use Rattle.profile_scan.proofs.LaneOffers.{as_point}
 use Rattle.profile_scan.proofs.LanesBoarded.{lanes_admit, ride_admitted}
 use Rattle.profile_scan.proofs.Offers.{all_stand, but_as, each_more, inserted_takes, stands_in, takes_but, takes_if, takes_unless}
 use Rattle.profile_scan.proofs.ScanRecordLemmas.{grows_on, stays, step_spelled}

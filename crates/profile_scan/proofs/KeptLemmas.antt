@@ -18,7 +18,7 @@ use Rattle.profile_scan.specs.Matching.{Spellings, from_to}
 use Rattle.profile_scan.specs.Steps.{Offer, TakesIn, TakesInBut, boardings, settings_out}
 use Rattle.profile_scan.specs.Bound.{Excludes}
 use Rattle.profile_scan.specs.Adding.{NoChange, StandsBetween, boardings_by, each_of, endings_and_changes, only_if}
-use Rattle.profile_scan.specs.ScanRecords.{Grows, KeptValue, ScanRecords, SourceValue, scan_records, spelling_of}
+use Rattle.profile_scan.specs.ScanRecords.{Grows, KeptValue, SourceValue, scan_records, spelling_of}
 use Rattle.profile_scan.specs.Hops.{IsHop, StandsAt}
 use Rattle.profile_scan.specs.Parts.{SourceTakes}
 use Rattle.profile_scan.specs.Keeping.{GoesOn, Leaves}

@@ -1,9 +1,9 @@
 -- Passengers board with the labels of a trip in lanes.
 use Rattle.std.proofs.Common.{◌≡◌, ℕ, suc, ◌+◌, ◌-◌, ◌<◌, ◌≤◌, List, [], ◌∷◌, Contains, Some, slice_get, inl, inr, refl, sym, ap, ◌∙◌, subst, arith}
 use Rattle.std.proofs.Common.{min, nat_le, nat_lt, true, false, ◌↔◌}
-use Rattle.std.proofs.lemmas.Bool.{cases_eq, and_parts, and_from, le-leb, true≢false}
+use Rattle.std.proofs.lemmas.Bool.{cases_eq, and_parts, and_from, le-leb}
 use Rattle.reasoning.specs.Lists.{Extends}
-use Rattle.reasoning.proofs.ListLemmas.{extends_none, extends_on}
+use Rattle.reasoning.proofs.ListLemmas.{extends_none}
 use Rattle.criteria.specs.Laws.{Admits, time_limit}
 use Rattle.criteria.specs.declared.arrival_trips.TimeTrips.{TimeTrips}
 use Rattle.bags.specs.Dominance.{IsCovered}
@@ -11,7 +11,6 @@ use Rattle.bags.specs.declared.point.Point.{Point}
 use Rattle.timetable.specs.declared.network.Footpath.{Footpath}
 use Rattle.timetable.specs.TimetableValue.{TimetableValue}
 use Rattle.timetable.specs.Legal.{At}
-use Rattle.timetable.specs.declared.network.Connection.{Connection}
 use Rattle.fronts.specs.declared.entry.Boarding.{Boarding}
 use Rattle.fronts.specs.declared.labels.Label.{Label}
 use Rattle.lanes.specs.Lanes.{trip_rules, IsOutdone}

@@ -5,9 +5,9 @@ use Rattle.std.proofs.Common.{inl, inr, refl, sym, ap, ◌∙◌, subst, arith, 
 use Rattle.std.specs.Global.{Vec}
 use Rattle.std.proofs.lemmas.Bool.{cases_lt, and_from, lt-ltb, le-leb}
 use Rattle.std.proofs.lemmas.Option.{slice_get_within}
-use Rattle.reasoning.proofs.ListLemmas.{contains_only, contains_first, extends_none, not_in_nil, slice_get-front, slice_get-last, same_at}
+use Rattle.reasoning.proofs.ListLemmas.{contains_only, contains_first, not_in_nil, slice_get-front, slice_get-last, same_at}
 use Rattle.reasoning.proofs.OptionLemmas.{option_cases}
-use Rattle.criteria.specs.Laws.{Admits, IsTime, time_limit}
+use Rattle.criteria.specs.Laws.{Admits, time_limit}
 use Rattle.criteria.specs.declared.arrival_trips.TimeTrips.{TimeTrips}
 use Rattle.bags.specs.declared.point.Point.{Point}
 use Rattle.timetable.specs.declared.network.Connection.{Connection}
@@ -19,7 +19,7 @@ use Rattle.lanes.specs.Lanes.{trip_rules, lane_labels, IsBeaten}
 use Rattle.lanes.specs.LaneLists.{word_tag}
 use Rattle.lanes.specs.LanesWithTags.{labels_in}
 use Rattle.lanes.specs.TripLanes.{AllBeaten, TakesAll, ending, front_labels, labels_at, offered_by, trips_of}
-use Rattle.lanes.specs.StopLanes.{IsFrontFrom, entries_of, front_at, points_at, steps_of, stops_of, tags_at}
+use Rattle.lanes.specs.StopLanes.{IsFrontFrom, entries_of, front_at, points_at, stops_of, tags_at}
 use Rattle.lanes.specs.declared.trip_lanes.Lanes.{Lanes}
 use Rattle.lanes.specs.declared.trip_lanes.TripLanes.{TripLanes}
 use Rattle.lanes.specs.declared.words.Words.{Words}
@@ -30,7 +30,7 @@ use Rattle.profile_scan.specs.ScanState.{final_walk_in}
 use Rattle.profile_scan.specs.SetQuery.{SetQueryValue}
 use Rattle.profile_scan.specs.Values.{started}
 use Rattle.profile_scan.specs.Matching.{Spellings, from_to}
-use Rattle.profile_scan.specs.Steps.{Offer, IsOffered, TakesInBut}
+use Rattle.profile_scan.specs.Steps.{IsOffered, TakesInBut}
 use Rattle.profile_scan.specs.Bound.{Excludes}
 use Rattle.profile_scan.specs.Adding.{IsEnding, changes_from, endings, label_points}
 use Rattle.profile_scan.specs.ScanRecords.{KeptValue, ScanRecords, Grows, IsExit, scan_records, spelling_of}

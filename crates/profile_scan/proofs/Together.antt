@@ -14,7 +14,7 @@ use Rattle.profile_scan.specs.Values.{started}
 use Rattle.profile_scan.specs.Points.{Covers}
 use Rattle.profile_scan.specs.Matching.{Spellings}
 use Rattle.profile_scan.specs.Steps.{Boarding, MayBoard, Offer, TakesInBut, boardings}
-use Rattle.profile_scan.specs.Adding.{IsEnding, NoChange, StandsBefore, changes_from, each_of, endings, endings_and_changes, one_way, only_if}
+use Rattle.profile_scan.specs.Adding.{IsEnding, NoChange, changes_from, endings, endings_and_changes, one_way, only_if}
 use Rattle.profile_scan.specs.ScanRecords.{IsExit}
 use Rattle.profile_scan.specs.declared.final_walks.FinalWalk.{FinalWalk}
 use Rattle.profile_scan.specs.declared.scan_records.Exit.TheVariants.{Changes}

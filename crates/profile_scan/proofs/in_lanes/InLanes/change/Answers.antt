@@ -4,8 +4,6 @@ use Rattle.lanes.specs.Lanes.{trip_rules}
 use Rattle.lanes.specs.StopLanes.{points_at}
 use Rattle.lanes.specs.declared.trip_lanes.TripLanes.{TripLanes}
 use Rattle.profile_scan.specs.SetQuery.{question}
-use Rattle.profile_scan.specs.Bound.{Excludes}
-use Rattle.profile_scan.specs.Adding.{changes_from}
 use Rattle.profile_scan.specs.InLanes.{LaneTakes}
 use Rattle.profile_scan.proofs.LanesLeft.{change_lowered, change_none}
 use Rattle.profile_scan.proofs.in_lanes.InLanes.change.Goals as goal

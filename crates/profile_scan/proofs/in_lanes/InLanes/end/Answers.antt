@@ -2,9 +2,7 @@ use Rattle.profile_scan.specs.KeptParts.{takes_endings}
 use Rattle.std.proofs.Common.{◌*◌, sym, ap, ◌∙◌, subst}
 use Rattle.lanes.specs.Lanes.{trip_rules}
 use Rattle.lanes.specs.declared.trip_lanes.TripLanes.{TripLanes}
-use Rattle.profile_scan.specs.ScanState.{final_walk_in}
 use Rattle.profile_scan.specs.SetQuery.{question}
-use Rattle.profile_scan.specs.Adding.{endings}
 use Rattle.profile_scan.specs.InLanes.{LaneTakes}
 use Rattle.profile_scan.proofs.LanesLeft.{end_lowered, end_none}
 use Rattle.profile_scan.proofs.in_lanes.InLanes.end.Goals as goal
