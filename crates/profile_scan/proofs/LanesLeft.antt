@@ -30,7 +30,7 @@ use Rattle.profile_scan.specs.ScanState.{final_walk_in}
 use Rattle.profile_scan.specs.SetQuery.{SetQueryValue}
 use Rattle.profile_scan.specs.Values.{started}
 use Rattle.profile_scan.specs.Matching.{Spellings, from_to}
-use Rattle.profile_scan.specs.Steps.{IsOffered, TakesInBut}
+use Rattle.profile_scan.specs.Steps.{Offer, IsOffered, TakesInBut}
 use Rattle.profile_scan.specs.Bound.{Excludes}
 use Rattle.profile_scan.specs.Adding.{IsEnding, changes_from, endings, label_points}
 use Rattle.profile_scan.specs.ScanRecords.{KeptValue, ScanRecords, Grows, IsExit, scan_records, spelling_of}
@@ -40,7 +40,7 @@ use Rattle.profile_scan.specs.declared.hop.Hop.{Hop}
 use Rattle.profile_scan.specs.declared.in_lanes.InLanes.{InLanes}
 use Rattle.profile_scan.specs.declared.in_lanes.LaneExit.{LaneExit}
 use Rattle.profile_scan.specs.declared.in_lanes.LaneExit.TheVariants.{Ends as EndsLane, Changes as ChangesLane}
-use Rattle.profile_scan.specs.declared.scan_records.Exit.TheVariants.{Ends, Changes}
+use Rattle.profile_scan.specs.declared.scan_records.Exit.TheVariants.{Ends}
 use Rattle.profile_scan.specs.declared.scan_records.SetOut.{SetOut}
 use Rattle.profile_scan.specs.KeptParts.{LabelsTake, takes_changes, takes_endings}
 use Rattle.profile_scan.proofs.KeptLemmas.{labels_as, labels_none}
@@ -146,6 +146,35 @@ module _ (q : SetQueryValue) (hop : Hop TimeTrips) (old : InLanes) (can : CanLea
           (stays now.exits all.exits then_grows.exits (first + k) (exit_of Tags x k) (exit_at Tags old.exits.items exits.items x pushed first k first_is lt))
           (omega (arith, fewer, long, first_is))
 
+    -- with it, labels take in what is offered
+    pub taken_with : {A : Type 0} {Excused : A → Type 0} {offer : Spellings → Offer A TimeTrips} {bound : List (Label TimeTrips)} (first : ℕ)
+        (offered : List (Label TimeTrips)) → first ≡ 8 * length old.exits.items → TakesAll trip bound offered old.trips trips
+        → ((l : Label TimeTrips) → Contains offered l → l.tag ≡ first + l.value.trips)
+        → ((tags : Spellings) → ((l : Label TimeTrips) → Contains (labels_at trips trip) l → Contains (labels_at old.trips trip) l
+        ⊎ (Contains offered l × IsExit tags (exit_of Tags x l.value.trips) l.tag))
+        → TakesInBut trip_rules Excused (offer tags) (label_points (labels_at old.trips trip)) (label_points (labels_at trips trip)))
+        → LaneTakes hop.bound.now (LabelsTake trip_rules trip Excused offer) old new
+    taken_with first offered first_is takes tagged join = record {
+      are = still_are takes.long;
+      stops = refl;
+      takes = record {
+        exits = exits_more Tags old.exits.items exits.items x pushed;
+        steps = refl;
+        bags = λ stop. refl;
+        other_trips = λ k other. ap label_points (takes.elsewhere k other);
+        takes = λ walks set_outs before all first_grows then_grows.
+            let tags = from_to (spelling_of walks before) (spelling_of walks all) in
+            join tags (λ l is. elim (takes.only l is) [
+              | inl was ↦ inl was
+              | inr there ↦ inr (
+                there,
+                subst (IsExit tags (exit_of Tags x l.value.trips)) (sym (tagged l there))
+                    (lane_spelled walks set_outs before all first_grows then_grows first l.value.trips first_is (few_trips trips trip l is)),
+              )
+            ]);
+      };
+    }
+
   -- to change, by words that stand for points of the stop, but for those missed
   module _ (entry first : ℕ) (words : List ℕ) (within : entry < entries_of old.stops) (Missed : Point TimeTrips → Type 0)
       (made_of : (l : Label TimeTrips) → Contains (lane_labels (word_tag (Tags entry)) words) l
@@ -160,33 +189,12 @@ module _ (q : SetQueryValue) (hop : Hop TimeTrips) (old : InLanes) (can : CanLea
     lowered_but : first ≡ 8 * length old.exits.items → exits.items ≡ old.exits.items ++ ChangesLane hop.place entry ∷ []
         → TakesAll trip (front_labels old.bound) (lane_labels (λ k. first + k) words) old.trips trips
         → LaneTakes hop.bound.now ButMissed old new
-    lowered_but first_is pushed takes = record {
-      are = still_are (ChangesLane hop.place entry) pushed within takes.long;
-      stops = refl;
-      takes = record {
-        exits = exits_more Tags old.exits.items exits.items (ChangesLane hop.place entry) pushed;
-        steps = refl;
-        bags = λ stop. refl;
-        other_trips = λ k other. ap label_points (takes.elsewhere k other);
-        takes = λ walks set_outs before all first_grows then_grows.
-            changes_taken words (word_tag (Tags entry)) first hop.connection.arr hop.place (points_at old.stops hop.connection.to)
-            (front_labels old.bound) (labels_at old.trips trip) (labels_at trips trip) hop.bound.now
-            (from_to (spelling_of walks before) (spelling_of walks all)) Missed made_of betters bag_admitted
-            (λ l is. elim (takes.only l is) [
-              | inl was ↦ inl was
-              | inr offered ↦
-                  let tagged = (stands (λ k. first + k) words l offered).tagged in
-                  inr (
-                    offered,
-                    subst (IsExit (from_to (spelling_of walks before) (spelling_of walks all))
-                        (Changes hop.place (word_tag (Tags entry) l.value.trips))) (sym tagged)
-                        (lane_spelled (ChangesLane hop.place entry) pushed within walks set_outs before all first_grows then_grows first
-                        l.value.trips first_is (few_trips trips trip l is)),
-                  )
-            ])
-            takes.kept takes.taken can.are.excludes;
-      };
-    }
+    lowered_but first_is pushed takes =
+        taken_with (ChangesLane hop.place entry) pushed within first (lane_labels (λ k. first + k) words) first_is takes
+        (λ l is. (stands (λ k. first + k) words l is).tagged)
+        (λ tags only. changes_taken words (word_tag (Tags entry)) first hop.connection.arr hop.place (points_at old.stops hop.connection.to)
+        (front_labels old.bound) (labels_at old.trips trip) (labels_at trips trip) hop.bound.now tags Missed made_of betters bag_admitted only
+        takes.kept takes.taken can.are.excludes)
 
     none_but : AllBeaten (front_labels old.bound) (labels_at old.trips trip) (lane_labels (λ k. first + k) words)
         → LaneTakes hop.bound.now ButMissed old old
@@ -313,31 +321,9 @@ module _ (q : SetQueryValue) (hop : Hop TimeTrips) (old : InLanes) (can : CanLea
       → LaneTakes hop.bound.now (takes_endings trip_rules q hop) old
       (record { trips = trips; stops = old.stops; exits = exits; bound = old.bound })
   end_lowered trips exits first_is pushed takes =
-      let x = EndsLane hop.place walk in
-      record {
-        are = still_are q hop old can trips exits x pushed tt takes.long;
-        stops = refl;
-        takes = record {
-          exits = exits_more (tags_at old.stops) old.exits.items exits.items x pushed;
-          steps = refl;
-          bags = λ stop. refl;
-          other_trips = λ k other. ap label_points (takes.elsewhere k other);
-          takes = λ walks set_outs before all first_grows then_grows.
-              let tags = from_to (spelling_of walks before) (spelling_of walks all) in
-              ends_taken q hop.connection (final_walk_in hop.final_entry) hop.place time first walk (labels_at old.trips hop.connection.trip)
-              (labels_at trips hop.connection.trip) is_ending time_is one tags
-              (λ l is. elim (takes.only l is) [
-                | inl was ↦ inl was
-                | inr offered ↦
-                    let tag_is : first + 0 ≡ l.tag = (let e : first + 0 ≡ first = omega arith in e)
-                    ∙ sym (ap (λ (m : Label TimeTrips). m.tag)
-                    (contains_only (record { value = record { time = time; trips = 0 }; tag = first }) l offered)) in
-                    inr (
-                      offered,
-                      subst (IsExit tags (Ends hop.place walk)) tag_is
-                          (lane_spelled q hop old can trips exits x pushed tt walks set_outs before all first_grows then_grows first 0 first_is (omega arith)),
-                    )
-              ])
-              takes.kept takes.taken;
-        };
-      }
+      let ends : Label TimeTrips = record { value = record { time = time; trips = 0 }; tag = first } in
+      let tag_is : first ≡ first + 0 = omega arith in
+      taken_with q hop old can trips exits (EndsLane hop.place walk) pushed tt first (ending time first) first_is takes
+      (λ l is. subst (λ (m : Label TimeTrips). m.tag ≡ first + m.value.trips) (sym (contains_only ends l is)) tag_is)
+      (λ tags only. ends_taken q hop.connection (final_walk_in hop.final_entry) hop.place time first walk (labels_at old.trips hop.connection.trip)
+      (labels_at trips hop.connection.trip) is_ending time_is one tags only takes.kept takes.taken)

@@ -162,7 +162,7 @@ module _ {V : Type 0} (rules : Rules V) where
       ]) before here
 
   -- where nothing is excused, all is taken in
-  in_full : {A : Type 0} (offer : Offer A V) (old new : List (Point V)) → TakesInBut rules (λ _. ⊥) offer old new → TakesIn rules offer old new
+  pub in_full : {A : Type 0} (offer : Offer A V) (old new : List (Point V)) → TakesInBut rules (λ _. ⊥) offer old new → TakesIn rules offer old new
   in_full offer old new takes = record { only = takes.only; kept = takes.kept; covered = λ way opened. sure (takes.covered way opened) }
 
   pub takes_more : {X A : Type 0} (Was There : X → Type 0) (offer : X → Offer A V) (x : X) (old mid new : List (Point V))
