@@ -17,14 +17,15 @@ use Rattle.bags.specs.declared.bag.Bag.{Bag}
 use Rattle.bags.specs.declared.point.Point.{Point}
 use Rattle.lanes.specs.Lanes.{trip_rules}
 use Rattle.lanes.specs.TripLanes.{labels_at, trips_of}
-use Rattle.lanes.specs.StopLanes.{stops_of, steps_of, tags_at}
+use Rattle.lanes.specs.StopLanes.{points_at, stops_of, tags_at}
 use Rattle.profile_scan.specs.SetQuery.{SetQueryValue}
 use Rattle.profile_scan.specs.Matching.{from_to}
 use Rattle.profile_scan.specs.Steps.{TakesIn, TakesInBut}
 use Rattle.profile_scan.specs.Adding.{label_points, one_way}
-use Rattle.profile_scan.specs.ScanRecords.{IsExit, spelling_of}
+use Rattle.profile_scan.specs.ScanRecords.{IsExit, KeptValue, spelling_of}
+use Rattle.profile_scan.specs.KeptParts.{LabelsTake}
 use Rattle.profile_scan.specs.InLanes.{AreInLanes, CanLeaveLanes, exits_in}
-use Rattle.profile_scan.specs.ByTrips.{AreBeyond, CanLeaveByTrips, IsFilled, IsInsertedAt, TripTakesBut, bag_points, points_beyond, value_by_trips}
+use Rattle.profile_scan.specs.ByTrips.{AreBeyond, CanLeaveByTrips, IsFilled, IsInsertedAt, RelabelsByTrips, bag_points, points_beyond, value_by_trips}
 use Rattle.profile_scan.specs.declared.by_trips.Beyond.{Beyond}
 use Rattle.profile_scan.specs.declared.by_trips.ByTrips.{ByTrips}
 use Rattle.profile_scan.specs.declared.hop.Hop.{Hop}
@@ -175,34 +176,39 @@ module _ (q : SetQueryValue) (hop : Hop TimeTrips) (old : ByTrips) (can : CanLea
   one_taken fits named =
       let olds = points_beyond old.beyond.labels.items trip in
       let news = points_beyond beyond.labels.items trip in
-      rear_takes trip_rules (λ _. ⊥) (one_way 0 value fits) (label_points (labels_at old.lanes.trips trip)) olds news
+      rear_takes trip_rules (label_points (labels_at old.lanes.trips trip))
       (takes_but trip_rules (λ _. ⊥) (one_way 0 value fits) olds news
       (subst (λ (ps : List (Point TimeTrips)). TakesIn trip_rules (one_way 0 value fits) ps news) (fills.labels trip)
       (inserted_takes trip_rules trip_laws (points_beyond filled.labels.items trip) news (record { departure = 0; value = value; tag = tag }) fits stands
       (label_is_bag filled trip) admitted inserted.stands_is inserted.inserted named)))
 
-  pub label_stands : exits.items ≡ old.lanes.exits.items ++ ToStep hop.place step ∷ []
-      → TripTakesBut trip hop.bound.now (λ _. ⊥) (λ tags. one_way 0 value (IsExit tags (Changes hop.place step))) old new
+  abbrev OneWay : KeptValue TimeTrips → KeptValue TimeTrips → Type 0
+  OneWay = LabelsTake trip_rules trip (λ _. ⊥) (λ tags. one_way 0 value (IsExit tags (Changes hop.place step)))
+
+  bags_same : (stop : ℕ) → (value_by_trips new).bag stop ≡ (value_by_trips old).bag stop
+  bags_same stop = ap (λ ps. points_at old.lanes.stops stop ++ ps) (points_same stop)
+
+  pub label_stands : exits.items ≡ old.lanes.exits.items ++ ToStep hop.place step ∷ [] → RelabelsByTrips hop.bound.now OneWay old new
   label_stands pushed = record {
     are = record { in_lanes = still_are q hop old.lanes lanes_can old.lanes.trips exits (ToStep hop.place step) pushed tt refl; beyond = are_beyond };
     stops = refl;
     points = points_same;
     bags = bags_more;
-    writes = record {
+    takes = record {
       exits = exits_more (tags_at old.lanes.stops) old.lanes.exits.items exits.items (ToStep hop.place step) pushed;
-      steps = extends_none (steps_of old.lanes.stops);
+      steps = refl;
+      bags = bags_same;
+      other_trips = others_same;
+      takes = λ walks set_outs before all first_grows then_grows.
+          let none_more : tag + 0 ≡ tag = omega arith in
+          let fits = IsExit (from_to (spelling_of walks before) (spelling_of walks all)) (Changes hop.place step) in
+          one_taken fits (λ _. subst fits none_more
+          (lane_spelled q hop old.lanes lanes_can old.lanes.trips exits (ToStep hop.place step) pushed tt walks set_outs before all first_grows then_grows tag 0
+          tag_is (omega arith)));
     };
-    other_trips = others_same;
-    takes = λ walks set_outs before all first_grows then_grows.
-        let none_more : tag + 0 ≡ tag = omega arith in
-        one_taken (IsExit (from_to (spelling_of walks before) (spelling_of walks all)) (Changes hop.place step))
-        (λ _. subst (IsExit (from_to (spelling_of walks before) (spelling_of walks all)) (Changes hop.place step)) none_more
-        (lane_spelled q hop old.lanes lanes_can old.lanes.trips exits (ToStep hop.place step) pushed tt walks set_outs before all first_grows then_grows tag 0
-        tag_is (omega arith)));
   }
 
-  pub label_falls : stands ≡ false → exits ≡ old.lanes.exits
-      → TripTakesBut trip hop.bound.now (λ _. ⊥) (λ tags. one_way 0 value (IsExit tags (Changes hop.place step))) old new
+  pub label_falls : stands ≡ false → exits ≡ old.lanes.exits → RelabelsByTrips hop.bound.now OneWay old new
   label_falls falls same = record {
     are = record {
       in_lanes = subst (λ (lanes : InLanes). AreInLanes (stops_of old.lanes.stops) (trips_of old.lanes.trips) hop.bound.now lanes)
@@ -212,13 +218,13 @@ module _ (q : SetQueryValue) (hop : Hop TimeTrips) (old : ByTrips) (can : CanLea
     stops = refl;
     points = points_same;
     bags = bags_more;
-    writes = record {
+    takes = record {
       exits = subst (λ (es : Vec LaneExit). Extends (value_by_trips old).exits (exits_in (tags_at old.lanes.stops) es.items)) (sym same)
           (extends_none (value_by_trips old).exits);
-      steps = extends_none (steps_of old.lanes.stops);
+      steps = refl;
+      bags = bags_same;
+      other_trips = others_same;
+      takes = λ walks set_outs before all first_grows then_grows.
+          one_taken (IsExit (from_to (spelling_of walks before) (spelling_of walks all)) (Changes hop.place step)) (λ is. absurd (true≢false (sym is ∙ falls)));
     };
-    other_trips = others_same;
-    takes = λ walks set_outs before all first_grows then_grows.
-        one_taken (IsExit (from_to (spelling_of walks before) (spelling_of walks all)) (Changes hop.place step))
-        (λ is. absurd (true≢false (sym is ∙ falls)));
   }

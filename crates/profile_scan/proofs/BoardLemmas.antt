@@ -27,7 +27,7 @@ use Rattle.profile_scan.specs.Parts.{BoardsAfter, BoardsAfterEach}
 use Rattle.profile_scan.specs.declared.hop.Hop.{Hop}
 use Rattle.profile_scan.specs.declared.stops.Stops.{Stops}
 use Rattle.profile_scan.proofs.Admitted.{AreAdmitted}
-use Rattle.profile_scan.proofs.Offers.{but_as, takes_none, takes_more, takes_as}
+use Rattle.profile_scan.proofs.Offers.{but_as, in_full, takes_but, takes_none, takes_more, takes_as}
 use Rattle.profile_scan.proofs.PartLemmas.{lists_none, lists_on}
 use Rattle.profile_scan.proofs.ScanRecordLemmas.{grows_on, steps_grow}
 
@@ -249,27 +249,7 @@ module _ {V : Type 0} (rules : Rules V) (t : TimetableValue) (tags : Spellings) 
     is_label = opened.1;
   }
 
-  pub boardings_taken : (stop : ℕ) (old new : List (Point V))
-      → TakesIn rules (each_of (StandsBetween t.footpaths begin end) (boardings_by rules tags i c stop labels)) old new
-      → TakesIn rules (boardings rules t tags i stop labels) old new
-  boardings_taken stop old new takes =
-      let here = subst (λ (x : Connection). TakesIn rules
-      (each_of (StandsBetween t.footpaths begin end) (boardings_by rules tags i x stop labels)) old new) is takes
-      in
-      takes_as rules (each_of (StandsBetween t.footpaths begin end)
-      (boardings_by rules tags i (connection_at t i) stop labels)) (boardings rules t tags i stop labels) old new
-      (λ way opened. record {
-        there = record { walk = way.0; label = way.1 };
-        is_open =
-            may_board stop way.0 way.1 opened.0 opened.1;
-        departs = refl;
-        worth = refl;
-        fits = λ tag h. h;
-      })
-      (λ way opened. here.covered (way.walk, way.label) (between way.walk opened.is_footpath opened.leads, ((opened.leaves, opened.fits), opened.is_label)))
-      here
-
-  -- the same where labels are excused
+  -- where labels are excused
   pub boardings_but : (Excused : Point V → Type 0) (stop : ℕ) (old new : List (Point V))
       → TakesInBut rules (λ way. Excused way.1) (each_of (StandsBetween t.footpaths begin end) (boardings_by rules tags i c stop labels)) old new
       → TakesInBut rules (λ way. Excused way.label) (boardings rules t tags i stop labels) old new
@@ -288,6 +268,14 @@ module _ {V : Type 0} (rules : Rules V) (t : TimetableValue) (tags : Spellings) 
       })
       (λ way opened. here.covered (way.walk, way.label) (between way.walk opened.is_footpath opened.leads, ((opened.leaves, opened.fits), opened.is_label)))
       here
+
+  -- where none is
+  pub boardings_taken : (stop : ℕ) (old new : List (Point V))
+      → TakesIn rules (each_of (StandsBetween t.footpaths begin end) (boardings_by rules tags i c stop labels)) old new
+      → TakesIn rules (boardings rules t tags i stop labels) old new
+  boardings_taken stop old new takes =
+      in_full rules (boardings rules t tags i stop labels) old new (boardings_but (λ _. ⊥) stop old new
+      (takes_but rules (λ _. ⊥) (each_of (StandsBetween t.footpaths begin end) (boardings_by rules tags i c stop labels)) old new takes))
 
   may_set_out : (q : SetQueryValue) (start : Option Footpath) (label : Point V) → IsTried t.footpaths begin end start
       → MayStart q (connection_at t i) start → Contains labels label

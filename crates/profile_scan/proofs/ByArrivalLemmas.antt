@@ -4,7 +4,7 @@ use Rattle.std.proofs.Common.{◌∷◌, ◌++◌, length, replicate, set, take,
 use Rattle.std.proofs.Common.{get_or, true, false, nat_le, nat_lt, min, Option, Some, None, inl, inr, refl, sym, ap, ◌∙◌, subst, arith}
 use Rattle.std.specs.Global.{Vec}
 use Rattle.std.specs.Vec.{with_item}
-use Rattle.std.proofs.lemmas.Bool.{cases_Bool, cases_eq, cases_lt, le-leb, leb-true, lt-ltb, ltb-true, true≢false}
+use Rattle.std.proofs.lemmas.Bool.{cases_Bool, cases_eq, cases_lt, le-leb, leb-true, lt-ltb, ltb-true}
 use Rattle.std.proofs.lemmas.List.{get_or_past, length-replicate, length-set, take_more}
 use Rattle.std.proofs.lemmas.List.Elements.{Contains-append_left, Contains-push, Contains-push_cases}
 use Rattle.std.proofs.lemmas.List.Folds.{list_any_at}
@@ -37,7 +37,7 @@ use Rattle.profile_scan.specs.Points.{Covers}
 use Rattle.profile_scan.specs.Matching.{Spellings, from_to}
 use Rattle.profile_scan.specs.Steps.{Boarding, Offer, TakesIn, TakesInBut, boardings}
 use Rattle.profile_scan.specs.Bound.{Excludes}
-use Rattle.profile_scan.specs.Adding.{AreRidden, IsEnding, StandsBetween, boardings_after, boardings_by, changes_from, each_of, endings, label_points, one_way}
+use Rattle.profile_scan.specs.Adding.{AreRidden, IsEnding, StandsBetween, boardings_by, changes_from, each_of, endings, label_points, one_way}
 use Rattle.profile_scan.specs.ScanRecords.{IsExit, scan_records, spelling_of}
 use Rattle.profile_scan.specs.Hops.{StandsAt}
 use Rattle.profile_scan.specs.Keeping.{AdmitsKept, IsIdle}
@@ -53,9 +53,8 @@ use Rattle.profile_scan.specs.declared.hop.Hop.{Hop}
 use Rattle.profile_scan.specs.declared.scan_records.Exit.{Exit}
 use Rattle.profile_scan.specs.declared.scan_records.Exit.TheVariants.{Changes, Ends}
 use Rattle.profile_scan.proofs.EndLemmas.{takes_the_end}
-use Rattle.profile_scan.proofs.KeptLemmas.{bags_all, bags_none, labels_as, labels_none}
-use Rattle.profile_scan.proofs.OfferedLemmas.{takes_as_it_is}
-use Rattle.profile_scan.proofs.Offers.{but_as, but_none, sure, takes_but, takes_unless}
+use Rattle.profile_scan.proofs.KeptLemmas.{bags_all, bags_as, bags_closed, bags_none, labels_as, labels_none}
+use Rattle.profile_scan.proofs.Offers.{but_as, excused_as, sure, takes_but}
 use Rattle.profile_scan.proofs.RideLemmas.{boarded_at}
 use Rattle.profile_scan.proofs.ScanRecordLemmas.{exit_next, grows_on, steps_grow}
 
@@ -116,7 +115,7 @@ module _ (old : ByArrival) (are : AreByArrival old) (trip : ℕ) (l : Label ℕ)
       → RelabelsByArrival trip (λ _. ⊥) (λ tags. one_way 0 time (fits tags)) old old
   not_offered fits le = record {
     like = still_like old are;
-    takes = labels_none arrival_rules trip (λ _. ⊥) (λ tags. one_way 0 time (fits tags)) (value_by_arrival old)
+    takes = labels_none arrival_rules
         (λ tags way opened. inl (subst (λ ls. Covers arrival_rules (label_points ls) 0 time) (sym (labels_are old trip l at))
         (label_covers l time le (omega (arith, in_time)))));
   }
@@ -316,7 +315,7 @@ module _ (hop : Hop ℕ) (old : ByArrival) (are : AreByArrival old) (excludes : 
       → RelabelsByArrival hop.connection.trip Excused ChangesTo old old
   no_news l at low = record {
     like = still_like old are;
-    takes = labels_none arrival_rules hop.connection.trip Excused ChangesTo (value_by_arrival old)
+    takes = labels_none arrival_rules
         (λ tags p opened.
         let least = (are.firsts hop.connection.to first there).best.least p (subst (λ ps. Contains ps p) points_are opened.0) (omega arith) in
         let in_time = point_in_time p opened.0 in
@@ -336,7 +335,7 @@ module _ (hop : Hop ℕ) (old : ByArrival) (are : AreByArrival old) (excludes : 
     pub all_excluded : old.bound ≤ best.time → RelabelsByArrival hop.connection.trip Excused ChangesTo old old
     all_excluded le = record {
       like = still_like old are;
-      takes = labels_none arrival_rules hop.connection.trip Excused ChangesTo (value_by_arrival old)
+      takes = labels_none arrival_rules
           (λ tags p opened. let least = low p opened.0 opened.1 in inr (excused p opened.0 (omega (arith, le, least))));
     }
 
@@ -346,9 +345,7 @@ module _ (hop : Hop ℕ) (old : ByArrival) (are : AreByArrival old) (excludes : 
         → RelabelsByArrival hop.connection.trip Excused ChangesTo old new
     changed_by lt new taken = record {
       like = taken.like;
-      takes = labels_as arrival_rules hop.connection.trip (λ _. ⊥) Excused (λ tags. one_way 0 best.time (IsExit tags (Changes hop.place best.tag)))
-          ChangesTo (value_by_arrival old) (value_by_arrival new)
-          (λ tags takes.
+      takes = labels_as arrival_rules (λ tags takes.
           let made = is_best.made_of lt in
           but_as arrival_rules (λ _. ⊥) Excused (one_way 0 best.time (IsExit tags (Changes hop.place best.tag))) (ChangesTo tags)
           ((value_by_arrival old).labels hop.connection.trip) ((value_by_arrival new).labels hop.connection.trip)
@@ -412,13 +409,7 @@ module _ (hop : Hop ℕ) (walk_index : ℕ) (walk : Footpath) (ride : RiddenLabe
   pub too_long : hop.connection.dep < walk.secs → BoardsByArrival IsWalk (λ _. ⊥) Boardings old old
   too_long early = record {
     like = still_like old can.are;
-    takes = bags_none arrival_rules IsWalk (λ _. ⊥) Boardings (value_by_arrival old)
-        (λ walks at stop before all grows.
-        takes_but arrival_rules (λ _. ⊥) (Boardings stop (from_to (spelling_of walks before) (spelling_of walks all))) ((value_by_arrival old).bag stop)
-        ((value_by_arrival old).bag stop)
-        (takes_unless arrival_rules ((walk.from ≡ stop) × (walk.secs ≤ hop.connection.dep))
-        (boardings_after arrival_rules (from_to (spelling_of walks before) (spelling_of walks all)) hop.place (hop.connection.dep - walk.secs) walk
-        (ridden_point ride ∷ [])) ((value_by_arrival old).bag stop) (λ may. omega (arith, may.1, early))));
+    takes = bags_none arrival_rules (λ stop tags way opened. let late = opened.0.1 in absurd (omega (arith, late, early)));
   }
 
   module _ (fits : walk.secs ≤ hop.connection.dep) (first : FirstPoint) (there : slice_get old.firsts.items walk.from ≡ Some first) where
@@ -434,11 +425,10 @@ module _ (hop : Hop ℕ) (walk_index : ℕ) (walk : Footpath) (ride : RiddenLabe
         (as_point first, subst (λ ps. Contains ps (as_point first)) (sym is) made.0, late, le-leb first.time ride.value low) in
         record {
           like = still_like old can.are;
-          takes = bags_none arrival_rules IsWalk (λ _. ⊥) Boardings (value_by_arrival old)
-              (λ walks at stop before all grows.
-              takes_but arrival_rules (λ _. ⊥) (Boardings stop (from_to (spelling_of walks before) (spelling_of walks all))) (points stop) (points stop)
-              (takes_as_it_is arrival_rules (ridden_point ride ∷ []) walks ride (alone ride) points walk walk_index hop.place hop.connection.dep fits at
-              covers stop before all grows));
+          takes = bags_none arrival_rules (λ stop tags way opened.
+              inl (subst (λ s. Covers arrival_rules (points s) (hop.connection.dep - walk.secs) way.value) opened.0.0
+              (subst (λ (p : Point ℕ). Covers arrival_rules (points walk.from) (hop.connection.dep - walk.secs) p.value)
+              (sym (contains_only (ridden_point ride) way opened.1)) covers)));
         }
 
     -- the stop's list takes it in
@@ -566,7 +556,7 @@ module _ (q : SetQueryValue) (hop : Hop ℕ) (old : ByArrival) where
       → RelabelsByArrival hop.connection.trip (λ _. ⊥) Endings old old
   none_ended are none = record {
     like = still_like old are;
-    takes = labels_none arrival_rules hop.connection.trip (λ _. ⊥) Endings (value_by_arrival old) (λ tags walk opened. absurd (none walk opened));
+    takes = labels_none arrival_rules (λ tags walk opened. absurd (none walk opened));
   }
 
   pub ended : (new : ByArrival) (walk : Option Footpath) (time : ℕ) → IsEnding hop.connection q (final_walk_in hop.final_entry) walk
@@ -576,9 +566,7 @@ module _ (q : SetQueryValue) (hop : Hop ℕ) (old : ByArrival) where
       → RelabelsByArrival hop.connection.trip (λ _. ⊥) Endings old new
   ended new walk time ends time_is ones taken = record {
     like = taken.like;
-    takes = labels_as arrival_rules hop.connection.trip (λ _. ⊥) (λ _. ⊥) (λ tags. one_way 0 time (IsExit tags (Ends hop.place walk))) Endings
-        (value_by_arrival old) (value_by_arrival new)
-        (λ tags takes.
+    takes = labels_as arrival_rules (λ tags takes.
         let was = (value_by_arrival old).labels hop.connection.trip in
         let now = (value_by_arrival new).labels hop.connection.trip in
         takes_but arrival_rules (λ _. ⊥) (Endings tags) was now
@@ -638,10 +626,7 @@ module _ (t : TimetableValue) (hop : Hop ℕ) (old : ByArrival) (are : AreByArri
   pub not_boarded : StandsAt t hop.place hop.connection → hop.connection.board ≡ false → BoardsByArrival AllWalks NotBoarded AllBoardings old old
   not_boarded stands closed = record {
     like = still_like old are;
-    takes = bags_none arrival_rules AllWalks NotBoarded AllBoardings (value_by_arrival old)
-        (λ walks all_walks stop before all grows.
-        but_none arrival_rules NotBoarded (AllBoardings stop (from_to (spelling_of walks before) (spelling_of walks all))) ((value_by_arrival old).bag stop)
-        (λ way may. true≢false (sym may.boards ∙ subst (λ (c : Connection). c.board ≡ false) stands.is closed)));
+    takes = bags_closed arrival_rules t hop ((value_by_arrival old).labels hop.connection.trip) (value_by_arrival old) stands closed;
   }
 
   module _ (l : Label ℕ) (at : slice_get old.labels.items hop.connection.trip ≡ Some l) where
@@ -649,15 +634,10 @@ module _ (t : TimetableValue) (hop : Hop ℕ) (old : ByArrival) (are : AreByArri
     pub none_boards : BoundExcludes hop.bound.now old → old.bound ≤ l.value → BoardsByArrival AllWalks NotBoarded AllBoardings old old
     none_boards excludes late = record {
       like = still_like old are;
-      takes = bags_none arrival_rules AllWalks NotBoarded AllBoardings (value_by_arrival old)
-          (λ walks all_walks stop before all grows. record {
-            only = λ p h. inl h;
-            kept = λ d v a c. c;
-            covered = λ way may.
-                let of = of_label l way.label (subst (λ ls. Contains (label_points ls) way.label) (labels_are old hop.connection.trip l at) may.is_label) in
-                let value : way.label.value ≡ l.value = ap (λ (p : Point ℕ). p.value) of.1 in
-                inr (excludes way.label.value ((admits_kept old are).labels hop.connection.trip way.label may.is_label) (omega (arith, value, late)));
-          });
+      takes = bags_none arrival_rules (λ stop tags way may.
+          let of = of_label l way.label (subst (λ ls. Contains (label_points ls) way.label) (labels_are old hop.connection.trip l at) may.is_label) in
+          let value : way.label.value ≡ l.value = ap (λ (p : Point ℕ). p.value) of.1 in
+          inr (excludes way.label.value ((admits_kept old are).labels hop.connection.trip way.label may.is_label) (omega (arith, value, late))));
     }
 
     -- with its label
@@ -674,8 +654,10 @@ module _ (t : TimetableValue) (hop : Hop ℕ) (old : ByArrival) (are : AreByArri
           like = each.like;
           takes = subst (λ ls. BagsTake arrival_rules AllWalks NotBoarded (λ stop tags. boardings arrival_rules t tags hop.place stop (label_points ls))
               (value_by_arrival old) (value_by_arrival new)) (sym labels)
-              (bags_all arrival_rules t hop (ridden_point ride ∷ []) begin (ridden_alone t ride (are.times hop.connection.trip l at lt)) end
-              (λ p. Excludes arrival_rules hop.bound.now p.value) (value_by_arrival old) (value_by_arrival new) stands boards into each.takes);
+              (bags_as arrival_rules (λ walks is. is) (λ stop tags. excused_as arrival_rules (λ _. ⊥) NotBoarded
+              (boardings arrival_rules t tags hop.place stop (ridden_point ride ∷ [])) ((value_by_arrival old).bag stop) ((value_by_arrival new).bag stop)
+              (λ way may none. absurd none))
+              (bags_all arrival_rules t hop (ridden_point ride ∷ []) (λ _. ⊥) begin end stands boards into each.takes));
         }
 
 -- the bound is made anew

@@ -1,12 +1,12 @@
 -- What is kept by arrival and trips takes a connection in.
 use Rattle.std.proofs.Common.{◌≡◌, ◌⊎◌, ℕ, ◌+◌, ◌<◌, ◌≤◌, List, [], ◌∷◌, ◌++◌, Contains, Option, Some, None, slice_get, slice_index, length}
-use Rattle.std.proofs.Common.{Bool, true, false, map, nat_le, nat_lt, get_or, take, inl, inr, refl, sym, ap, ◌∙◌, subst, arith, append_assoc}
-use Rattle.std.proofs.lemmas.Bool.{and_parts, cases_lt, ltb-true, true≢false}
+use Rattle.std.proofs.Common.{Bool, false, map, nat_le, nat_lt, get_or, take, inl, inr, refl, sym, ap, ◌∙◌, subst, arith, append_assoc}
+use Rattle.std.proofs.lemmas.Bool.{and_parts, cases_lt, ltb-true}
 use Rattle.std.proofs.lemmas.List.{map-append, take_more}
 use Rattle.std.proofs.lemmas.List.Folds.{list_any_at}
 use Rattle.std.proofs.lemmas.Option.{get_or_from_slice_get, none-some, same_Some, slice_get_past, slice_get_read, slice_get_within}
 use Rattle.std.proofs.lemmas.List.Elements.{Contains-append_cases, Contains-append_left, Contains-append_right}
-use Rattle.reasoning.proofs.ListLemmas.{extends_none, not_in_nil}
+use Rattle.reasoning.proofs.ListLemmas.{not_in_nil}
 use Rattle.reasoning.proofs.OptionLemmas.{option_cases}
 use Rattle.criteria.specs.Laws.{Rules, Admits, IsTime, time_limit}
 use Rattle.criteria.specs.TimeTripsLaws.{trips_admitted}
@@ -23,15 +23,14 @@ use Rattle.lanes.specs.StopLanes.{AreStopLanes, points_at, stops_of}
 use Rattle.lanes.specs.declared.words.Words.{Words}
 use Rattle.lanes.proofs.CoverLemmas.{points_admitted}
 use Rattle.lanes.proofs.EntryLemmas.{from_map, into_map}
-use Rattle.profile_scan.specs.ScanState.{final_walk_in}
 use Rattle.profile_scan.specs.Values.{started}
 use Rattle.profile_scan.specs.SetQuery.{SetQueryValue, asked_from}
 use Rattle.profile_scan.specs.Matching.{Spellings, from_to}
 use Rattle.profile_scan.specs.Points.{Covers}
-use Rattle.profile_scan.specs.Steps.{MaySetOut, SettingOut, TakesIn, TakesInBut, boardings, settings_out}
+use Rattle.profile_scan.specs.Steps.{MaySetOut, SettingOut, TakesIn, settings_out}
 use Rattle.profile_scan.specs.Bound.{Excludes, ExcludesMore}
-use Rattle.profile_scan.specs.Adding.{NoChange, endings_and_changes, label_points, only_if}
-use Rattle.profile_scan.specs.ScanRecords.{SourceValue, scan_records, spelling_of}
+use Rattle.profile_scan.specs.Adding.{label_points}
+use Rattle.profile_scan.specs.ScanRecords.{SourceValue, spelling_of}
 use Rattle.profile_scan.specs.Hops.{IsHop}
 use Rattle.profile_scan.specs.Parts.{SourceTakes}
 use Rattle.profile_scan.specs.Keeping.{AdmitsKept, GoesOn}
@@ -41,10 +40,10 @@ use Rattle.profile_scan.specs.TakenByTrips.{CanRenew, IsFrontOf, RenewsBound, la
 use Rattle.profile_scan.specs.declared.by_trips.ByTrips.{ByTrips}
 use Rattle.profile_scan.specs.declared.hop.Hop.{Hop}
 use Rattle.profile_scan.specs.declared.in_lanes.InLanes.{InLanes}
+use Rattle.profile_scan.proofs.KeptLemmas.{goes_on, not_left}
 use Rattle.profile_scan.proofs.LaneOffers.{as_point, covers_trans}
 use Rattle.profile_scan.proofs.LanesLeft.{label_admits}
-use Rattle.profile_scan.proofs.Offers.{but_none, takes_as}
-use Rattle.profile_scan.proofs.ScanRecordLemmas.{grows_none}
+use Rattle.profile_scan.proofs.Offers.{takes_as}
 
 -- the bag at an index
 pub bag_at : {X : Type 0} (bags : List X) (k : ℕ) (bag : X) → k < length bags → bag ≡ get_or bags k bag → slice_get bags k ≡ Some bag
@@ -219,18 +218,7 @@ pub nobody_leaves : (q : SetQueryValue) (hop : Hop TimeTrips) (kept : ByTrips) �
     → LeavesByTrips q hop kept kept
 nobody_leaves q hop kept can stays = record {
   are = can.are;
-  leaves = record {
-    writes = record { exits = extends_none (value_by_trips kept).exits; steps = extends_none (value_by_trips kept).steps };
-    bags = λ stop. refl;
-    other_trips = λ trip other. refl;
-    takes = λ walks set_outs.
-        let records = scan_records (value_by_trips kept).exits (value_by_trips kept).steps set_outs in
-        but_none trip_rules (NoChange (Excludes trip_rules hop.bound.now)) (only_if (hop.connection.alight ≡ true)
-        (endings_and_changes trip_rules (from_to (spelling_of walks records) (spelling_of walks records)) hop.place hop.connection q
-        (final_walk_in hop.final_entry)
-        ((value_by_trips kept).bag hop.connection.to))) ((value_by_trips kept).labels hop.connection.trip)
-        (λ way opened. true≢false (sym opened.0 ∙ stays));
-  };
+  leaves = not_left trip_rules q hop (value_by_trips kept) stays;
 }
 
 module _ {O : Type 0} (t : TimetableValue) (sources : List ℕ → ℕ → List ℕ) (kept : O → ℕ → SourceValue TimeTrips) (q : SetQueryValue)
@@ -242,34 +230,12 @@ module _ {O : Type 0} (t : TimetableValue) (sources : List ℕ → ℕ → List 
       (label_points (labels_by_trips old hop.connection.trip))) (kept from index) (kept to index))
       → BoardsByTrips t hop old new → GoesOn trip_rules t sources kept q hop (value_by_trips old) (value_by_trips new) from to
   went_on old new from to set_outs sets_out boards =
-      let was = value_by_trips old in
-      let now = value_by_trips new in
-      let trip = hop.connection.trip in
-      record {
-        writes = boards.writes;
-        set_outs = set_outs;
-        labels = boards.labels;
-        sets_out = λ index.
-            let before = scan_records was.exits was.steps (kept from index).set_outs in
-            let all = scan_records now.exits now.steps (kept to index).set_outs in
-            let asked = asked_from sources q index in
-            let tags = from_to (spelling_of t.footpaths before) (spelling_of t.footpaths all) in
-            subst (λ (labels : List (Point TimeTrips)). TakesIn trip_rules (settings_out trip_rules t asked tags hop.place labels)
-            (kept from index).found (kept to index).found) (sym (boards.labels trip))
-            (sets_out_alike trip_rules t tags hop.place asked (label_points (labels_by_trips old trip)) (was.labels trip)
-            (labels_alike old trip) (kept from index).found (kept to index).found
-            (sets_out index was.exits was.steps before all (grows_none before)
-            (record { exits = boards.writes.exits; steps = boards.writes.steps; set_outs = extends_none (kept to index).set_outs })));
-        boards = λ index stop lt.
-            let outs = (kept to index).set_outs in
-            let before = scan_records was.exits was.steps (kept from index).set_outs in
-            let all = scan_records now.exits now.steps outs in
-            let tags = from_to (spelling_of t.footpaths before) (spelling_of t.footpaths all) in
-            subst (λ (labels : List (Point TimeTrips)). TakesInBut trip_rules (λ way. Excludes trip_rules hop.bound.now way.label.value)
-            (boardings trip_rules t tags hop.place stop labels) (was.bag stop) (now.bag stop)) (sym (boards.labels trip))
-            (boards.takes stop outs before all
-            (record { exits = extends_none was.exits; steps = extends_none was.steps; set_outs = set_outs index }) (grows_none all));
-      }
+      goes_on trip_rules t sources kept q hop (value_by_trips old) (value_by_trips new) from to set_outs
+      (λ index exits steps before all first_grows then_grows.
+      sets_out_alike trip_rules t (from_to (spelling_of t.footpaths before) (spelling_of t.footpaths all)) hop.place (asked_from sources q index)
+      (label_points (labels_by_trips old hop.connection.trip)) ((value_by_trips old).labels hop.connection.trip) (labels_alike old hop.connection.trip)
+      (kept from index).found (kept to index).found (sets_out index exits steps before all first_grows then_grows))
+      boards.takes
 
 -- the label of one more point
 pub labels_more : {V : Type 0} (points : List (Point V)) (k : ℕ) (p : Point V) → slice_get points k ≡ Some p → (old mid new : List (Label V)) (tag : ℕ)

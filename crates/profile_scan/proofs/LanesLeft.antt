@@ -5,9 +5,9 @@ use Rattle.std.proofs.Common.{inl, inr, refl, sym, ap, ◌∙◌, subst, arith, 
 use Rattle.std.specs.Global.{Vec}
 use Rattle.std.proofs.lemmas.Bool.{cases_lt, and_from, lt-ltb, le-leb}
 use Rattle.std.proofs.lemmas.Option.{slice_get_within}
-use Rattle.reasoning.proofs.ListLemmas.{contains_only, contains_first, extends_none, not_in_nil, slice_get-front, slice_get-last, same_at}
+use Rattle.reasoning.proofs.ListLemmas.{contains_only, contains_first, not_in_nil, slice_get-front, slice_get-last, same_at}
 use Rattle.reasoning.proofs.OptionLemmas.{option_cases}
-use Rattle.criteria.specs.Laws.{Admits, IsTime, time_limit}
+use Rattle.criteria.specs.Laws.{Admits, time_limit}
 use Rattle.criteria.specs.declared.arrival_trips.TimeTrips.{TimeTrips}
 use Rattle.bags.specs.declared.point.Point.{Point}
 use Rattle.timetable.specs.declared.network.Connection.{Connection}
@@ -19,7 +19,7 @@ use Rattle.lanes.specs.Lanes.{trip_rules, lane_labels, IsBeaten}
 use Rattle.lanes.specs.LaneLists.{word_tag}
 use Rattle.lanes.specs.LanesWithTags.{labels_in}
 use Rattle.lanes.specs.TripLanes.{AllBeaten, TakesAll, ending, front_labels, labels_at, offered_by, trips_of}
-use Rattle.lanes.specs.StopLanes.{IsFrontFrom, entries_of, front_at, points_at, steps_of, stops_of, tags_at}
+use Rattle.lanes.specs.StopLanes.{IsFrontFrom, entries_of, front_at, points_at, stops_of, tags_at}
 use Rattle.lanes.specs.declared.trip_lanes.Lanes.{Lanes}
 use Rattle.lanes.specs.declared.trip_lanes.TripLanes.{TripLanes}
 use Rattle.lanes.specs.declared.words.Words.{Words}
@@ -33,15 +33,17 @@ use Rattle.profile_scan.specs.Matching.{Spellings, from_to}
 use Rattle.profile_scan.specs.Steps.{Offer, IsOffered, TakesInBut}
 use Rattle.profile_scan.specs.Bound.{Excludes}
 use Rattle.profile_scan.specs.Adding.{IsEnding, changes_from, endings, label_points}
-use Rattle.profile_scan.specs.ScanRecords.{ScanRecords, Grows, IsExit, scan_records, spelling_of}
+use Rattle.profile_scan.specs.ScanRecords.{KeptValue, ScanRecords, Grows, IsExit, scan_records, spelling_of}
 use Rattle.profile_scan.specs.InLanes.{AreInLanes, CanLeaveLanes, IsBeatenByEight, LaneTakes, LeadsWithin, changes_but_eight, exit_of, value_of}
 use Rattle.profile_scan.specs.declared.final_walks.FinalWalk.{FinalWalk}
 use Rattle.profile_scan.specs.declared.hop.Hop.{Hop}
 use Rattle.profile_scan.specs.declared.in_lanes.InLanes.{InLanes}
 use Rattle.profile_scan.specs.declared.in_lanes.LaneExit.{LaneExit}
 use Rattle.profile_scan.specs.declared.in_lanes.LaneExit.TheVariants.{Ends as EndsLane, Changes as ChangesLane}
-use Rattle.profile_scan.specs.declared.scan_records.Exit.TheVariants.{Ends, Changes}
+use Rattle.profile_scan.specs.declared.scan_records.Exit.TheVariants.{Ends}
 use Rattle.profile_scan.specs.declared.scan_records.SetOut.{SetOut}
+use Rattle.profile_scan.specs.KeptParts.{LabelsTake, takes_changes, takes_endings}
+use Rattle.profile_scan.proofs.KeptLemmas.{labels_as, labels_none}
 use Rattle.profile_scan.proofs.LaneExits.{exit_at, exit_spelled_at, exits_long, exits_more}
 use Rattle.profile_scan.proofs.LaneOffers.{as_point, beaten_covers, changes_taken, kept_covers}
 use Rattle.profile_scan.proofs.Offers.{excused_as, sure}
@@ -75,17 +77,16 @@ label_admits trips trip l is = elim (option_cases (slice_get trips.lanes.items t
 ]
 
 -- nothing was missed
-none_missed : {A : Type 0} (trip : ℕ) (values : List TimeTrips) (Excused : A → Type 0) (offer : Spellings → Offer A TimeTrips) (old new : InLanes)
-    → LaneTakes trip values (λ way. Excused way ⊎ ⊥) offer old new → LaneTakes trip values Excused offer old new
-none_missed trip values Excused offer old new taken = record {
+none_missed : (hop : Hop TimeTrips) (points : List (Point TimeTrips)) (old new : InLanes)
+    → LaneTakes hop.bound.now (LabelsTake trip_rules hop.connection.trip (λ p. Excludes trip_rules hop.bound.now p.value ⊎ ⊥)
+    (λ tags. changes_from tags hop.place hop.connection.arr points)) old new
+    → LaneTakes hop.bound.now (takes_changes trip_rules hop points) old new
+none_missed hop points old new taken = record {
   are = taken.are;
   stops = taken.stops;
-  writes = taken.writes;
-  other_trips = taken.other_trips;
-  takes = λ walks set_outs before all first_grows then_grows.
-      excused_as trip_rules (λ way. Excused way ⊎ ⊥) Excused (offer (from_to (spelling_of walks before) (spelling_of walks all)))
-      (label_points (labels_at old.trips trip)) (label_points (labels_at new.trips trip)) (λ way opened was. sure was)
-      (taken.takes walks set_outs before all first_grows then_grows);
+  takes = labels_as trip_rules (λ tags. excused_as trip_rules (λ p. Excludes trip_rules hop.bound.now p.value ⊎ ⊥)
+      (λ p. Excludes trip_rules hop.bound.now p.value) (changes_from tags hop.place hop.connection.arr points)
+      (label_points (labels_at old.trips hop.connection.trip)) (label_points (labels_at new.trips hop.connection.trip)) (λ way opened was. sure was)) taken.takes;
 }
 
 module _ (q : SetQueryValue) (hop : Hop TimeTrips) (old : InLanes) (can : CanLeaveLanes q hop old) (trips : TripLanes) (exits : Vec LaneExit) where
@@ -145,6 +146,35 @@ module _ (q : SetQueryValue) (hop : Hop TimeTrips) (old : InLanes) (can : CanLea
           (stays now.exits all.exits then_grows.exits (first + k) (exit_of Tags x k) (exit_at Tags old.exits.items exits.items x pushed first k first_is lt))
           (omega (arith, fewer, long, first_is))
 
+    -- with it, labels take in what is offered
+    pub taken_with : {A : Type 0} {Excused : A → Type 0} {offer : Spellings → Offer A TimeTrips} {bound : List (Label TimeTrips)} (first : ℕ)
+        (offered : List (Label TimeTrips)) → first ≡ 8 * length old.exits.items → TakesAll trip bound offered old.trips trips
+        → ((l : Label TimeTrips) → Contains offered l → l.tag ≡ first + l.value.trips)
+        → ((tags : Spellings) → ((l : Label TimeTrips) → Contains (labels_at trips trip) l → Contains (labels_at old.trips trip) l
+        ⊎ (Contains offered l × IsExit tags (exit_of Tags x l.value.trips) l.tag))
+        → TakesInBut trip_rules Excused (offer tags) (label_points (labels_at old.trips trip)) (label_points (labels_at trips trip)))
+        → LaneTakes hop.bound.now (LabelsTake trip_rules trip Excused offer) old new
+    taken_with first offered first_is takes tagged join = record {
+      are = still_are takes.long;
+      stops = refl;
+      takes = record {
+        exits = exits_more Tags old.exits.items exits.items x pushed;
+        steps = refl;
+        bags = λ stop. refl;
+        other_trips = λ k other. ap label_points (takes.elsewhere k other);
+        takes = λ walks set_outs before all first_grows then_grows.
+            let tags = from_to (spelling_of walks before) (spelling_of walks all) in
+            join tags (λ l is. elim (takes.only l is) [
+              | inl was ↦ inl was
+              | inr there ↦ inr (
+                there,
+                subst (IsExit tags (exit_of Tags x l.value.trips)) (sym (tagged l there))
+                    (lane_spelled walks set_outs before all first_grows then_grows first l.value.trips first_is (few_trips trips trip l is)),
+              )
+            ]);
+      };
+    }
+
   -- to change, by words that stand for points of the stop, but for those missed
   module _ (entry first : ℕ) (words : List ℕ) (within : entry < entries_of old.stops) (Missed : Point TimeTrips → Type 0)
       (made_of : (l : Label TimeTrips) → Contains (lane_labels (word_tag (Tags entry)) words) l
@@ -152,50 +182,29 @@ module _ (q : SetQueryValue) (hop : Hop TimeTrips) (old : InLanes) (can : CanLea
       × (p.tag ≡ l.tag))
       (betters : (p : Point TimeTrips) → Contains (points_at old.stops hop.connection.to) p → hop.connection.arr ≤ p.departure
       → IsBeaten (lane_labels (word_tag (Tags entry)) words) p.value ⊎ Missed p) where
+    abbrev ButMissed : KeptValue TimeTrips → KeptValue TimeTrips → Type 0
+    ButMissed = LabelsTake trip_rules trip (λ p. Excludes trip_rules hop.bound.now p.value ⊎ Missed p)
+        (λ tags. changes_from tags hop.place hop.connection.arr (points_at old.stops hop.connection.to))
+
     lowered_but : first ≡ 8 * length old.exits.items → exits.items ≡ old.exits.items ++ ChangesLane hop.place entry ∷ []
         → TakesAll trip (front_labels old.bound) (lane_labels (λ k. first + k) words) old.trips trips
-        → LaneTakes trip hop.bound.now (λ p. Excludes trip_rules hop.bound.now p.value ⊎ Missed p)
-        (λ tags. changes_from tags hop.place hop.connection.arr (points_at old.stops hop.connection.to)) old new
-    lowered_but first_is pushed takes = record {
-      are = still_are (ChangesLane hop.place entry) pushed within takes.long;
-      stops = refl;
-      writes = record {
-        exits = exits_more Tags old.exits.items exits.items (ChangesLane hop.place entry) pushed;
-        steps = extends_none (steps_of old.stops);
-      };
-      other_trips = takes.elsewhere;
-      takes = λ walks set_outs before all first_grows then_grows.
-          changes_taken words (word_tag (Tags entry)) first hop.connection.arr hop.place (points_at old.stops hop.connection.to)
-          (front_labels old.bound) (labels_at old.trips trip) (labels_at trips trip) hop.bound.now
-          (from_to (spelling_of walks before) (spelling_of walks all)) Missed made_of betters bag_admitted
-          (λ l is. elim (takes.only l is) [
-            | inl was ↦ inl was
-            | inr offered ↦
-                let tagged = (stands (λ k. first + k) words l offered).tagged in
-                inr (
-                  offered,
-                  subst (IsExit (from_to (spelling_of walks before) (spelling_of walks all))
-                      (Changes hop.place (word_tag (Tags entry) l.value.trips))) (sym tagged)
-                      (lane_spelled (ChangesLane hop.place entry) pushed within walks set_outs before all first_grows then_grows first
-                      l.value.trips first_is (few_trips trips trip l is)),
-                )
-          ])
-          takes.kept takes.taken can.are.excludes;
-    }
+        → LaneTakes hop.bound.now ButMissed old new
+    lowered_but first_is pushed takes =
+        taken_with (ChangesLane hop.place entry) pushed within first (lane_labels (λ k. first + k) words) first_is takes
+        (λ l is. (stands (λ k. first + k) words l is).tagged)
+        (λ tags only. changes_taken words (word_tag (Tags entry)) first hop.connection.arr hop.place (points_at old.stops hop.connection.to)
+        (front_labels old.bound) (labels_at old.trips trip) (labels_at trips trip) hop.bound.now tags Missed made_of betters bag_admitted only
+        takes.kept takes.taken can.are.excludes)
 
     none_but : AllBeaten (front_labels old.bound) (labels_at old.trips trip) (lane_labels (λ k. first + k) words)
-        → LaneTakes trip hop.bound.now (λ p. Excludes trip_rules hop.bound.now p.value ⊎ Missed p)
-        (λ tags. changes_from tags hop.place hop.connection.arr (points_at old.stops hop.connection.to)) old old
+        → LaneTakes hop.bound.now ButMissed old old
     none_but beaten = record {
       are = can.are;
       stops = refl;
-      writes = record { exits = extends_none (value_of old).exits; steps = extends_none (value_of old).steps };
-      other_trips = λ k other. refl;
-      takes = λ walks set_outs before all first_grows then_grows.
-          changes_taken words (word_tag (Tags entry)) first hop.connection.arr hop.place (points_at old.stops hop.connection.to)
-          (front_labels old.bound) (labels_at old.trips trip) (labels_at old.trips trip) hop.bound.now
-          (from_to (spelling_of walks before) (spelling_of walks all)) Missed made_of betters bag_admitted (λ l is. inl is)
-          (λ l is. (l, is, no_worse_from l.value l.value (omega arith) (omega arith))) beaten can.are.excludes;
+      takes = labels_none trip_rules (λ tags.
+          (changes_taken words (word_tag (Tags entry)) first hop.connection.arr hop.place (points_at old.stops hop.connection.to)
+          (front_labels old.bound) (labels_at old.trips trip) (labels_at old.trips trip) hop.bound.now tags Missed made_of betters bag_admitted
+          (λ l is. inl is) (λ l is. (l, is, no_worse_from l.value l.value (omega arith) (omega arith))) beaten can.are.excludes).covered);
     }
 
   -- by the front of an entry
@@ -212,19 +221,15 @@ module _ (q : SetQueryValue) (hop : Hop TimeTrips) (old : InLanes) (can : CanLea
 
     pub change_lowered : first ≡ 8 * length old.exits.items → exits.items ≡ old.exits.items ++ ChangesLane hop.place entry ∷ []
         → TakesAll trip (front_labels old.bound) (offered_by front first) old.trips trips
-        → LaneTakes trip hop.bound.now (λ p. Excludes trip_rules hop.bound.now p.value)
-        (λ tags. changes_from tags hop.place hop.connection.arr (points_at old.stops hop.connection.to)) old new
+        → LaneTakes hop.bound.now (takes_changes trip_rules hop (points_at old.stops hop.connection.to)) old new
     change_lowered first_is pushed takes =
-        none_missed trip hop.bound.now (λ p. Excludes trip_rules hop.bound.now p.value)
-        (λ tags. changes_from tags hop.place hop.connection.arr (points_at old.stops hop.connection.to)) old new
+        none_missed hop (points_at old.stops hop.connection.to) old new
         (lowered_but entry first front.times stands_for.within (λ _. ⊥) made_of (λ p is late. inl (betters p is late)) first_is pushed takes)
 
     pub change_none : AllBeaten (front_labels old.bound) (labels_at old.trips trip) (offered_by front first)
-        → LaneTakes trip hop.bound.now (λ p. Excludes trip_rules hop.bound.now p.value)
-        (λ tags. changes_from tags hop.place hop.connection.arr (points_at old.stops hop.connection.to)) old old
+        → LaneTakes hop.bound.now (takes_changes trip_rules hop (points_at old.stops hop.connection.to)) old old
     change_none beaten =
-        none_missed trip hop.bound.now (λ p. Excludes trip_rules hop.bound.now p.value)
-        (λ tags. changes_from tags hop.place hop.connection.arr (points_at old.stops hop.connection.to)) old old
+        none_missed hop (points_at old.stops hop.connection.to) old old
         (none_but entry first front.times stands_for.within (λ _. ⊥) made_of (λ p is late. inl (betters p is late)) beaten)
 
     -- without its value of eight trips
@@ -300,55 +305,25 @@ module _ (q : SetQueryValue) (hop : Hop TimeTrips) (old : InLanes) (can : CanLea
     (is_ending : IsEnding hop.connection q (final_walk_in hop.final_entry) walk) (time_is : time ≡ hop.connection.arr + start_secs walk)
     (one : (other : Option Footpath) → IsEnding hop.connection q (final_walk_in hop.final_entry) other → other ≡ walk) where
   pub end_none : AllBeaten [] (labels_at old.trips hop.connection.trip) (ending time first)
-      → LaneTakes hop.connection.trip hop.bound.now (λ _. ⊥) (λ tags. endings trip_rules tags hop.place hop.connection q
-      (final_walk_in hop.final_entry)) old old
+      → LaneTakes hop.bound.now (takes_endings trip_rules q hop) old old
   end_none beaten = record {
     are = can.are;
     stops = refl;
-    writes = record { exits = extends_none (value_of old).exits; steps = extends_none (value_of old).steps };
-    other_trips = λ k other. refl;
-    takes = λ walks set_outs before all first_grows then_grows.
-        ends_taken q hop.connection (final_walk_in hop.final_entry) hop.place time first walk (labels_at old.trips hop.connection.trip)
-        (labels_at old.trips hop.connection.trip) is_ending time_is one (from_to (spelling_of walks before) (spelling_of walks all)) (λ l is. inl is)
-        (λ l is. (l, is, no_worse_from l.value l.value (omega arith) (omega arith))) beaten;
+    takes = labels_none trip_rules (λ tags.
+        (ends_taken q hop.connection (final_walk_in hop.final_entry) hop.place time first walk (labels_at old.trips hop.connection.trip)
+        (labels_at old.trips hop.connection.trip) is_ending time_is one tags (λ l is. inl is)
+        (λ l is. (l, is, no_worse_from l.value l.value (omega arith) (omega arith))) beaten).covered);
   }
 
   pub end_lowered : (trips : TripLanes) (exits : Vec LaneExit) → first ≡ 8 * length old.exits.items
       → exits.items ≡ old.exits.items ++ EndsLane hop.place walk ∷ []
       → TakesAll hop.connection.trip [] (ending time first) old.trips trips
-      → LaneTakes hop.connection.trip hop.bound.now (λ _. ⊥) (λ tags. endings trip_rules tags hop.place hop.connection q (final_walk_in hop.final_entry)) old
+      → LaneTakes hop.bound.now (takes_endings trip_rules q hop) old
       (record { trips = trips; stops = old.stops; exits = exits; bound = old.bound })
   end_lowered trips exits first_is pushed takes =
-      let x = EndsLane hop.place walk in
-      record {
-        are = still_are q hop old can trips exits x pushed tt takes.long;
-        stops = refl;
-        writes = record { exits = exits_more (tags_at old.stops) old.exits.items exits.items x pushed; steps = extends_none (steps_of old.stops) };
-        other_trips = takes.elsewhere;
-        takes = λ walks set_outs before all first_grows then_grows.
-            let tags = from_to (spelling_of walks before) (spelling_of walks all) in
-            ends_taken q hop.connection (final_walk_in hop.final_entry) hop.place time first walk (labels_at old.trips hop.connection.trip)
-            (labels_at trips hop.connection.trip) is_ending time_is one tags
-            (λ l is. elim (takes.only l is) [
-              | inl was ↦ inl was
-              | inr offered ↦
-                  let tag_is : first + 0 ≡ l.tag = (let e : first + 0 ≡ first = omega arith in e)
-                  ∙ sym (ap (λ (m : Label TimeTrips). m.tag) (contains_only (record { value = record { time = time; trips = 0 }; tag = first }) l offered)) in
-                  inr (
-                    offered,
-                    subst (IsExit tags (Ends hop.place walk)) tag_is
-                        (lane_spelled q hop old can trips exits x pushed tt walks set_outs before all first_grows then_grows first 0 first_is (omega arith)),
-                  )
-            ])
-            takes.kept takes.taken;
-      }
-
--- the value of an ending is admitted
-pub ending_admits : (q : SetQueryValue) (c : Connection) (way : Option FinalWalk) (walk : Option Footpath) → IsTime q.by → IsEnding c q way walk
-    → Admits trip_rules (started trip_rules walk (trip_rules.arrive (c.arr + start_secs walk)))
-ending_admits q c None walk by ends = absurd ends
-ending_admits q c (Some way) None by ends =
-    and_from (nat_lt (c.arr + 0) time_limit) (nat_le 0 65535) (lt-ltb (c.arr + 0) time_limit (omega (arith, by, ends.1))) (le-leb 0 65535 (omega arith))
-ending_admits q c (Some way) (Some f) by ends =
-    and_from (nat_lt (c.arr + f.secs) time_limit) (nat_le 0 65535) (lt-ltb (c.arr + f.secs) time_limit (omega (arith, by, ends.2)))
-    (le-leb 0 65535 (omega arith))
+      let ends : Label TimeTrips = record { value = record { time = time; trips = 0 }; tag = first } in
+      let tag_is : first ≡ first + 0 = omega arith in
+      taken_with q hop old can trips exits (EndsLane hop.place walk) pushed tt first (ending time first) first_is takes
+      (λ l is. subst (λ (m : Label TimeTrips). m.tag ≡ first + m.value.trips) (sym (contains_only ends l is)) tag_is)
+      (λ tags only. ends_taken q hop.connection (final_walk_in hop.final_entry) hop.place time first walk (labels_at old.trips hop.connection.trip)
+      (labels_at trips hop.connection.trip) is_ending time_is one tags only takes.kept takes.taken)

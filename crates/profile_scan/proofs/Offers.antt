@@ -69,29 +69,6 @@ module _ {V : Type 0} (rules : Rules V) where
         subst (λ xs. Covers rules xs p.departure p.value) (sym is) (above.0, above.1, h.0, h.1);
   }
 
-  -- one element more
-  pub takes_more : {X A : Type 0} (Was There : X → Type 0) (offer : X
-      → Offer A V) (x : X) (old mid new : List (Point V)) → ((y : X) → Was y → There y) → There x
-      → ((y : X) → There y → Was y ⊎ (y ≡ x))
-      → ((y : X) (way : A) → Was y → (offer y).is_open way → Admits rules ((offer y).value way))
-      → TakesIn rules (each_of Was offer) old mid → TakesIn rules (offer x) mid new
-      → TakesIn rules (each_of There offer) old new
-  takes_more {X} {A} Was There offer x old mid new was_there there_x split admits before here = record {
-    only = λ p h. elim (here.only p h) [
-      | inl in_mid ↦ elim (before.only p in_mid) [
-        | inl in_old ↦ inl in_old
-        | inr o ↦ inr (record { way = o.way; is_open = (was_there o.way.0 o.is_open.0, o.is_open.1); departs = o.departs; worth = o.worth; fits = o.fits })
-      ]
-      | inr o ↦ inr (record { way = (x, o.way); is_open = (there_x, o.is_open); departs = o.departs; worth = o.worth; fits = o.fits })
-    ];
-    kept = λ d v a c. here.kept d v a (before.kept d v a c);
-    covered = λ way opened. elim (split way.0 opened.0) [
-      | inl was ↦ here.kept ((offer way.0).departure way.1) ((offer way.0).value way.1) (admits way.0 way.1 was opened.1) (before.covered way (was, opened.1))
-      | inr same ↦ subst (λ (y : X). Covers rules new ((offer y).departure way.1) ((offer y).value way.1)) (sym same)
-          (here.covered way.1 (subst (λ (y : X). (offer y).is_open way.1) same opened.1))
-    ];
-  }
-
   -- a way of one offer is one of another
   pub record IsPart {A B : Type 0} (a : Offer A V) (b : Offer B V) (way : A) : Type 0 where
     pub there : B
@@ -148,32 +125,54 @@ module _ {V : Type 0} (rules : Rules V) where
       → TakesInBut rules Excused offer points points
   but_none Excused offer points none = takes_but Excused offer points points (takes_none offer points none)
 
-  -- one element more, of which the same is excused
-  pub but_more : {X A : Type 0} (Was There : X → Type 0) (offer : X → Offer A V) (Excused : A → Type 0) (x : X) (old mid new : List (Point V))
+  -- of two offers taken in one after the other, each way is one of a third
+  pub but_then : {A B C : Type 0} {First : A → Type 0} {Second : B → Type 0} {Both : C → Type 0} {a : Offer A V} {b : Offer B V} {c : Offer C V}
+      {old mid new : List (Point V)} → ((way : A) → a.is_open way → IsPart a c way) → ((way : B) → b.is_open way → IsPart b c way)
+      → ((way : C) → c.is_open way → Covers rules new (c.departure way) (c.value way) ⊎ Both way)
+      → TakesInBut rules First a old mid → TakesInBut rules Second b mid new → TakesInBut rules Both c old new
+  but_then {a = a} {b = b} {c = c} first_part second_part covered first second = record {
+    only = λ p h. elim (second.only p h) [
+      | inl in_mid ↦ elim (first.only p in_mid) [ inl was ↦ inl was | inr o ↦ inr (offered_as a c first_part p o) ]
+      | inr o ↦ inr (offered_as b c second_part p o)
+    ];
+    kept = λ d v a c. second.kept d v a (first.kept d v a c);
+    covered = covered;
+  }
+
+  -- what was covered, or excused, still is
+  pub kept_on : {A E : Type 0} {Excused : A → Type 0} {offer : Offer A V} {mid new : List (Point V)} {d : ℕ} {v : V}
+      → TakesInBut rules Excused offer mid new → Admits rules v → Covers rules mid d v ⊎ E → Covers rules new d v ⊎ E
+  kept_on {d = d} {v = v} second admitted (inl c) = inl (second.kept d v admitted c)
+  kept_on second admitted (inr excused) = inr excused
+
+  -- one element more, with an excuse of its own
+  pub but_more : {X A : Type 0} (Was There : X → Type 0) (offer : X → Offer A V) (Excused : X → A → Type 0) (x : X) {old mid new : List (Point V)}
       → ((y : X) → Was y → There y) → There x → ((y : X) → There y → Was y ⊎ (y ≡ x))
       → ((y : X) (way : A) → Was y → (offer y).is_open way → Admits rules ((offer y).value way))
-      → TakesInBut rules (λ way. Excused way.1) (each_of Was offer) old mid → TakesInBut rules Excused (offer x) mid new
-      → TakesInBut rules (λ way. Excused way.1) (each_of There offer) old new
-  but_more {X} {A} Was There offer Excused x old mid new was_there there_x split admits before here = record {
-    only = λ p h. elim (here.only p h) [
-      | inl in_mid ↦ elim (before.only p in_mid) [
-        | inl in_old ↦ inl in_old
-        | inr o ↦ inr (record { way = o.way; is_open = (was_there o.way.0 o.is_open.0, o.is_open.1); departs = o.departs; worth = o.worth; fits = o.fits })
-      ]
-      | inr o ↦ inr (record { way = (x, o.way); is_open = (there_x, o.is_open); departs = o.departs; worth = o.worth; fits = o.fits })
-    ];
-    kept = λ d v a c. here.kept d v a (before.kept d v a c);
-    covered = λ way opened. elim (split way.0 opened.0) [
-      | inl was ↦ elim (before.covered way (was, opened.1)) [
-        | inl c ↦ inl (here.kept ((offer way.0).departure way.1) ((offer way.0).value way.1) (admits way.0 way.1 was opened.1) c)
-        | inr excused ↦ inr excused
-      ]
-      | inr same ↦ elim (here.covered way.1 (subst (λ (y : X). (offer y).is_open way.1) same opened.1)) [
-        | inl c ↦ inl (subst (λ (y : X). Covers rules new ((offer y).departure way.1) ((offer y).value way.1)) (sym same) c)
-        | inr excused ↦ inr excused
-      ]
-    ];
-  }
+      → TakesInBut rules (λ way. Excused way.0 way.1) (each_of Was offer) old mid → TakesInBut rules (Excused x) (offer x) mid new
+      → TakesInBut rules (λ way. Excused way.0 way.1) (each_of There offer) old new
+  but_more {X} Was There offer Excused x {new = new} was_there there_x split admits before here =
+      but_then
+      (λ way opened. record { there = way; is_open = (was_there way.0 opened.0, opened.1); departs = refl; worth = refl; fits = λ tag h. h })
+      (λ way opened. record { there = (x, way); is_open = (there_x, opened); departs = refl; worth = refl; fits = λ tag h. h })
+      (λ way opened. elim (split way.0 opened.0) [
+        | inl was ↦ kept_on here (admits way.0 way.1 was opened.1) (before.covered way (was, opened.1))
+        | inr same ↦ subst (λ (y : X). Covers rules new ((offer y).departure way.1) ((offer y).value way.1) ⊎ Excused y way.1) (sym same)
+            (here.covered way.1 (subst (λ (y : X). (offer y).is_open way.1) same opened.1))
+      ]) before here
+
+  -- where nothing is excused, all is taken in
+  pub in_full : {A : Type 0} (offer : Offer A V) (old new : List (Point V)) → TakesInBut rules (λ _. ⊥) offer old new → TakesIn rules offer old new
+  in_full offer old new takes = record { only = takes.only; kept = takes.kept; covered = λ way opened. sure (takes.covered way opened) }
+
+  pub takes_more : {X A : Type 0} (Was There : X → Type 0) (offer : X → Offer A V) (x : X) (old mid new : List (Point V))
+      → ((y : X) → Was y → There y) → There x → ((y : X) → There y → Was y ⊎ (y ≡ x))
+      → ((y : X) (way : A) → Was y → (offer y).is_open way → Admits rules ((offer y).value way))
+      → TakesIn rules (each_of Was offer) old mid → TakesIn rules (offer x) mid new
+      → TakesIn rules (each_of There offer) old new
+  takes_more Was There offer x old mid new was_there there_x split admits before here =
+      in_full (each_of There offer) old new (but_more Was There offer (λ _ _. ⊥) x was_there there_x split admits
+      (takes_but (λ _. ⊥) (each_of Was offer) old mid before) (takes_but (λ _. ⊥) (offer x) mid new here))
 
   -- with weaker excuses
   pub excused_as : {A : Type 0} (Was Excused : A → Type 0) (offer : Offer A V) (old new : List (Point V))
@@ -225,6 +224,16 @@ pub takes_next : {X A V : Type 0} (rules : Rules V) (points : List X) (offer : X
 takes_next rules points offer n x old mid new at admits =
     takes_more rules (StandsBefore points n) (StandsBefore points (n + 1)) offer x old mid new (stands_more points n)
     (n, omega arith, at) (λ y. stands_split points n x y at) (λ y way s. admits y way (stands_in points n y s))
+
+-- the same with an excuse of its own
+pub each_more : {X A V : Type 0} (rules : Rules V) (points : List X) (offer : X → Offer A V) (Excused : X → Type 0) (n : ℕ) (x : X)
+    {old mid new : List (Point V)} → slice_get points n ≡ Some x
+    → ((y : X) (way : A) → Contains points y → (offer y).is_open way → Admits rules ((offer y).value way))
+    → TakesInBut rules (λ way. Excused way.0) (each_of (StandsBefore points n) offer) old mid → TakesInBut rules (λ _. Excused x) (offer x) mid new
+    → TakesInBut rules (λ way. Excused way.0) (each_of (StandsBefore points (n + 1)) offer) old new
+each_more rules points offer Excused n x at admits =
+    but_more rules (StandsBefore points n) (StandsBefore points (n + 1)) offer (λ y _. Excused y) x (stands_more points n) (n, omega arith, at)
+    (λ y. stands_split points n x y at) (λ y way s. admits y way (stands_in points n y s))
 
 pub takes_first : {X A V : Type 0} (rules : Rules V) (points : List X) (offer : X → Offer A V) (old : List (Point V))
     → TakesIn rules (each_of (StandsBefore points 0) offer) old old
@@ -287,18 +296,12 @@ module _ {V : Type 0} (rules : Rules V) where
   pub takes_either : {A B : Type 0} (a : Offer A V) (b : Offer B V) (old mid new : List (Point V))
       → ((way : A) → a.is_open way → Admits rules (a.value way)) → TakesIn rules a old mid → TakesIn rules b mid new
       → TakesIn rules (either a b) old new
-  takes_either {A} {B} a b old mid new admits first second = record {
-    only = λ p h. elim (second.only p h) [
-      | inl in_mid ↦ elim (first.only p in_mid) [
-        | inl in_old ↦ inl in_old
-        | inr o ↦ inr (record { way = inl o.way; is_open = o.is_open; departs = o.departs; worth = o.worth; fits = o.fits })
-      ]
-      | inr o ↦ inr (record { way = inr o.way; is_open = o.is_open; departs = o.departs; worth = o.worth; fits = o.fits })
-    ];
-    kept = λ d v ad c. second.kept d v ad (first.kept d v ad c);
-    covered = λ way opened. covered_by rules a b new
-        (λ w o. second.kept (a.departure w) (a.value w) (admits w o) (first.covered w o)) second.covered way opened;
-  }
+  takes_either a b old mid new admits first second =
+      in_full rules (either a b) old new (but_then rules
+      (λ way opened. record { there = inl way; is_open = opened; departs = refl; worth = refl; fits = λ tag h. h })
+      (λ way opened. record { there = inr way; is_open = opened; departs = refl; worth = refl; fits = λ tag h. h })
+      (λ way opened. inl (covered_by rules a b new (λ w o. second.kept (a.departure w) (a.value w) (admits w o) (first.covered w o)) second.covered
+      way opened)) (takes_but rules (λ _. ⊥) a old mid first) (takes_but rules (λ _. ⊥) b mid new second))
 
 pub on_ok_more : {T E : Type 0} (r : Result T E) (P Q : Type 0) → (P → Q) → OnOk r P → OnOk r Q
 on_ok_more (Ok x) P Q f h = f h

@@ -1,5 +1,5 @@
 -- Lists side by side, and changes taken in one after another.
-use Rattle.std.proofs.Common.{◌≡◌, ◌⊎◌, ℕ, ◌+◌, ◌≤◌, true, List, ◌++◌, Contains, Option, Some, slice_get, inl, inr, sym, subst, arith}
+use Rattle.std.proofs.Common.{◌≡◌, ◌⊎◌, ℕ, ◌+◌, ◌≤◌, true, List, ◌++◌, Contains, Option, inl, inr, refl}
 use Rattle.std.proofs.lemmas.List.Elements.{Contains-append_left, Contains-append_right, Contains-append_cases}
 use Rattle.criteria.specs.Laws.{Rules, Admits, NoWorse}
 use Rattle.criteria.specs.declared.arrival_trips.TimeTrips.{TimeTrips}
@@ -14,12 +14,12 @@ use Rattle.profile_scan.specs.Values.{started}
 use Rattle.profile_scan.specs.Points.{Covers}
 use Rattle.profile_scan.specs.Matching.{Spellings}
 use Rattle.profile_scan.specs.Steps.{Boarding, MayBoard, Offer, TakesInBut, boardings}
-use Rattle.profile_scan.specs.Adding.{IsEnding, NoChange, StandsBefore, changes_from, each_of, endings, endings_and_changes, one_way, only_if}
+use Rattle.profile_scan.specs.Adding.{IsEnding, NoChange, changes_from, endings, endings_and_changes, one_way, only_if}
 use Rattle.profile_scan.specs.ScanRecords.{IsExit}
 use Rattle.profile_scan.specs.declared.final_walks.FinalWalk.{FinalWalk}
 use Rattle.profile_scan.specs.declared.scan_records.Exit.TheVariants.{Changes}
 use Rattle.profile_scan.proofs.LaneOffers.{covers_trans}
-use Rattle.profile_scan.proofs.Offers.{stands_in, stands_split}
+use Rattle.profile_scan.proofs.Offers.{but_then, kept_on, sure}
 
 module _ {V : Type 0} (rules : Rules V) where
   pub covers_front : (xs ys : List (Point V)) (departure : ℕ) (v : V) → Covers rules xs departure v → Covers rules (xs ++ ys) departure v
@@ -36,9 +36,9 @@ module _ {V : Type 0} (rules : Rules V) where
   ]
 
   -- the first of two lists takes an offer in
-  pub front_takes : {A : Type 0} (Excused : A → Type 0) (offer : Offer A V) (old new rest : List (Point V)) → TakesInBut rules Excused offer old new
+  pub front_takes : {A : Type 0} {Excused : A → Type 0} {offer : Offer A V} {old new : List (Point V)} (rest : List (Point V)) → TakesInBut rules Excused offer old new
       → TakesInBut rules Excused offer (old ++ rest) (new ++ rest)
-  front_takes Excused offer old new rest takes = record {
+  front_takes {offer = offer} {old = old} {new = new} rest takes = record {
     only = λ p h. elim (Contains-append_cases new rest p h) [
       | inl is ↦ elim (takes.only p is) [ inl was ↦ inl (Contains-append_left old rest p was) | inr o ↦ inr o ]
       | inr is ↦ inl (Contains-append_right old rest p is)
@@ -54,9 +54,9 @@ module _ {V : Type 0} (rules : Rules V) where
   }
 
   -- the second does
-  pub rear_takes : {A : Type 0} (Excused : A → Type 0) (offer : Offer A V) (first old new : List (Point V)) → TakesInBut rules Excused offer old new
+  pub rear_takes : {A : Type 0} {Excused : A → Type 0} {offer : Offer A V} (first : List (Point V)) {old new : List (Point V)} → TakesInBut rules Excused offer old new
       → TakesInBut rules Excused offer (first ++ old) (first ++ new)
-  rear_takes Excused offer first old new takes = record {
+  rear_takes {offer = offer} first {old = old} {new = new} takes = record {
     only = λ p h. elim (Contains-append_cases first new p h) [
       | inl is ↦ inl (Contains-append_left first old p is)
       | inr is ↦ elim (takes.only p is) [ inl was ↦ inl (Contains-append_right first old p was) | inr o ↦ inr o ]
@@ -72,60 +72,34 @@ module _ {V : Type 0} (rules : Rules V) where
   }
 
   -- changes to the points of two lists
-  pub changes_both : (Excused : Point V → Type 0) (tags : Spellings) (i time : ℕ) (xs ys old mid new : List (Point V))
+  pub changes_both : (Excused : Point V → Type 0) (tags : Spellings) (i time : ℕ) (xs ys : List (Point V)) {old mid new : List (Point V)}
       → ((p : Point V) → Contains xs p → Admits rules p.value) → TakesInBut rules Excused (changes_from tags i time xs) old mid
       → TakesInBut rules Excused (changes_from tags i time ys) mid new → TakesInBut rules Excused (changes_from tags i time (xs ++ ys)) old new
-  changes_both Excused tags i time xs ys old mid new admitted first second = record {
-    only = λ p h. elim (second.only p h) [
-      | inl in_mid ↦ elim (first.only p in_mid) [
-        | inl in_old ↦ inl in_old
-        | inr o ↦ inr (record {
-          way = o.way;
-          is_open = (Contains-append_left xs ys o.way o.is_open.0, o.is_open.1);
-          departs = o.departs;
-          worth = o.worth;
-          fits = o.fits;
-        })
-      ]
-      | inr o ↦ inr (record {
-        way = o.way;
-        is_open = (Contains-append_right xs ys o.way o.is_open.0, o.is_open.1);
-        departs = o.departs;
-        worth = o.worth;
-        fits = o.fits;
-      })
-    ];
-    kept = λ d v a c. second.kept d v a (first.kept d v a c);
-    covered = λ p opened. elim (Contains-append_cases xs ys p opened.0) [
-      | inl is ↦ elim (first.covered p (is, opened.1)) [ inl c ↦ inl (second.kept 0 p.value (admitted p is) c) | inr excused ↦ inr excused ]
-      | inr is ↦ second.covered p (is, opened.1)
-    ];
-  }
+  changes_both Excused tags i time xs ys admitted first second =
+      but_then rules
+      (λ p opened. record { there = p; is_open = (Contains-append_left xs ys p opened.0, opened.1); departs = refl; worth = refl; fits = λ tag h. h })
+      (λ p opened. record { there = p; is_open = (Contains-append_right xs ys p opened.0, opened.1); departs = refl; worth = refl; fits = λ tag h. h })
+      (λ p opened. elim (Contains-append_cases xs ys p opened.0) [
+        | inl is ↦ kept_on rules second (admitted p is) (first.covered p (is, opened.1))
+        | inr is ↦ second.covered p (is, opened.1)
+      ]) first second
 
 -- what was missed is no better than a point that is offered then
-pub with_missed : (Excused Missed : Point TimeTrips → Type 0) (tags : Spellings) (i time : ℕ) (xs old mid new : List (Point TimeTrips))
+pub with_missed : (Excused Missed : Point TimeTrips → Type 0) (tags : Spellings) (i time : ℕ) (xs : List (Point TimeTrips))
+    {old mid new : List (Point TimeTrips)}
     → ((p : Point TimeTrips) → Contains xs p → Admits trip_rules p.value) → (q : Point TimeTrips) → Contains xs q → time ≤ q.departure
     → ((p : Point TimeTrips) → Missed p → NoWorse trip_rules q.value p.value)
     → TakesInBut trip_rules (λ p. Excused p ⊎ Missed p) (changes_from tags i time xs) old mid
     → TakesInBut trip_rules (λ _. ⊥) (one_way 0 q.value (IsExit tags (Changes i q.tag))) mid new
     → TakesInBut trip_rules Excused (changes_from tags i time xs) old new
-with_missed Excused Missed tags i time xs old mid new admitted q is late better first second = record {
-  only = λ p h. elim (second.only p h) [
-    | inl in_mid ↦ first.only p in_mid
-    | inr o ↦ inr (record { way = q; is_open = (is, late); departs = o.departs; worth = o.worth; fits = o.fits })
-  ];
-  kept = λ d v a c. second.kept d v a (first.kept d v a c);
-  covered = λ p opened. elim (first.covered p opened) [
-    | inl c ↦ inl (second.kept 0 p.value (admitted p opened.0) c)
-    | inr not_covered ↦ elim not_covered [
-      | inl excused ↦ inr excused
-      | inr missed ↦ elim (second.covered tt tt) [
-        | inl c ↦ inl (c.0, c.1, c.2, covers_trans c.0.value q.value p.value c.3 (better p missed))
-        | inr none ↦ absurd none
-      ]
-    ]
-  ];
-}
+with_missed Excused Missed tags i time xs admitted q is late better first second =
+    but_then trip_rules (λ p opened. record { there = p; is_open = opened; departs = refl; worth = refl; fits = λ tag h. h })
+    (λ way opened. record { there = q; is_open = (is, late); departs = refl; worth = refl; fits = λ tag h. h })
+    (λ p opened. elim (first.covered p opened) [
+      | inl c ↦ inl (second.kept 0 p.value (admitted p opened.0) c)
+      | inr (inl excused) ↦ inr excused
+      | inr (inr missed) ↦ let c = sure (second.covered tt tt) in inl (c.0, c.1, c.2, covers_trans c.0.value q.value p.value c.3 (better p missed))
+    ]) first second
 
 -- each way to leave is covered, or excused
 covered_either : {V : Type 0} (rules : Rules V) (q : SetQueryValue) (place : ℕ) (c : Connection) (way : Option FinalWalk) (Excused : V → Type 0)
@@ -140,57 +114,16 @@ covered_either rules q place c way Excused tags bag new ends changes (inr p) ope
 
 -- to end, and then to change
 pub ends_and_changes : {V : Type 0} (rules : Rules V) (q : SetQueryValue) (place : ℕ) (c : Connection) (way : Option FinalWalk) (Excused : V → Type 0)
-    (tags : Spellings) (bag old mid new : List (Point V))
+    (tags : Spellings) (bag : List (Point V)) {old mid new : List (Point V)}
     → ((walk : Option Footpath) → IsEnding c q way walk → Admits rules (started rules walk (rules.arrive (c.arr + start_secs walk))))
     → c.alight ≡ true → TakesInBut rules (λ _. ⊥) (endings rules tags place c q way) old mid
     → TakesInBut rules (λ p. Excused p.value) (changes_from tags place c.arr bag) mid new
     → TakesInBut rules (NoChange Excused) (only_if (c.alight ≡ true) (endings_and_changes rules tags place c q way bag)) old new
-ends_and_changes rules q place c way Excused tags bag old mid new admits alights first second = record {
-  only = λ p h. elim (second.only p h) [
-    | inl in_mid ↦ elim (first.only p in_mid) [
-      | inl in_old ↦ inl in_old
-      | inr o ↦ inr (record { way = inl o.way; is_open = (alights, o.is_open); departs = o.departs; worth = o.worth; fits = o.fits })
-    ]
-    | inr o ↦ inr (record { way = inr o.way; is_open = (alights, o.is_open); departs = o.departs; worth = o.worth; fits = o.fits })
-  ];
-  kept = λ d v a cover. second.kept d v a (first.kept d v a cover);
-  covered = covered_either rules q place c way Excused tags bag new
-      (λ walk opened. elim (first.covered walk opened) [
-        | inl cover ↦ second.kept 0 _ (admits walk opened) cover
-        | inr none ↦ absurd none
-      ]) second.covered;
-}
-
--- one element more, with an excuse of its own
-pub each_more : {V X A : Type 0} (rules : Rules V) (points : List X) (offer : X → Offer A V) (Excused : X → Type 0) (n : ℕ) (x : X)
-    (old mid new : List (Point V)) → slice_get points n ≡ Some x
-    → ((y : X) (way : A) → Contains points y → (offer y).is_open way → Admits rules ((offer y).value way))
-    → TakesInBut rules (λ way. Excused way.0) (each_of (StandsBefore points n) offer) old mid
-    → TakesInBut rules (λ _. Excused x) (offer x) mid new
-    → TakesInBut rules (λ way. Excused way.0) (each_of (StandsBefore points (n + 1)) offer) old new
-each_more {V} {X} rules points offer Excused n x old mid new at admits before here = record {
-  only = λ p h. elim (here.only p h) [
-    | inl in_mid ↦ elim (before.only p in_mid) [
-      | inl in_old ↦ inl in_old
-      | inr o ↦
-          let s = o.is_open.0 in
-          inr (record { way = o.way; is_open = ((s.0, omega (arith, s.1), s.2), o.is_open.1); departs = o.departs; worth = o.worth; fits = o.fits })
-    ]
-    | inr o ↦ inr (record { way = (x, o.way); is_open = ((n, omega arith, at), o.is_open); departs = o.departs; worth = o.worth; fits = o.fits })
-  ];
-  kept = λ d v a c. here.kept d v a (before.kept d v a c);
-  covered = λ way opened. elim (stands_split points n x way.0 at opened.0) [
-    | inl was ↦ elim (before.covered way (was, opened.1)) [
-      | inl c ↦
-          inl (here.kept ((offer way.0).departure way.1) ((offer way.0).value way.1) (admits way.0 way.1 (stands_in points n way.0 was) opened.1) c)
-      | inr excused ↦ inr excused
-    ]
-    | inr same ↦ elim (here.covered way.1 (subst (λ (y : X). (offer y).is_open way.1) same opened.1)) [
-      | inl c ↦ inl (subst (λ (y : X). Covers rules new ((offer y).departure way.1) ((offer y).value way.1)) (sym same) c)
-      | inr excused ↦ inr (subst Excused (sym same) excused)
-    ]
-  ];
-}
+ends_and_changes rules q place c way Excused tags bag {new = new} admits alights first second =
+    but_then rules (λ w opened. record { there = inl w; is_open = (alights, opened); departs = refl; worth = refl; fits = λ tag h. h })
+    (λ p opened. record { there = inr p; is_open = (alights, opened); departs = refl; worth = refl; fits = λ tag h. h })
+    (covered_either rules q place c way Excused tags bag new
+    (λ walk opened. second.kept 0 _ (admits walk opened) (sure (first.covered walk opened))) second.covered) first second
 
 -- one may board as before with a label that is there
 may : {V : Type 0} (t : TimetableValue) (i stop : ℕ) (way : Boarding V) (labels others : List (Point V)) → MayBoard t i stop others way
@@ -200,36 +133,28 @@ may t i stop way labels others m is =
 
 -- boardings with the labels of two lists
 pub boardings_both : {V : Type 0} (rules : Rules V) (t : TimetableValue) (Excused : V → Type 0) (tags : Spellings) (i stop : ℕ)
-    (xs ys old mid new : List (Point V))
+    (xs ys : List (Point V)) {old mid new : List (Point V)}
     → ((way : Boarding V) → MayBoard t i stop xs way → Admits rules (rules.walk way.walk.secs (rules.ride way.label.value)))
     → TakesInBut rules (λ way. Excused way.label.value) (boardings rules t tags i stop xs) old mid
     → TakesInBut rules (λ way. Excused way.label.value) (boardings rules t tags i stop ys) mid new
     → TakesInBut rules (λ way. Excused way.label.value) (boardings rules t tags i stop (xs ++ ys)) old new
-boardings_both rules t Excused tags i stop xs ys old mid new admits first second = record {
-  only = λ p h. elim (second.only p h) [
-    | inl in_mid ↦ elim (first.only p in_mid) [
-      | inl in_old ↦ inl in_old
-      | inr o ↦ inr (record {
-        way = o.way;
-        is_open = may t i stop o.way (xs ++ ys) xs o.is_open (Contains-append_left xs ys o.way.label o.is_open.is_label);
-        departs = o.departs;
-        worth = o.worth;
-        fits = o.fits;
-      })
-    ]
-    | inr o ↦ inr (record {
-      way = o.way;
-      is_open = may t i stop o.way (xs ++ ys) ys o.is_open (Contains-append_right xs ys o.way.label o.is_open.is_label);
-      departs = o.departs;
-      worth = o.worth;
-      fits = o.fits;
+boardings_both rules t Excused tags i stop xs ys admits first second =
+    but_then rules
+    (λ way m. record {
+      there = way;
+      is_open = may t i stop way (xs ++ ys) xs m (Contains-append_left xs ys way.label m.is_label);
+      departs = refl;
+      worth = refl;
+      fits = λ tag h. h;
     })
-  ];
-  kept = λ d v a c. second.kept d v a (first.kept d v a c);
-  covered = λ way opened. elim (Contains-append_cases xs ys way.label opened.is_label) [
-    | inl is ↦
-        let m = may t i stop way xs (xs ++ ys) opened is in
-        elim (first.covered way m) [ inl c ↦ inl (second.kept _ _ (admits way m) c) | inr excused ↦ inr excused ]
-    | inr is ↦ second.covered way (may t i stop way ys (xs ++ ys) opened is)
-  ];
-}
+    (λ way m. record {
+      there = way;
+      is_open = may t i stop way (xs ++ ys) ys m (Contains-append_right xs ys way.label m.is_label);
+      departs = refl;
+      worth = refl;
+      fits = λ tag h. h;
+    })
+    (λ way m. elim (Contains-append_cases xs ys way.label m.is_label) [
+      | inl is ↦ let n = may t i stop way xs (xs ++ ys) m is in kept_on rules second (admits way n) (first.covered way n)
+      | inr is ↦ second.covered way (may t i stop way ys (xs ++ ys) m is)
+    ]) first second

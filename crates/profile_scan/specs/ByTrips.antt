@@ -13,19 +13,19 @@ use Rattle.lanes.specs.Lanes.{trip_rules}
 use Rattle.lanes.specs.TripLanes.{labels_at, trips_of}
 use Rattle.lanes.specs.StopLanes.{points_at, steps_of, stops_of, tags_at}
 use Rattle.profile_scan.specs.SetQuery.{SetQueryValue}
-use Rattle.profile_scan.specs.Matching.{Spellings, from_to}
+use Rattle.profile_scan.specs.Matching.{Spellings}
 use Rattle.profile_scan.specs.Continuations.{Aboard}
-use Rattle.profile_scan.specs.Steps.{Offer, TakesInBut, boarded, boardings}
+use Rattle.profile_scan.specs.Steps.{Offer, boarded}
 use Rattle.profile_scan.specs.Bound.{Excludes}
-use Rattle.profile_scan.specs.Adding.{StandsBetween, boardings_by, changes_from, each_of, label_points, one_way, only_if}
-use Rattle.profile_scan.specs.ScanRecords.{KeptValue, ScanRecords, Grows, scan_records, spelling_of}
+use Rattle.profile_scan.specs.Adding.{label_points, one_way, only_if}
+use Rattle.profile_scan.specs.ScanRecords.{KeptValue}
 use Rattle.profile_scan.specs.Hops.{IsHop, IsHopOf}
-use Rattle.profile_scan.specs.Keeping.{Leaves, WritesOn}
+use Rattle.profile_scan.specs.Keeping.{Leaves}
+use Rattle.profile_scan.specs.KeptParts.{BagsTake, boards_all}
 use Rattle.profile_scan.specs.InLanes.{AreInLanes, exits_in}
 use Rattle.profile_scan.specs.declared.by_trips.Beyond.{Beyond}
 use Rattle.profile_scan.specs.declared.by_trips.ByTrips.{ByTrips}
 use Rattle.profile_scan.specs.declared.hop.Hop.{Hop}
-use Rattle.profile_scan.specs.declared.scan_records.SetOut.{SetOut}
 use Rattle.profile_scan.specs.declared.starts.Starts.{Starts}
 
 -- the points of a bag, if there is one
@@ -70,20 +70,13 @@ pub record IsFilled (stops trips : ℕ) (old new : Beyond) : Type 0 where
   pub labels : (k : ℕ) → points_beyond new.labels.items k ≡ points_beyond old.labels.items k
   pub points : (k : ℕ) → points_beyond new.points.items k ≡ points_beyond old.points.items k
 
--- the labels of one trip take an offer in but for what is excused; points stay, and so do other labels, and exits are only added
-pub record TripTakesBut {A : Type 0} (trip : ℕ) (values : List TimeTrips) (Excused : A → Type 0) (offer : Spellings → Offer A TimeTrips) (old new : ByTrips)
-    : Type 0 where
+-- labels take something in; points stay, and bags are only added
+pub record RelabelsByTrips (values : List TimeTrips) (Takes : KeptValue TimeTrips → KeptValue TimeTrips → Type 0) (old new : ByTrips) : Type 0 where
   pub are : AreByTrips (stops_of old.lanes.stops) (trips_of old.lanes.trips) values new
   pub stops : new.lanes.stops ≡ old.lanes.stops
   pub points : (stop : ℕ) → points_beyond new.beyond.points.items stop ≡ points_beyond old.beyond.points.items stop
   pub bags : length old.beyond.points.items ≤ length new.beyond.points.items
-  pub writes : WritesOn (value_by_trips old) (value_by_trips new)
-  pub other_trips : (k : ℕ) → k ≢ trip → (value_by_trips new).labels k ≡ (value_by_trips old).labels k
-  pub takes : (walks : List Footpath) (set_outs : List SetOut) (before all : ScanRecords)
-      → Grows before (scan_records (value_by_trips old).exits (value_by_trips old).steps set_outs)
-      → Grows (scan_records (value_by_trips new).exits (value_by_trips new).steps set_outs) all
-      → TakesInBut trip_rules Excused (offer (from_to (spelling_of walks before) (spelling_of walks all)))
-      ((value_by_trips old).labels trip) ((value_by_trips new).labels trip)
+  pub takes : Takes (value_by_trips old) (value_by_trips new)
 
 -- a hop's trip may be left, and its stop has points
 pub record CanLeaveByTrips (q : SetQueryValue) (here : Hop TimeTrips) (kept : ByTrips) : Type 0 where
@@ -96,12 +89,6 @@ pub record CanLeaveByTrips (q : SetQueryValue) (here : Hop TimeTrips) (kept : By
 pub record LeavesByTrips (q : SetQueryValue) (hop : Hop TimeTrips) (old new : ByTrips) : Type 0 where
   pub are : AreByTrips (stops_of old.lanes.stops) (trips_of old.lanes.trips) hop.bound.now new
   pub leaves : Leaves trip_rules q hop (value_by_trips old) (value_by_trips new)
-
--- changes to some points of the stop are taken in, but for those that the bound excludes
-abbrev pub takes_changes : Hop TimeTrips → List (Point TimeTrips) → ByTrips → ByTrips → Type 0
-takes_changes hop points old new =
-    TripTakesBut hop.connection.trip hop.bound.now (λ p. Excludes trip_rules hop.bound.now p.value)
-    (λ tags. changes_from tags hop.place hop.connection.arr points) old new
 
 -- passengers may board the connection of a hop
 pub record CanBoardByTrips (t : TimetableValue) (query : SetQueryValue) (known : Starts) (here : Hop TimeTrips) (kept : ByTrips) : Type 0 where
@@ -121,56 +108,28 @@ pub record CanBoardBeyond (here : Hop TimeTrips) (walk : Footpath) (kept : ByTri
   pub trip : here.connection.trip < trips_of kept.lanes.trips
   pub stop : walk.from < stops_of kept.lanes.stops
 
--- the points of each stop take an offer in but for what is excused, in a timetable with some footpaths, and those in lanes stay; all else stays, and steps are
--- only added
-pub record StopsTakeBut {A : Type 0} (stops trips : ℕ) (hop : Hop TimeTrips) (AreWalks : List Footpath → Type 0) (Excused : A → Type 0)
-    (offer : ℕ → Spellings → Offer A TimeTrips) (old new : ByTrips) : Type 0 where
+-- points of stops beyond lanes take something in; labels and the points in lanes stay
+pub record BoardsBeyond (stops trips : ℕ) (hop : Hop TimeTrips) (Takes : KeptValue TimeTrips → KeptValue TimeTrips → Type 0) (old new : ByTrips)
+    : Type 0 where
   pub has : HasBags stops trips hop new
   pub labels : new.beyond.labels ≡ old.beyond.labels
   pub trips_same : new.lanes.trips ≡ old.lanes.trips
   pub points : (stop : ℕ) → points_at new.lanes.stops stop ≡ points_at old.lanes.stops stop
-  pub writes : WritesOn (value_by_trips old) (value_by_trips new)
-  pub takes : (walks : List Footpath) → AreWalks walks → (stop : ℕ) (set_outs : List SetOut) (before all : ScanRecords)
-      → Grows before (scan_records (value_by_trips old).exits (value_by_trips old).steps set_outs)
-      → Grows (scan_records (value_by_trips new).exits (value_by_trips new).steps set_outs) all
-      → TakesInBut trip_rules Excused (offer stop (from_to (spelling_of walks before) (spelling_of walks all)))
-      ((value_by_trips old).bag stop) ((value_by_trips new).bag stop)
+  pub takes : Takes (value_by_trips old) (value_by_trips new)
 
--- the point of boarding with a label after a footpath is offered to the stop where the footpath begins, unless the bound excludes it
-abbrev pub boards_label : ℕ → ℕ → Hop TimeTrips → Footpath → Boarding → Point TimeTrips → ByTrips → ByTrips → Type 0
-boards_label stops trips hop walk boarding label =
-    StopsTakeBut stops trips hop (λ walks. slice_get walks boarding.walk ≡ Some walk) (λ _. Excludes trip_rules hop.bound.now label.value)
-    (λ stop tags. only_if (walk.from ≡ stop) (one_way boarding.departure (trip_rules.ride label.value)
+-- what boarding with a label after a footpath offers to a stop: a point where the footpath begins
+abbrev pub boarding_of : Footpath → Boarding → ℕ → Spellings → Point TimeTrips → Offer (Unit {0}) TimeTrips
+boarding_of walk boarding stop tags label = only_if (walk.from ≡ stop) (one_way boarding.departure (trip_rules.ride label.value)
     (λ tag. (x : Aboard) → tags.earlier.aboard label.tag ≡ Some x
-    → tags.later.onward tag ≡ Some (record { walk = walk ∷ []; rides = boarded boarding.first x }))))
+    → tags.later.onward tag ≡ Some (record { walk = walk ∷ []; rides = boarded boarding.first x })))
 
--- the same of each label of the hop's trip that is beyond lanes
-abbrev pub boards_labels : ℕ → ℕ → Hop TimeTrips → ℕ → Footpath → ByTrips → ByTrips → Type 0
-boards_labels stops trips hop walk_index walk old =
-    StopsTakeBut stops trips hop (λ walks. slice_get walks walk_index ≡ Some walk) (λ l. Excludes trip_rules hop.bound.now l.value)
-    (λ stop tags. boardings_by trip_rules tags hop.place hop.connection stop (points_beyond old.beyond.labels.items hop.connection.trip) walk) old
+-- the points of each stop take that in, unless the bound excludes the label
+abbrev pub boards_label : Hop TimeTrips → Footpath → Boarding → Point TimeTrips → KeptValue TimeTrips → KeptValue TimeTrips → Type 0
+boards_label hop walk boarding label =
+    BagsTake trip_rules (λ walks. slice_get walks boarding.walk ≡ Some walk) (λ _. Excludes trip_rules hop.bound.now label.value)
+    (λ stop tags. boarding_of walk boarding stop tags label)
 
--- the same after each of the footpaths at the indices `begin..end`
-abbrev pub boards_after_each : TimetableValue → ℕ → ℕ → Hop TimeTrips → ByTrips → ByTrips → Type 0
-boards_after_each t begin end hop old =
-    StopsTakeBut t.stops t.trips hop (λ walks. walks ≡ t.footpaths) (λ way. Excludes trip_rules hop.bound.now way.1.value)
-    (λ stop tags. each_of (StandsBetween t.footpaths begin end)
-    (boardings_by trip_rules tags hop.place hop.connection stop (points_beyond old.beyond.labels.items hop.connection.trip))) old
-
--- the same of all boardings of the hop's connection
-abbrev pub boards_beyond : TimetableValue → Hop TimeTrips → ByTrips → ByTrips → Type 0
-boards_beyond t hop old =
-    StopsTakeBut t.stops t.trips hop (λ walks. walks ≡ t.footpaths) (λ way. Excludes trip_rules hop.bound.now way.label.value)
-    (λ stop tags. boardings trip_rules t tags hop.place stop (points_beyond old.beyond.labels.items hop.connection.trip)) old
-
--- the points of each stop take the boardings in, but for labels that the bound excludes; labels stay, and exits and steps are only added
+-- the points of each stop take in all boardings of a hop's connection, but for labels that the bound excludes
 pub record BoardsByTrips (t : TimetableValue) (hop : Hop TimeTrips) (old new : ByTrips) : Type 0 where
   pub are : AreByTrips t.stops t.trips hop.bound.now new
-  pub labels : (trip : ℕ) → (value_by_trips new).labels trip ≡ (value_by_trips old).labels trip
-  pub writes : WritesOn (value_by_trips old) (value_by_trips new)
-  pub takes : (stop : ℕ) (set_outs : List SetOut) (before all : ScanRecords)
-      → Grows before (scan_records (value_by_trips old).exits (value_by_trips old).steps set_outs)
-      → Grows (scan_records (value_by_trips new).exits (value_by_trips new).steps set_outs) all
-      → TakesInBut trip_rules (λ way. Excludes trip_rules hop.bound.now way.label.value)
-      (boardings trip_rules t (from_to (spelling_of t.footpaths before) (spelling_of t.footpaths all)) hop.place stop
-      ((value_by_trips old).labels hop.connection.trip)) ((value_by_trips old).bag stop) ((value_by_trips new).bag stop)
+  pub takes : boards_all trip_rules t hop ((value_by_trips old).labels hop.connection.trip) (value_by_trips old) (value_by_trips new)

@@ -1,5 +1,5 @@
 -- What lanes keep of trips and stops.
-use Rattle.std.specs.Prelude.{◌≡◌, ◌≢◌, ◌⊎◌, ℕ, ◌<◌, List, [], ◌∷◌, Bool, MatchBool, slice_get, Some, Contains}
+use Rattle.std.specs.Prelude.{◌≡◌, ◌⊎◌, ℕ, ◌<◌, List, [], ◌∷◌, Bool, MatchBool, slice_get, Some, Contains}
 use Rattle.criteria.specs.Laws.{Admits, NoWorse}
 use Rattle.criteria.specs.declared.arrival_trips.TimeTrips.{TimeTrips}
 use Rattle.timetable.specs.declared.network.Footpath.{Footpath}
@@ -9,22 +9,18 @@ use Rattle.lanes.specs.Lanes.{trip_rules, IsOutdone}
 use Rattle.lanes.specs.LaneLists.{word_tag}
 use Rattle.lanes.specs.TripLanes.{front_labels, labels_at, trips_of}
 use Rattle.lanes.specs.StopLanes.{AreStopLanes, entries_of, front_at, points_at, steps_of, stops_of, tags_at}
-use Rattle.profile_scan.specs.ScanState.{final_walk_in}
 use Rattle.profile_scan.specs.SetQuery.{SetQueryValue}
-use Rattle.profile_scan.specs.Matching.{Spellings, from_to}
-use Rattle.profile_scan.specs.Steps.{Offer, TakesInBut, boardings}
 use Rattle.profile_scan.specs.Bound.{Excludes}
-use Rattle.profile_scan.specs.Adding.{AreWalksInto, StandsBetween, boardings_by, changes_from, each_of, endings, label_points}
-use Rattle.profile_scan.specs.ScanRecords.{KeptValue, ScanRecords, Grows, scan_records, spelling_of}
+use Rattle.profile_scan.specs.Adding.{AreWalksInto, changes_from, label_points}
+use Rattle.profile_scan.specs.ScanRecords.{KeptValue}
 use Rattle.profile_scan.specs.Hops.{IsHop, IsHopOf}
-use Rattle.profile_scan.specs.Keeping.{WritesOn}
+use Rattle.profile_scan.specs.KeptParts.{LabelsTake, takes_changes}
 use Rattle.profile_scan.specs.declared.hop.Hop.{Hop}
 use Rattle.profile_scan.specs.declared.in_lanes.InLanes.{InLanes}
 use Rattle.profile_scan.specs.declared.in_lanes.LaneExit.{LaneExit}
 use Rattle.profile_scan.specs.declared.in_lanes.LaneExit.TheVariants.{Ends as EndsLane, Changes as ChangesLane, ChangesToStep as ToStep}
 use Rattle.profile_scan.specs.declared.scan_records.Exit.{Exit}
 use Rattle.profile_scan.specs.declared.scan_records.Exit.TheVariants.{Ends, Changes}
-use Rattle.profile_scan.specs.declared.scan_records.SetOut.{SetOut}
 use Rattle.profile_scan.specs.declared.starts.Starts.{Starts}
 
 -- the exit of a label of k trips, given the tags of entries
@@ -69,18 +65,11 @@ pub record CanLeaveLanes (q : SetQueryValue) (here : Hop TimeTrips) (lanes : InL
   pub trip : here.connection.trip < trips_of lanes.trips
   pub stop : here.connection.to < stops_of lanes.stops
 
--- the labels of one trip take an offer in but for what is excused; all else stays, and exits are only added
-pub record LaneTakes {A : Type 0} (trip : ℕ) (values : List TimeTrips) (Excused : A → Type 0) (offer : Spellings → Offer A TimeTrips) (old new : InLanes)
-    : Type 0 where
+-- labels take something in; stops stay
+pub record LaneTakes (values : List TimeTrips) (Takes : KeptValue TimeTrips → KeptValue TimeTrips → Type 0) (old new : InLanes) : Type 0 where
   pub are : AreInLanes (stops_of old.stops) (trips_of old.trips) values new
   pub stops : new.stops ≡ old.stops
-  pub writes : WritesOn (value_of old) (value_of new)
-  pub other_trips : (k : ℕ) → k ≢ trip → labels_at new.trips k ≡ labels_at old.trips k
-  pub takes : (walks : List Footpath) (set_outs : List SetOut) (before all : ScanRecords)
-      → Grows before (scan_records (value_of old).exits (value_of old).steps set_outs)
-      → Grows (scan_records (value_of new).exits (value_of new).steps set_outs) all
-      → TakesInBut trip_rules Excused (offer (from_to (spelling_of walks before) (spelling_of walks all)))
-      (label_points (labels_at old.trips trip)) (label_points (labels_at new.trips trip))
+  pub takes : Takes (value_of old) (value_of new)
 
 -- passengers may board with the labels of the hop's trip after a footpath
 pub record CanBoardLanes (here : Hop TimeTrips) (walk : Footpath) (lanes : InLanes) : Type 0 where
@@ -88,70 +77,35 @@ pub record CanBoardLanes (here : Hop TimeTrips) (walk : Footpath) (lanes : InLan
   pub trip : here.connection.trip < trips_of lanes.trips
   pub stop : walk.from < stops_of lanes.stops
 
--- the points of each stop take in what that offers them, but for labels that the bound excludes; labels stay, and exits and steps are only added
-pub record LaneBoards (hop : Hop TimeTrips) (walk_index : ℕ) (walk : Footpath) (old new : InLanes) : Type 0 where
-  pub are : AreInLanes (stops_of old.stops) (trips_of old.trips) hop.bound.now new
-  pub trips : new.trips ≡ old.trips
-  pub writes : WritesOn (value_of old) (value_of new)
-  pub takes : (walks : List Footpath) → slice_get walks walk_index ≡ Some walk → (stop : ℕ) (set_outs : List SetOut) (before all : ScanRecords)
-      → Grows before (scan_records (value_of old).exits (value_of old).steps set_outs)
-      → Grows (scan_records (value_of new).exits (value_of new).steps set_outs) all
-      → TakesInBut trip_rules (λ l. Excludes trip_rules hop.bound.now l.value)
-      (boardings_by trip_rules (from_to (spelling_of walks before) (spelling_of walks all)) hop.place hop.connection stop
-      (label_points (labels_at old.trips hop.connection.trip)) walk) (points_at old.stops stop) (points_at new.stops stop)
-
 -- the same after each of the footpaths at the indices `begin..end`, which lead to the stop where the connection begins
 pub record CanBoardLanesEach (t : TimetableValue) (begin end : ℕ) (here : Hop TimeTrips) (lanes : InLanes) : Type 0 where
   pub walks : AreWalksInto t here.connection.from begin end
   pub are : AreInLanes t.stops t.trips here.bound.now lanes
   pub trip : here.connection.trip < t.trips
 
-pub record LaneBoardsEach (t : TimetableValue) (begin end : ℕ) (hop : Hop TimeTrips) (old new : InLanes) : Type 0 where
-  pub are : AreInLanes t.stops t.trips hop.bound.now new
-  pub trips : new.trips ≡ old.trips
-  pub writes : WritesOn (value_of old) (value_of new)
-  pub takes : (stop : ℕ) (set_outs : List SetOut) (before all : ScanRecords)
-      → Grows before (scan_records (value_of old).exits (value_of old).steps set_outs)
-      → Grows (scan_records (value_of new).exits (value_of new).steps set_outs) all
-      → TakesInBut trip_rules (λ way. Excludes trip_rules hop.bound.now way.1.value)
-      (each_of (StandsBetween t.footpaths begin end) (boardings_by trip_rules (from_to (spelling_of t.footpaths before) (spelling_of t.footpaths all)) hop.place
-      hop.connection stop (label_points (labels_at old.trips hop.connection.trip)))) (points_at old.stops stop) (points_at new.stops stop)
-
 -- passengers may board the connection of a hop
 pub record CanBoardHop (t : TimetableValue) (query : SetQueryValue) (known : Starts) (here : Hop TimeTrips) (lanes : InLanes) : Type 0 where
   pub hop : IsHopOf trip_rules t query known here
   pub are : AreInLanes t.stops t.trips here.bound.now lanes
 
--- the points of each stop take the boardings in, but for labels that the bound excludes; labels stay, and exits and steps are only added
-pub record LaneBoardsHop (t : TimetableValue) (hop : Hop TimeTrips) (old new : InLanes) : Type 0 where
-  pub are : AreInLanes t.stops t.trips hop.bound.now new
-  pub trips : new.trips ≡ old.trips
-  pub writes : WritesOn (value_of old) (value_of new)
-  pub takes : (stop : ℕ) (set_outs : List SetOut) (before all : ScanRecords)
-      → Grows before (scan_records (value_of old).exits (value_of old).steps set_outs)
-      → Grows (scan_records (value_of new).exits (value_of new).steps set_outs) all
-      → TakesInBut trip_rules (λ way. Excludes trip_rules hop.bound.now way.label.value)
-      (boardings trip_rules t (from_to (spelling_of t.footpaths before) (spelling_of t.footpaths all)) hop.place stop
-      (label_points (labels_at old.trips hop.connection.trip))) (points_at old.stops stop) (points_at new.stops stop)
+-- points of stops take something in; trips stay
+pub record LaneBoards (stops trips : ℕ) (values : List TimeTrips) (Takes : KeptValue TimeTrips → KeptValue TimeTrips → Type 0) (old new : InLanes)
+    : Type 0 where
+  pub are : AreInLanes stops trips values new
+  pub trips_same : new.trips ≡ old.trips
+  pub takes : Takes (value_of old) (value_of new)
 
 -- one of some labels has eight trips, and is no worse than v
 abbrev pub IsBeatenByEight : List (Label TimeTrips) → TimeTrips → Type 0
 IsBeatenByEight labels v = (l : Label TimeTrips) × Contains labels l × (l.value.trips ≡ 8) × NoWorse trip_rules l.value v
 
-abbrev pub ends_in_lanes : SetQueryValue → Hop TimeTrips → InLanes → InLanes → Type 0
-ends_in_lanes q hop old new =
-    LaneTakes hop.connection.trip hop.bound.now (λ _. ⊥) (λ tags. endings trip_rules tags hop.place hop.connection q (final_walk_in hop.final_entry)) old new
-
 abbrev pub changes_in_lanes : Hop TimeTrips → Bool → InLanes → InLanes → Type 0
 changes_in_lanes hop changed old new =
-    MatchBool changed
-    (LaneTakes hop.connection.trip hop.bound.now (λ p. Excludes trip_rules hop.bound.now p.value)
-    (λ tags. changes_from tags hop.place hop.connection.arr (points_at old.stops hop.connection.to)) old new)
-    (new ≡ old)
+    MatchBool changed (LaneTakes hop.bound.now (takes_changes trip_rules hop (points_at old.stops hop.connection.to)) old new) (new ≡ old)
 
 -- changes are offered but for those that a value of eight trips outdoes, of the front of an entry
 abbrev pub changes_but_eight : Hop TimeTrips → ℕ → InLanes → InLanes → Type 0
-changes_but_eight hop entry old new =
-    LaneTakes hop.connection.trip hop.bound.now
+changes_but_eight hop entry old =
+    LaneTakes hop.bound.now (LabelsTake trip_rules hop.connection.trip
     (λ p. Excludes trip_rules hop.bound.now p.value ⊎ IsBeatenByEight (front_at old.stops entry) p.value)
-    (λ tags. changes_from tags hop.place hop.connection.arr (points_at old.stops hop.connection.to)) old new
+    (λ tags. changes_from tags hop.place hop.connection.arr (points_at old.stops hop.connection.to))) old

@@ -64,12 +64,13 @@ impl ByTrips {
     ghost use Rattle.profile_scan.specs.ScanRecords.{IsExit};
     ghost use Rattle.profile_scan.specs.declared.scan_records.Exit.TheVariants.{Changes};
     ghost use Rattle.profile_scan.specs.Adding.{AreWalksInto, one_way, only_if};
-    ghost use Rattle.profile_scan.specs.ByTrips.{CanLeaveByTrips, LeavesByTrips, TripTakesBut, points_beyond};
-    ghost use Rattle.profile_scan.specs.ByTrips.{takes_changes};
+    ghost use Rattle.profile_scan.specs.KeptParts.{LabelsTake, boards_after, boards_after_each, boards_all};
+    ghost use Rattle.profile_scan.specs.KeptParts.{takes_changes};
+    ghost use Rattle.profile_scan.specs.ByTrips.{CanLeaveByTrips, LeavesByTrips, RelabelsByTrips, points_beyond};
     ghost use Rattle.lanes.specs.TripLanes.{trips_of};
     ghost use Rattle.lanes.specs.StopLanes.{points_at, stops_of};
-    ghost use Rattle.profile_scan.specs.ByTrips.{CanBoardByTrips, BoardsByTrips, CanBoardBeyond, HasBags};
-    ghost use Rattle.profile_scan.specs.ByTrips.{boards_after_each, boards_beyond, boards_label, boards_labels};
+    ghost use Rattle.profile_scan.specs.ByTrips.{CanBoardByTrips, BoardsBeyond, BoardsByTrips, CanBoardBeyond, HasBags};
+    ghost use Rattle.profile_scan.specs.ByTrips.{boards_label};
 
     /// Passengers leave the hop's trip where its connection ends: its labels take in the ways to do so, but for changes
     /// that the bound excludes.
@@ -98,7 +99,8 @@ impl ByTrips {
         hop: &Hop<TimeTrips>,
     ) -> Result<(), AllocError>
         requires { CanLeaveByTrips (question asked.now.query) hop.now self.old }
-        ensures { OnOk result (takes_changes hop.now (points_at self.old.lanes.stops hop.now.connection.to)
+        ensures { OnOk result (RelabelsByTrips hop.now.bound.now
+            (takes_changes trip_rules hop.now (points_at self.old.lanes.stops hop.now.connection.to))
             self.old self.new) }
     {
         let changed = self.lanes.change(asked, hop)?;
@@ -117,7 +119,8 @@ impl ByTrips {
         hop: Hop<TimeTrips>,
     ) -> Result<(), AllocError>
         requires { CanLeaveByTrips (question asked.now.query) hop self.old }
-        ensures { OnOk result (takes_changes hop.entry (points_at self.old.lanes.stops hop.entry.connection.to)
+        ensures { OnOk result (RelabelsByTrips hop.entry.bound.now
+            (takes_changes trip_rules hop.entry (points_at self.old.lanes.stops hop.entry.connection.to))
             self.old self.new) }
     {
         let entry = self
@@ -144,8 +147,9 @@ impl ByTrips {
     ) -> Result<(), AllocError>
         requires can { CanLeaveByTrips (question asked.now.query) hop.now self.old }
         requires admitted { Admits trip_rules value }
-        ensures { OnOk result (TripTakesBut hop.now.connection.trip hop.now.bound.now (λ _. ⊥)
-            (λ tags. one_way 0 value (IsExit tags (Changes hop.now.place step))) self.old self.new) }
+        ensures { OnOk result (RelabelsByTrips hop.now.bound.now
+            (LabelsTake trip_rules hop.now.connection.trip (λ _. ⊥)
+            (λ tags. one_way 0 value (IsExit tags (Changes hop.now.place step)))) self.old self.new) }
     {
         if self.lanes.trips.beats(hop.connection.trip, &value) {
             return Ok(());
@@ -175,7 +179,8 @@ impl ByTrips {
         hop: &Hop<TimeTrips>,
     ) -> Result<(), AllocError>
         requires { CanLeaveByTrips (question asked.now.query) hop.now self.old }
-        ensures { OnOk result (takes_changes hop.now (points_beyond self.old.beyond.points.items hop.now.connection.to)
+        ensures { OnOk result (RelabelsByTrips hop.now.bound.now
+            (takes_changes trip_rules hop.now (points_beyond self.old.beyond.points.items hop.now.connection.to))
             self.old self.new) }
     {
         if !has_any(&self.beyond.points, hop.connection.to) {
@@ -193,8 +198,9 @@ impl ByTrips {
     ) -> Result<(), AllocError>
         requires can { CanLeaveByTrips (question asked.now.query) hop self.old }
         requires stop { hop.connection.to < length self.old.beyond.points.items }
-        ensures { OnOk result (takes_changes hop.entry
-            (points_beyond self.old.beyond.points.items hop.entry.connection.to) self.old self.new) }
+        ensures { OnOk result (RelabelsByTrips hop.entry.bound.now
+            (takes_changes trip_rules hop.entry (points_beyond self.old.beyond.points.items hop.entry.connection.to))
+            self.old self.new) }
     {
         let stop = hop.connection.to as usize;
         for k in 0..self.beyond.points[stop].len() {
@@ -214,10 +220,10 @@ impl ByTrips {
     ) -> Result<(), AllocError>
         requires can { CanLeaveByTrips (question asked.now.query) hop.now self.old }
         requires admitted { Admits trip_rules point.now.value }
-        ensures { OnOk result (TripTakesBut hop.now.connection.trip hop.now.bound.now
-            (λ _. Excludes trip_rules hop.now.bound.now point.now.value)
+        ensures { OnOk result (RelabelsByTrips hop.now.bound.now
+            (LabelsTake trip_rules hop.now.connection.trip (λ _. Excludes trip_rules hop.now.bound.now point.now.value)
             (λ tags. only_if (hop.now.connection.arr ≤ point.now.departure)
-            (one_way 0 point.now.value (IsExit tags (Changes hop.now.place point.now.tag)))) self.old self.new) }
+            (one_way 0 point.now.value (IsExit tags (Changes hop.now.place point.now.tag))))) self.old self.new) }
     {
         if point.departure < hop.connection.arr {
             return Ok(());
@@ -262,7 +268,10 @@ impl ByTrips {
         requires can { CanBoardByTrips (S.timetable source.now) (question asked.now.query) asked.now.starts hop
             self.old }
         requires has { HasBags (S.timetable source.now).stops (S.timetable source.now).trips hop self.old }
-        ensures { OnOk result (boards_beyond (S.timetable source.now) hop.entry self.old self.new) }
+        ensures { OnOk result
+            (BoardsBeyond (S.timetable source.now).stops (S.timetable source.now).trips hop.entry
+            (boards_all trip_rules (S.timetable source.now) hop.entry
+            (points_beyond self.old.beyond.labels.items hop.entry.connection.trip)) self.old self.new) }
     {
         if !hop.connection.board {
             return Ok(());
@@ -284,7 +293,9 @@ impl ByTrips {
         requires trip { hop.now.connection.trip < (S.timetable source.now).trips }
         requires has { HasBags (S.timetable source.now).stops (S.timetable source.now).trips hop.now self.old }
         ensures { OnOk result
-            (boards_after_each (S.timetable source.now) walks.start walks.end hop.now self.old self.new) }
+            (BoardsBeyond (S.timetable source.now).stops (S.timetable source.now).trips hop.now
+            (boards_after_each trip_rules (S.timetable source.now) walks.start walks.end hop.now
+            (points_beyond self.old.beyond.labels.items hop.now.connection.trip)) self.old self.new) }
     {
         for walk_index in walks.start..walks.end {
             let walk = source.footpath_into(hop.connection.from as usize, walk_index);
@@ -303,8 +314,10 @@ impl ByTrips {
         walk: Footpath,
     ) -> Result<(), AllocError>
         requires { CanBoardBeyond hop.now walk self.old }
-        ensures { OnOk result (boards_labels (stops_of self.old.lanes.stops) (trips_of self.old.lanes.trips) hop.now
-            walk_index walk self.old self.new) }
+        ensures { OnOk result
+            (BoardsBeyond (stops_of self.old.lanes.stops) (trips_of self.old.lanes.trips) hop.now
+            (boards_after trip_rules hop.now (points_beyond self.old.beyond.labels.items hop.now.connection.trip)
+            walk_index walk) self.old self.new) }
     {
         let dep = hop.connection.dep;
         if walk.secs > dep {
@@ -337,8 +350,9 @@ impl ByTrips {
     ) -> Result<(), AllocError>
         requires can { CanBoardBeyond hop.now walk self.old }
         requires admitted { Admits trip_rules label.now.value }
-        ensures { OnOk result (boards_label (stops_of self.old.lanes.stops) (trips_of self.old.lanes.trips) hop.now walk
-            boarding label.now self.old self.new) }
+        ensures { OnOk result
+            (BoardsBeyond (stops_of self.old.lanes.stops) (trips_of self.old.lanes.trips) hop.now
+            (boards_label hop.now walk boarding label.now) self.old self.new) }
     {
         let value = asked.criterion.ride(&label.value);
         if any_no_worse(&asked.criterion, hop.bound, &value) {

@@ -37,9 +37,12 @@ impl InLanes {
     ghost use Rattle.std.specs.Prelude.{◌≡◌, true, IfOk, OnOk};
     ghost use Rattle.profile_scan.specs.SetQuery.{question};
     ghost use Rattle.profile_scan.specs.InLanes.{CanBoardLanes, CanBoardLanesEach, CanLeaveLanes};
-    ghost use Rattle.profile_scan.specs.InLanes.{CanBoardHop, LaneBoards, LaneBoardsEach, LaneBoardsHop, ends_in_lanes};
-    ghost use Rattle.profile_scan.specs.InLanes.{changes_in_lanes, changes_but_eight};
-    ghost use Rattle.lanes.specs.StopLanes.{IsFrontFrom};
+    ghost use Rattle.profile_scan.specs.InLanes.{CanBoardHop, LaneBoards, LaneTakes, changes_in_lanes, changes_but_eight};
+    ghost use Rattle.profile_scan.specs.InLanes.{value_of};
+    ghost use Rattle.profile_scan.specs.KeptParts.{boards_after, boards_after_each, boards_all, takes_endings};
+    ghost use Rattle.lanes.specs.Lanes.{trip_rules};
+    ghost use Rattle.lanes.specs.StopLanes.{IsFrontFrom, stops_of};
+    ghost use Rattle.lanes.specs.TripLanes.{trips_of};
 
     /// Offers to the labels of the hop's trip a label for a journey that ends here, if a passenger who gets off reaches
     /// a target by `query.by`.
@@ -50,7 +53,8 @@ impl InLanes {
         hop: &Hop<TimeTrips>,
     ) -> Result<(), AllocError>
         requires { CanLeaveLanes (question asked.now.query) hop.now self.old }
-        ensures { OnOk result (ends_in_lanes (question asked.now.query) hop.now self.old self.new) }
+        ensures { OnOk result (LaneTakes hop.now.bound.now
+            (takes_endings trip_rules (question asked.now.query) hop.now) self.old self.new) }
     {
         let Some(end) = end_of(&hop.connection, &asked.query, hop.final_entry) else {
             return Ok(());
@@ -149,7 +153,9 @@ impl InLanes {
         walk: Footpath,
     ) -> Result<(), AllocError>
         requires { CanBoardLanes hop.now walk self.old }
-        ensures { OnOk result (LaneBoards hop.now walk_index walk self.old self.new) }
+        ensures { OnOk result (LaneBoards (stops_of self.old.stops) (trips_of self.old.trips) hop.now.bound.now
+            (boards_after trip_rules hop.now ((value_of self.old).labels hop.now.connection.trip) walk_index walk)
+            self.old self.new) }
     {
         let dep = hop.connection.dep;
         if walk.secs > dep {
@@ -182,7 +188,9 @@ impl InLanes {
     ) -> Result<(), AllocError>
         requires { CanBoardLanesEach (S.timetable source.now) walks.start walks.end hop.now self.old }
         ensures { OnOk result
-            (LaneBoardsEach (S.timetable source.now) walks.start walks.end hop.now self.old self.new) }
+            (LaneBoards (S.timetable source.now).stops (S.timetable source.now).trips hop.now.bound.now
+            (boards_after_each trip_rules (S.timetable source.now) walks.start walks.end hop.now
+            ((value_of self.old).labels hop.now.connection.trip)) self.old self.new) }
     {
         for walk_index in walks.start..walks.end {
             let walk = source.footpath_into(hop.connection.from as usize, walk_index);
@@ -201,7 +209,10 @@ impl InLanes {
         hop: &Hop<TimeTrips>,
     ) -> Result<(), AllocError>
         requires { CanBoardHop (S.timetable source.now) (question asked.now.query) asked.now.starts hop.now self.old }
-        ensures { OnOk result (LaneBoardsHop (S.timetable source.now) hop.now self.old self.new) }
+        ensures { OnOk result
+            (LaneBoards (S.timetable source.now).stops (S.timetable source.now).trips hop.now.bound.now
+            (boards_all trip_rules (S.timetable source.now) hop.now
+            ((value_of self.old).labels hop.now.connection.trip)) self.old self.new) }
     {
         if !hop.connection.board {
             return Ok(());

@@ -22,7 +22,6 @@ returns c =
     let changed = c.in_ok-change.ensures in
     record {
       like = like_then c.args.self.now c.end.new.self c.change.new.self ended.like changed.like;
-      leaves = left arrival_rules (laws-law c.args.asked.now.criterion) (question c.args.asked.now.query) c.args.hop.now c.requires.hop
-          (value_by_arrival c.args.self.now) (value_by_arrival c.end.new.self) (value_by_arrival c.change.new.self) c.if-not-hop.false ended.takes
-          changed.takes;
+      leaves = left arrival_rules (laws-law c.args.asked.now.criterion) (question c.args.asked.now.query) c.args.hop.now c.requires.hop c.if-not-hop.false
+          ended.takes changed.takes;
     }

@@ -10,8 +10,7 @@ loop-walk_index-init g c =
     let t = g.S.ConnSource.timetable c.args.source.now in
     record {
       like = still_like c.args.self.now c.requires.are;
-      takes = bags_first arrival_rules t c.args.hop.now (ridden_point c.args.ride ∷ []) c.args.walks.start
-          (ridden_alone t c.args.ride c.requires.time) (value_by_arrival c.args.self.now);
+      takes = bags_first arrival_rules t c.args.hop.now (ridden_point c.args.ride ∷ []) (λ _. ⊥) c.args.walks.start (value_by_arrival c.args.self.now);
     }
 
 pub board_walk-requires : goal.board_walk-requires
@@ -34,9 +33,8 @@ loop-walk_index-preserved g c =
     let here = c.in_ok-board_walk.ensures in
     record {
       like = like_then c.args.self.now c.loop-walk_index.self c.board_walk.new.self before.like here.like;
-      takes = bags_next arrival_rules t c.args.hop.now (ridden_point c.args.ride ∷ []) c.args.walks.start
-          (ridden_alone t c.args.ride c.requires.time) c.loop-walk_index.walk_index c.footpath_into-walk.result (value_by_arrival c.args.self.now)
-          (value_by_arrival c.loop-walk_index.self) (value_by_arrival c.board_walk.new.self) c.loop-walk_index.auto.walk_index c.footpath_into-walk.ensures
+      takes = bags_next arrival_rules t c.args.hop.now (ridden_point c.args.ride ∷ []) (λ _. ⊥) c.args.walks.start c.loop-walk_index.walk_index
+          c.footpath_into-walk.result c.loop-walk_index.auto.walk_index c.footpath_into-walk.ensures (ridden_alone t c.args.ride c.requires.time)
           before.takes here.takes;
     }
 

@@ -4,7 +4,7 @@ use Rattle.timetable.proofs.LegalLemmas.{Contains-At}
 use Rattle.fronts.specs.declared.entry.Boarding.{Boarding}
 use Rattle.profile_scan.specs.ByTrips.{points_beyond}
 use Rattle.profile_scan.proofs.BeyondLemmas.{bag_at}
-use Rattle.profile_scan.proofs.ByTripsBoarded.{can_still_board, early_boards, labels_admitted, labels_all, labels_first, labels_next}
+use Rattle.profile_scan.proofs.ByTripsBoarded.{still_boards, early_boards, labels_admitted, labels_all, labels_first, labels_next}
 use Rattle.profile_scan.proofs.by_trips.ByTrips.board_walk.Goals.{After-len-k-end, After-point-label}
 use Rattle.profile_scan.proofs.by_trips.ByTrips.board_walk.Goals as goal
 
@@ -35,9 +35,7 @@ loop-k-init c =
     labels_first c.args.hop.now c.args.walk_index c.args.walk c.args.self.now c.requires (boarding (goal.at.loop-k-init c).After-len-k-end)
 
 pub board_label-requires-clause-can : goal.board_label-requires-clause-can
-board_label-requires-clause-can c =
-    can_still_board c.args.hop.now c.args.walk_index c.args.walk c.args.self.now c.requires
-    (boarding (goal.at.board_label-requires-clause-can c).After-len-k-end) c.loop-k.k c.loop-k.self c.loop-k.invariant
+board_label-requires-clause-can c = still_boards c.args.walk c.loop-k.invariant c.requires.trip c.requires.stop
 
 pub board_label-requires-clause-admitted : goal.board_label-requires-clause-admitted
 board_label-requires-clause-admitted c =

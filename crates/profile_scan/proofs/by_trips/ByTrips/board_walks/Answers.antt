@@ -1,6 +1,5 @@
 use Rattle.std.proofs.Common.{◌≡◌, ℕ, subst, arith}
-use Rattle.profile_scan.specs.ByTrips.{boards_after_each}
-use Rattle.profile_scan.proofs.ByTripsBoarded.{can_board_walk, walks_first, walks_next}
+use Rattle.profile_scan.proofs.ByTripsBoarded.{BoardsTo, still_boards, walks_first, walks_next}
 use Rattle.profile_scan.proofs.by_trips.ByTrips.board_walks.Goals as goal
 
 pub loop-walk_index-init : goal.loop-walk_index-init
@@ -9,10 +8,8 @@ loop-walk_index-init g c = walks_first (g.S.ConnSource.timetable c.args.source.n
 pub board_walk-requires : goal.board_walk-requires
 board_walk-requires g c =
     let walk = c.footpath_into-walk.result in
-    can_board_walk (g.S.ConnSource.timetable c.args.source.now) c.args.hop.now c.args.walks.start c.loop-walk_index.walk_index walk c.args.self.now
-    c.loop-walk_index.self c.requires.trip
+    still_boards walk c.loop-walk_index.invariant c.requires.trip
     (((g.met.S.ConnSource.legal c.args.source.now).ends_in_range c.loop-walk_index.walk_index walk c.footpath_into-walk.ensures).0)
-    c.loop-walk_index.invariant
 
 pub loop-walk_index-preserved : goal.loop-walk_index-preserved
 loop-walk_index-preserved g c =
@@ -25,5 +22,4 @@ returns g c =
     let over = c.loop-walk_index-test.false in
     let within = c.loop-walk_index.auto.walk_index-end c.requires.walks.order in
     let at_end : c.loop-walk_index.walk_index ≡ c.args.walks.end = omega arith in
-    subst (λ (n : ℕ). boards_after_each (g.S.ConnSource.timetable c.args.source.now) c.args.walks.start n c.args.hop.now c.args.self.now
-    c.loop-walk_index.self) at_end c.loop-walk_index.invariant
+    subst (λ (n : ℕ). BoardsTo (g.S.ConnSource.timetable c.args.source.now) c.args.hop.now c.args.walks.start n c.args.self.now c.loop-walk_index.self) at_end c.loop-walk_index.invariant

@@ -4,9 +4,8 @@ use Rattle.lanes.specs.Lanes.{trip_rules}
 use Rattle.lanes.specs.StopLanes.{points_at}
 use Rattle.reasoning.proofs.BoolLemmas.{where_true, where_false}
 use Rattle.profile_scan.specs.SetQuery.{question}
-use Rattle.profile_scan.specs.Bound.{Excludes}
-use Rattle.profile_scan.specs.Adding.{changes_from}
-use Rattle.profile_scan.specs.ByTrips.{CanLeaveByTrips, TripTakesBut}
+use Rattle.profile_scan.specs.KeptParts.{takes_changes}
+use Rattle.profile_scan.specs.ByTrips.{CanLeaveByTrips, RelabelsByTrips}
 use Rattle.profile_scan.specs.declared.in_lanes.InLanes.{InLanes}
 use Rattle.profile_scan.proofs.ByTripsLeft.{in_lanes, lanes_can}
 use Rattle.profile_scan.proofs.by_trips.ByTrips.change.Goals as goal
@@ -16,11 +15,7 @@ change-requires c = lanes_can (question c.args.asked.now.query) c.args.hop.now c
 
 pub returns-then-changed : goal.returns-then-changed
 returns-then-changed c =
-    let q = question c.args.asked.now.query in
-    let hop = c.args.hop.now in
-    let old = c.args.self.now in
-    in_lanes q hop old c.requires (λ p. Excludes trip_rules hop.bound.now p.value)
-    (λ tags. changes_from tags hop.place hop.connection.arr (points_at old.lanes.stops hop.connection.to)) c.change.new.self
+    in_lanes (question c.args.asked.now.query) c.args.hop.now c.args.self.now c.requires
     (where_true c.in_ok-changed.changed _ _ c.if-changed.true c.in_ok-changed.ensures)
 
 pub change_with_eight-requires : goal.change_with_eight-requires
@@ -36,8 +31,5 @@ returns c =
     let old = c.args.self.now in
     let same = where_false c.in_ok-changed.changed _ _ c.if-changed.false c.in_ok-changed.ensures in
     on_ok_weaker c.change_with_eight.result
-    (subst (λ (lanes : InLanes). TripTakesBut hop.connection.trip hop.bound.now (λ p. Excludes trip_rules hop.bound.now p.value)
-    (λ tags. changes_from tags hop.place hop.connection.arr (points_at lanes.stops hop.connection.to)) (record { lanes = lanes; beyond = old.beyond })
-    c.change_with_eight.new.self → TripTakesBut hop.connection.trip hop.bound.now (λ p. Excludes trip_rules hop.bound.now p.value)
-    (λ tags. changes_from tags hop.place hop.connection.arr (points_at old.lanes.stops hop.connection.to)) old c.change_with_eight.new.self)
-    (sym same) (λ taken. taken)) c.change_with_eight.ensures
+    (subst (λ (lanes : InLanes). RelabelsByTrips hop.bound.now (takes_changes trip_rules hop (points_at lanes.stops hop.connection.to))
+    (record { lanes = lanes; beyond = old.beyond }) c.change_with_eight.new.self) same) c.change_with_eight.ensures

@@ -1,10 +1,11 @@
-use Rattle.std.proofs.Common.{sym, ◌∙◌, ap, subst, arith}
+use Rattle.std.proofs.Common.{inr, sym, ◌∙◌, ap, subst, arith}
 use Rattle.std.proofs.lemmas.Result.{on_ok_weaker}
 use Rattle.lanes.specs.Lanes.{trip_rules}
 use Rattle.profile_scan.specs.SetQuery.{question}
-use Rattle.profile_scan.specs.Bound.{Excludes, any_no_worse}
+use Rattle.profile_scan.specs.Bound.{any_no_worse}
 use Rattle.profile_scan.proofs.LanesBoarded.{ride_admitted}
-use Rattle.profile_scan.proofs.ByTripsLeft.{ChangeOf, change_offered, nothing_taken}
+use Rattle.profile_scan.proofs.ByTripsLeft.{change_offered, nothing_taken}
+use Rattle.profile_scan.proofs.KeptLemmas.{labels_none}
 use Rattle.criteria.specs.Laws.{Admits}
 use Rattle.profile_scan.proofs.by_trips.ByTrips.change_by.Goals as goal
 
@@ -12,10 +13,9 @@ pub returns-then-point-hop : goal.returns-then-point-hop
 returns-then-point-hop c =
     let q = question c.args.asked.now.query in
     let hop = c.args.hop.now in
-    let point = c.args.point.now in
     let early = c.if-point-hop.true in
-    nothing_taken q hop c.args.self.now c.requires.can (λ _. Excludes trip_rules hop.bound.now point.value)
-    (λ tags. ChangeOf q hop c.args.self.now c.requires.can tags point) (λ tags way opened. let late = opened.0 in absurd (omega (arith, early, late)))
+    nothing_taken q hop c.args.self.now c.requires.can
+    (labels_none trip_rules (λ tags way opened. let late = opened.0 in absurd (omega (arith, early, late))))
 
 pub any_no_worse-requires-clause-values : goal.any_no_worse-requires-clause-values
 any_no_worse-requires-clause-values c = c.requires.can.hop.bound
@@ -28,10 +28,8 @@ pub returns-then-any_no_worse : goal.returns-then-any_no_worse
 returns-then-any_no_worse c =
     let q = question c.args.asked.now.query in
     let hop = c.args.hop.now in
-    let point = c.args.point.now in
     let excluded = ap (any_no_worse trip_rules hop.bound.now) (sym c.ride-ridden.ensures) ∙ sym c.any_no_worse.ensures ∙ c.if-any_no_worse.true in
-    nothing_taken q hop c.args.self.now c.requires.can (λ _. Excludes trip_rules hop.bound.now point.value)
-    (λ tags. ChangeOf q hop c.args.self.now c.requires.can tags point) (λ tags way opened. excluded)
+    nothing_taken q hop c.args.self.now c.requires.can (labels_none trip_rules (λ tags way opened. inr excluded))
 
 pub returns : goal.returns
 returns c =

@@ -3,7 +3,7 @@ use Rattle.timetable.proofs.LegalLemmas.{Contains-At}
 use Rattle.profile_scan.specs.SetQuery.{question}
 use Rattle.profile_scan.specs.ByTrips.{points_beyond}
 use Rattle.profile_scan.proofs.BeyondLemmas.{bag_at}
-use Rattle.profile_scan.proofs.ByTripsLeft.{can_still_change, changes_all, changes_first, changes_next, points_admitted_beyond}
+use Rattle.profile_scan.proofs.ByTripsLeft.{still_can, changes_all, changes_first, changes_next, points_admitted_beyond}
 use Rattle.profile_scan.proofs.by_trips.ByTrips.change_each.Goals.{After-point-point}
 use Rattle.profile_scan.proofs.by_trips.ByTrips.change_each.Goals as goal
 
@@ -24,7 +24,7 @@ loop-k-init c = record {
 
 pub change_by-requires-clause-can : goal.change_by-requires-clause-can
 change_by-requires-clause-can c =
-    can_still_change (question c.args.asked.now.query) c.args.hop c.args.self.now c.requires.can c.loop-k.k c.loop-k.self c.loop-k.invariant.takes
+    still_can (question c.args.asked.now.query) c.args.hop c.args.self.now c.requires.can c.loop-k.invariant.takes
 
 pub change_by-requires-clause-admitted : goal.change_by-requires-clause-admitted
 change_by-requires-clause-admitted c =

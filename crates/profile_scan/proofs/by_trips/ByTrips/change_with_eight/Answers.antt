@@ -1,13 +1,8 @@
-use Rattle.std.proofs.Common.{◌⊎◌, slice_index, ap}
+use Rattle.std.proofs.Common.{slice_index, ap}
 use Rattle.std.proofs.lemmas.Result.{on_ok_weaker}
-use Rattle.lanes.specs.Lanes.{trip_rules}
-use Rattle.lanes.specs.StopLanes.{front_at, points_at}
 use Rattle.profile_scan.specs.SetQuery.{question}
-use Rattle.profile_scan.specs.Bound.{Excludes}
-use Rattle.profile_scan.specs.Adding.{changes_from}
-use Rattle.profile_scan.specs.InLanes.{IsBeatenByEight}
-use Rattle.profile_scan.specs.ByTrips.{TripTakesBut}
-use Rattle.profile_scan.proofs.ByTripsLeft.{eight_admits, in_lanes, lanes_can, none_of_eight, still_can, with_eight}
+use Rattle.profile_scan.specs.ByTrips.{RelabelsByTrips}
+use Rattle.profile_scan.proofs.ByTripsLeft.{ButEight, eight_admits, in_lanes, lanes_can, none_of_eight, still_can, with_eight}
 use Rattle.profile_scan.proofs.by_trips.ByTrips.change_with_eight.Goals.{In_ok-change_but_eight}
 use Rattle.profile_scan.proofs.by_trips.ByTrips.change_with_eight.Goals as goal
 
@@ -21,18 +16,10 @@ pub change_but_eight-requires-clause-can : goal.change_but_eight-requires-clause
 change_but_eight-requires-clause-can c = lanes_can (question c.args.asked.now.query) c.args.hop c.args.self.now c.requires
 
 -- the lanes have taken in what has fewer trips
-mid : (c : In_ok-change_but_eight) → TripTakesBut c.args.hop.connection.trip c.args.hop.bound.now
-    (λ p. Excludes trip_rules c.args.hop.bound.now p.value ⊎ IsBeatenByEight (front_at c.args.self.now.lanes.stops c.front_from-entry.result) p.value)
-    (λ tags. changes_from tags c.args.hop.place c.args.hop.connection.arr
-    (points_at c.args.self.now.lanes.stops c.args.hop.connection.to)) c.args.self.now
+mid : (c : In_ok-change_but_eight) → RelabelsByTrips c.args.hop.bound.now
+    (ButEight (question c.args.asked.now.query) c.args.hop c.args.self.now c.requires c.front_from-entry.result) c.args.self.now
     (record { lanes = c.change_but_eight.new.self; beyond = c.args.self.now.beyond })
-mid c =
-    let hop = c.args.hop in
-    let old = c.args.self.now in
-    in_lanes (question c.args.asked.now.query) hop old c.requires
-    (λ p. Excludes trip_rules hop.bound.now p.value ⊎ IsBeatenByEight (front_at old.lanes.stops c.front_from-entry.result) p.value)
-    (λ tags. changes_from tags hop.place hop.connection.arr (points_at old.lanes.stops hop.connection.to)) c.change_but_eight.new.self
-    c.in_ok-change_but_eight.ensures
+mid c = in_lanes (question c.args.asked.now.query) c.args.hop c.args.self.now c.requires c.in_ok-change_but_eight.ensures
 
 pub returns-in_default : goal.returns-in_default
 returns-in_default c =
@@ -42,12 +29,7 @@ returns-in_default c =
 
 pub offer_label-requires-clause-can : goal.offer_label-requires-clause-can
 offer_label-requires-clause-can c =
-    let hop = c.args.hop in
-    let old = c.args.self.now in
-    still_can (question c.args.asked.now.query) hop old c.requires (record { lanes = c.change_but_eight.new.self; beyond = old.beyond })
-    (λ p. Excludes trip_rules hop.bound.now p.value ⊎ IsBeatenByEight (front_at old.lanes.stops c.front_from-entry.result) p.value)
-    (λ tags. changes_from tags hop.place hop.connection.arr (points_at old.lanes.stops hop.connection.to))
-    (mid (goal.at.offer_label-requires-clause-can c).In_ok-change_but_eight)
+    still_can (question c.args.asked.now.query) c.args.hop c.args.self.now c.requires (mid (goal.at.offer_label-requires-clause-can c).In_ok-change_but_eight)
 
 pub offer_label-requires-clause-admitted : goal.offer_label-requires-clause-admitted
 offer_label-requires-clause-admitted c =

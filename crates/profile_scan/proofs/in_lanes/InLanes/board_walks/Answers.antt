@@ -1,7 +1,7 @@
 use Rattle.std.proofs.Common.{◌≡◌, ◌<◌, ℕ, sym, subst, arith}
 use Rattle.lanes.specs.TripLanes.{trips_of}
-use Rattle.profile_scan.specs.InLanes.{AreInLanes, LaneBoardsEach}
-use Rattle.profile_scan.proofs.LanesBoarded.{lanes_first, lanes_next}
+use Rattle.profile_scan.specs.InLanes.{AreInLanes}
+use Rattle.profile_scan.proofs.LanesBoarded.{BoardsTo, lanes_first, lanes_next}
 use Rattle.profile_scan.proofs.in_lanes.InLanes.board_walks.Goals as goal
 
 pub loop-walk_index-init : goal.loop-walk_index-init
@@ -33,5 +33,5 @@ returns g c =
     let over = c.loop-walk_index-test.false in
     let within = c.loop-walk_index.auto.walk_index-end c.requires.walks.order in
     let at_end : c.loop-walk_index.walk_index ≡ c.args.walks.end = omega arith in
-    subst (λ (n : ℕ). LaneBoardsEach (g.S.ConnSource.timetable c.args.source.now) c.args.walks.start n c.args.hop.now c.args.self.now c.loop-walk_index.self)
+    subst (λ (n : ℕ). BoardsTo (g.S.ConnSource.timetable c.args.source.now) c.args.hop.now c.args.walks.start n c.args.self.now c.loop-walk_index.self)
     at_end c.loop-walk_index.invariant

@@ -1,10 +1,9 @@
+use Rattle.profile_scan.specs.KeptParts.{takes_changes}
 use Rattle.std.proofs.Common.{◌*◌, sym, ap, ◌∙◌, subst}
 use Rattle.lanes.specs.Lanes.{trip_rules}
 use Rattle.lanes.specs.StopLanes.{points_at}
 use Rattle.lanes.specs.declared.trip_lanes.TripLanes.{TripLanes}
 use Rattle.profile_scan.specs.SetQuery.{question}
-use Rattle.profile_scan.specs.Bound.{Excludes}
-use Rattle.profile_scan.specs.Adding.{changes_from}
 use Rattle.profile_scan.specs.InLanes.{LaneTakes}
 use Rattle.profile_scan.proofs.LanesLeft.{change_lowered, change_none}
 use Rattle.profile_scan.proofs.in_lanes.InLanes.change.Goals as goal
@@ -20,8 +19,7 @@ pub returns-in-NoNews : goal.returns-in-NoNews
 returns-in-NoNews c =
     let old = c.args.self.now in
     let hop = c.args.hop.now in
-    subst (λ (trips : TripLanes). LaneTakes hop.connection.trip hop.bound.now (λ p. Excludes trip_rules hop.bound.now p.value)
-    (λ tags. changes_from tags hop.place hop.connection.arr (points_at old.stops hop.connection.to)) old
+    subst (λ (trips : TripLanes). LaneTakes hop.bound.now (takes_changes trip_rules hop (points_at old.stops hop.connection.to)) old
     (record { trips = trips; stops = old.stops; exits = old.exits; bound = old.bound })) (sym c.in-NoNews.ensures.1)
     (change_none (question c.args.asked.now.query) hop old c.requires old.trips old.exits c.front_from-entry.result c.in_ok-first.first c.front.result.now
     c.front_from-entry.ensures c.front.ensures c.in-NoNews.ensures.0)

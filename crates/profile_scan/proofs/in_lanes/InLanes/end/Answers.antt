@@ -1,9 +1,8 @@
+use Rattle.profile_scan.specs.KeptParts.{takes_endings}
 use Rattle.std.proofs.Common.{◌*◌, sym, ap, ◌∙◌, subst}
 use Rattle.lanes.specs.Lanes.{trip_rules}
 use Rattle.lanes.specs.declared.trip_lanes.TripLanes.{TripLanes}
-use Rattle.profile_scan.specs.ScanState.{final_walk_in}
 use Rattle.profile_scan.specs.SetQuery.{question}
-use Rattle.profile_scan.specs.Adding.{endings}
 use Rattle.profile_scan.specs.InLanes.{LaneTakes}
 use Rattle.profile_scan.proofs.LanesLeft.{end_lowered, end_none}
 use Rattle.profile_scan.proofs.in_lanes.InLanes.end.Goals as goal
@@ -22,7 +21,6 @@ returns-in-NoNews c =
     let hop = c.args.hop.now in
     let q = question c.args.asked.now.query in
     let end = c.in-Some.ensures in
-    subst (λ (trips : TripLanes). LaneTakes hop.connection.trip hop.bound.now (λ _. ⊥)
-    (λ tags. endings trip_rules tags hop.place hop.connection q (final_walk_in hop.final_entry)) old
+    subst (λ (trips : TripLanes). LaneTakes hop.bound.now (takes_endings trip_rules q hop) old
     (record { trips = trips; stops = old.stops; exits = old.exits; bound = old.bound })) (sym c.in-NoNews.ensures.1)
     (end_none q hop old c.requires c.in-Some.end.walk c.in-Some.end.time c.in_ok-first.first end.0 end.1 end.3 c.in-NoNews.ensures.0)
