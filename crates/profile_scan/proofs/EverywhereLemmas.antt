@@ -20,7 +20,7 @@ use Rattle.profile_scan.specs.Continuations.{CountsFrom}
 use Rattle.profile_scan.specs.Plain.{IsPlainOf}
 use Rattle.profile_scan.specs.Points.{AreInOrder, untagged}
 use Rattle.profile_scan.specs.Matching.{IsAttained, Matches}
-use Rattle.profile_scan.specs.ScanRecords.{ScanRecords, spelling_of}
+use Rattle.profile_scan.specs.ScanRecords.{KeptValue, ScanRecords, spelling_of}
 use Rattle.profile_scan.specs.JourneyNodes.{IsJourneySpelled, IsSpelledAgain}
 use Rattle.profile_scan.specs.ScanState.{IsDirectSecs}
 use Rattle.profile_scan.specs.Answered.{IsAnsweredBetween}
@@ -152,10 +152,10 @@ asked_to_one stops d can = record {
 }
 
 -- answers to any of several targets, where there is one, are those to it
-module _ {K V : Type 0} {c : _} (rules_of : K → Rules V) (t : TimetableValue) (profiles : Profiles K V c)
-    (asked : asked_to_any profiles.to_any ≡ question_to profiles.destination) (all : AnswerToAny rules_of t profiles.to_any) where
+module _ {K L V : Type 0} {c : _} (rules_of : K → Rules V) (value : L → KeptValue V) (t : TimetableValue) (profiles : Profiles K L V c)
+    (asked : asked_to_any profiles.to_any ≡ question_to profiles.destination) (all : AnswerToAny rules_of value t profiles.to_any) where
   from_one_stop : (stop : ℕ) → stop < t.stops → IsDirectSecs t profiles.destination.target stop (walk_from profiles stop)
-      → AnswersFrom (rules_of (criterion_of_profiles profiles)) t (query_from profiles.destination stop) profiles
+      → AnswersFrom (rules_of (criterion_of_profiles profiles)) value t (query_from profiles.destination stop) profiles
   from_one_stop stop lt way =
       let rules = rules_of (criterion_of_profiles profiles) in
       let q = query_from profiles.destination stop in
@@ -163,13 +163,13 @@ module _ {K V : Type 0} {c : _} (rules_of : K → Rules V) (t : TimetableValue) 
       record {
         answer = answer_from rules t q (listed_from profiles stop)
             (subst (λ (b : SetQueryValue). IsAnswerBetween rules t (from_stop b stop) (listed_from profiles stop)) asked is.answer);
-        attained = λ p h. attained_one rules t q (spelling_of t.footpaths (scan_records_from profiles.to_any stop)).journey p
-            (subst (λ (b : SetQueryValue). IsAttained (spelling_of t.footpaths (scan_records_from profiles.to_any stop)).journey
+        attained = λ p h. attained_one rules t q (spelling_of t.footpaths (scan_records_from value profiles.to_any stop)).journey p
+            (subst (λ (b : SetQueryValue). IsAttained (spelling_of t.footpaths (scan_records_from value profiles.to_any stop)).journey
             (CountsBetween t (from_stop b stop)) (IsPlainOf t (Contains b.targets)) (journey_value rules t) p) asked (is.attained p h));
         direct = way;
       }
 
-  pub all_to_one : profiles.destination.target < t.stops → AnswerAll rules_of t profiles
+  pub all_to_one : profiles.destination.target < t.stops → AnswerAll rules_of value t profiles
   all_to_one target =
       let d = profiles.destination in
       let is_target : Contains (asked_to_any profiles.to_any).targets d.target =

@@ -4,7 +4,6 @@ use Rattle.sources.specs.FirstAt.{IsFirstAt}
 use Rattle.profile_scan.specs.SetQuery.{IsAskableBetween, SetQueryValue, question}
 use Rattle.profile_scan.specs.LawStatements.{CanScan}
 use Rattle.profile_scan.specs.Window.{window_of}
-use Rattle.profile_scan.specs.InLists.{value_in}
 use Rattle.profile_scan.specs.ScanState.{scan_records_of, final_walks_of}
 use Rattle.profile_scan.specs.Origins.{AreUnder, found_from, from_stop, scan_value_from}
 use Rattle.profile_scan.specs.Points.{AreInOrder}
@@ -91,7 +90,7 @@ returns-clause-answers g c =
           (c.in_ok-lists.ensures.lists stop) in
           let is = answered_from rules laws t q can start
           (subst (λ (n : ℕ). IsFirstAt t n start) (sym same_from) c.first_at-start.ensures)
-          (scan_records_of value_in scan_value_from state stop) (found_from state.origin stop)
+          (scan_records_of g.C.Kept.Keeping.value scan_value_from state stop) (found_from state.origin stop)
           (points_in (slice_get lists stop)) (c.in_ok-scan.ensures.scanned.found stop) (origins.1 stop) listed in
           record { answer = is.0; attained = is.1 };
       direct = λ stop lt other. nearest_direct t b stop other (get_or (final_walks_of c.in_ok-asked.asked.final_walks) stop None)

@@ -2,7 +2,6 @@ use Rattle.std.proofs.Common.{◌≡◌, ◌<◌, ℕ, List, Contains, length, m
 use Rattle.std.proofs.lemmas.Option.{slice_get_read}
 use Rattle.bags.specs.declared.point.Point.{Point}
 use Rattle.timetable.specs.TimetableValue.{TimetableValue}
-use Rattle.fronts.specs.Lists.{steps_of}
 use Rattle.profile_scan.specs.Points.{untagged}
 use Rattle.profile_scan.specs.ScanRecords.{scan_records}
 use Rattle.profile_scan.specs.JourneyNodes.{IsJourneySpelled, IsSpelledAgain}
@@ -40,16 +39,15 @@ journeys_as_nodes-requires g c =
     let t = g.S.ConnSource.timetable c.args.source.now in
     let q = from_stop (asked_to_any profiles) c.args.stop in
     let rules = g.C.Criterion.rules (criterion_to_any profiles) in
-    let state = profiles.state in
-    let exits = state.keeping.trips.exits.items in
-    let steps = steps_of state.keeping.stops.lists in
+    let value = g.C.Kept.Keeping.value in
+    let kept = value profiles.state.keeping in
     let listed = listed_to_any profiles c.args.stop in
     let answers = c.requires.answered.each c.args.stop c.requires.stop in
     subst (λ (ps : List (Point g.row.C-V.Denot)). (p : Point g.row.C-V.Denot) → Contains ps p → IsJourneySpelled t.footpaths
-    (scan_records exits steps c.index-origin.result.now.set_outs.items) p.tag) (sym c.points-points.ensures)
-    (subst (λ (x : Option _). (p : Point g.row.C-V.Denot) → Contains listed p → IsJourneySpelled t.footpaths (scan_records exits steps (set_outs_by x)) p.tag)
+    (scan_records kept.exits kept.steps c.index-origin.result.now.set_outs.items) p.tag) (sym c.points-points.ensures)
+    (subst (λ (x : Option _). (p : Point g.row.C-V.Denot) → Contains listed p → IsJourneySpelled t.footpaths (scan_records kept.exits kept.steps (set_outs_by x)) p.tag)
     (at_stop g (goal.at.journeys_as_nodes-requires g c).After-index-origin)
-    (attained_spelled rules t q (scan_records_from profiles c.args.stop) listed answers.attained))
+    (attained_spelled rules t q (scan_records_from value profiles c.args.stop) listed answers.attained))
 
 -- what was spelled answers the query
 made : (g : given.Over) (c : goal.After-of g) → IsAnsweredBetween (g.C.Criterion.rules (criterion_to_any c.args.self.now))
@@ -60,9 +58,8 @@ made g c =
     let t = g.S.ConnSource.timetable c.args.source.now in
     let q = from_stop (asked_to_any profiles) c.args.stop in
     let rules = g.C.Criterion.rules (criterion_to_any profiles) in
-    let state = profiles.state in
-    let exits = state.keeping.trips.exits.items in
-    let steps = steps_of state.keeping.stops.lists in
+    let value = g.C.Kept.Keeping.value in
+    let kept = value profiles.state.keeping in
     let listed = listed_to_any profiles c.args.stop in
     let points = c.in_ok-spelled.spelled.points.items in
     let nodes = c.in_ok-spelled.spelled.nodes.items in
@@ -70,11 +67,11 @@ made g c =
     let same = subst (λ (ps : List (Point g.row.C-V.Denot)). map untagged points ≡ map untagged ps) c.points-points.ensures c.in_ok-spelled.ensures.same in
     let says =
     subst (λ (x : Option _). (p : Point g.row.C-V.Denot) → Contains points p → IsSpelledAgain t.footpaths
-    (scan_records exits steps (set_outs_by x)) listed nodes p) (sym (at_stop g (goal.at.After-of g c).After-index-origin))
+    (scan_records kept.exits kept.steps (set_outs_by x)) listed nodes p) (sym (at_stop g (goal.at.After-of g c).After-index-origin))
     (subst (λ (ps : List (Point g.row.C-V.Denot)). (p : Point g.row.C-V.Denot) → Contains points p → IsSpelledAgain t.footpaths
-    (scan_records exits steps c.index-origin.result.now.set_outs.items) ps nodes p) c.points-points.ensures c.in_ok-spelled.ensures.says) in
+    (scan_records kept.exits kept.steps c.index-origin.result.now.set_outs.items) ps nodes p) c.points-points.ensures c.in_ok-spelled.ensures.says) in
     let way = subst (IsDirectWalk t q) (sym c.walk_from.ensures) (c.requires.answered.direct c.args.stop c.requires.stop c.requires.differ) in
-    answered_in_nodes rules t q (scan_records_from profiles c.args.stop) nodes listed points c.walk_from.result answers.answer answers.attained same says way
+    answered_in_nodes rules t q (scan_records_from value profiles c.args.stop) nodes listed points c.walk_from.result answers.answer answers.attained same says way
 
 -- that it answers is kept with the timetable and the query that stand beside it
 pub invariant_of-result : goal.invariant_of-result
