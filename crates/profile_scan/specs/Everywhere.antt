@@ -7,12 +7,9 @@ use Rattle.bags.specs.declared.point.Point.{Point}
 use Rattle.timetable.specs.TimetableValue.{TimetableValue}
 use Rattle.timetable.specs.declared.query.Query.{Query}
 use Rattle.timetable.specs.declared.network.Footpath.{Footpath}
-use Rattle.timetable.specs.Journeys.{Counts}
-use Rattle.profile_scan.specs.SetQuery.{SetQueryValue, CountsBetween, IsAnswerBetween, IsDirectWalk, question, secs_of}
-use Rattle.profile_scan.specs.Values.{journey_value}
-use Rattle.profile_scan.specs.Plain.{IsPlain, IsPlainOf}
-use Rattle.profile_scan.specs.Points.{AreInOrder, IsAnswer}
-use Rattle.profile_scan.specs.Matching.{IsAttained}
+use Rattle.profile_scan.specs.SetQuery.{SetQueryValue, IsDirectWalk, question, secs_of}
+use Rattle.profile_scan.specs.Answered.{IsAnswered, IsTaggedAnswer}
+use Rattle.profile_scan.specs.Points.{AreInOrder}
 use Rattle.profile_scan.specs.ScanRecords.{KeptValue, ScanRecords, spelling_of}
 use Rattle.profile_scan.specs.ScanState.{IsDirectSecs, scan_records_of, walk_by, final_walks_of}
 use Rattle.profile_scan.specs.Destinations.{query_from, question_to}
@@ -22,7 +19,7 @@ use Rattle.profile_scan.specs.declared.origins.Origins.{Origins}
 use Rattle.profile_scan.specs.declared.profiles.Profiles.{Profiles}
 use Rattle.profile_scan.specs.declared.to_any.ProfilesToAny.{ProfilesToAny}
 
--- what is written down, as one source sees it
+-- what is written down, as one source sees it; `value` reads what is kept of trips and stops
 abbrev pub scan_records_from : {K L V : Type 0} {c : _} → (L → KeptValue V) → ProfilesToAny K L V c → ℕ → ScanRecords
 scan_records_from value profiles = scan_records_of value scan_value_from profiles.state
 
@@ -53,20 +50,12 @@ stops_to_any profiles = length profiles.lists.items
 abbrev pub walk_to_any : {K L V : Type 0} {c : _} → ProfilesToAny K L V c → ℕ → Option Footpath
 walk_to_any profiles stop = walk_by stop (slice_index_or (final_walks_of profiles.asked.final_walks) stop None)
 
--- from a stop alone: its list is the answer of the query from there to the targets, and each point's tag tells a journey that counts, with the point's
--- departure and value, and is plain with regard to all targets: after its last leg it walks on only if that leg ends at none of them
-pub record AnswersFromStop {K L V : Type 0} {c : _} (rules : Rules V) (value : L → KeptValue V) (t : TimetableValue) (profiles : ProfilesToAny K L V c)
-    (stop : ℕ) : Type 0 where
-  pub answer : IsAnswerBetween rules t (from_stop (asked_to_any profiles) stop) (listed_to_any profiles stop)
-  pub attained : (p : Point V) → Contains (listed_to_any profiles stop) p
-      → IsAttained (spelling_of t.footpaths (scan_records_from value profiles stop)).journey
-      (CountsBetween t (from_stop (asked_to_any profiles) stop)) (IsPlainOf t (Contains (asked_to_any profiles).targets)) (journey_value rules t) p
-
--- the same from every stop, also from a target, for which no query can be asked: there the journeys are those that come back to it or go on to another. And the
--- direct walk from every stop that is no target, and from a target its loop
+-- the list of each stop is the answer of the query from there to the targets, as its tags tell; also of a target, for which no query can be asked: there
+-- the journeys are those that come back to it or go on to another. And the direct walk from every stop that is no target, and from a target its loop
 pub record AnswerToAny {K L V : Type 0} {c : _} (rules_of : K → Rules V) (value : L → KeptValue V) (t : TimetableValue)
     (profiles : ProfilesToAny K L V c) : Type 0 where
-  pub each : (stop : ℕ) → stop < t.stops → AnswersFromStop (rules_of (criterion_to_any profiles)) value t profiles stop
+  pub each : (stop : ℕ) → stop < t.stops → IsTaggedAnswer (rules_of (criterion_to_any profiles)) t (from_stop (asked_to_any profiles) stop)
+      (spelling_of t.footpaths (scan_records_from value profiles stop)).journey (listed_to_any profiles stop)
   pub direct : (stop : ℕ) → stop < t.stops → (Contains (asked_to_any profiles).targets stop → ⊥)
       → IsDirectWalk t (from_stop (asked_to_any profiles) stop) (walk_to_any profiles stop)
   pub loops : (stop : ℕ) → stop < t.stops → Contains (asked_to_any profiles).targets stop → IsDirectSecs t stop stop (secs_of (walk_to_any profiles stop))
@@ -91,15 +80,10 @@ stops_of profiles = stops_to_any profiles.to_any
 abbrev pub walk_from : {K L V : Type 0} {c : _} → Profiles K L V c → ℕ → Option ℕ
 walk_from profiles stop = secs_of (walk_to_any profiles.to_any stop)
 
--- from the query's source: its list is the answer of the query, each point's tag tells a plain journey that counts, with the point's departure and value, and
--- the walk is the footpath from there to the target
-pub record AnswersFrom {K L V : Type 0} {c : _} (rules : Rules V) (value : L → KeptValue V) (t : TimetableValue) (q : Query)
-    (profiles : Profiles K L V c) : Type 0 where
-  pub answer : IsAnswer rules t q (listed_from profiles q.source)
-  pub attained : (p : Point V) → Contains (listed_from profiles q.source) p
-      → IsAttained (spelling_of t.footpaths (scan_records_from value profiles.to_any q.source)).journey
-      (Counts t q) (IsPlain t q.target) (journey_value rules t) p
-  pub direct : IsDirectSecs t q.target q.source (walk_from profiles q.source)
+-- the list of the query's source is the answer of the query, as its tags tell, and the walk is the footpath from there to the target
+abbrev pub AnswersFrom : {K L V : Type 0} {c : _} → Rules V → (L → KeptValue V) → TimetableValue → Query → Profiles K L V c → Type 0
+AnswersFrom rules value t q profiles = IsAnswered rules t q (listed_from profiles q.source)
+    (spelling_of t.footpaths (scan_records_from value profiles.to_any q.source)).journey (walk_from profiles q.source)
 
 -- the same from every stop but the target, each by its own query; and from the target itself, for which no query can be asked: there the journeys are those
 -- that come back to it, and the walk is its loop

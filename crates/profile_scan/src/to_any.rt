@@ -7,12 +7,11 @@ ghost use Rattle.profile_scan.specs.Window.{window_of};
 ghost use Rattle.profile_scan.specs.Origins.{AreUnder};
 ghost use Rattle.profile_scan.specs.Everywhere.{AnswerToAny, AreStopLists, asked_to_any, criterion_to_any};
 
-use crate::answering::{ask, timetable_of};
+use crate::answering::{ask, found_in_nodes};
 use crate::destinations::Destinations;
 use crate::found::in_order;
 use crate::found_between::FoundBetween;
 use crate::hop::ScanQuery;
-use crate::journey_nodes::journeys_as_nodes;
 use crate::origins::Origins;
 use crate::scan::{State, scan_window};
 use crate::scanned::Scanned;
@@ -21,7 +20,7 @@ use bags::Point;
 use criteria::Criterion;
 use sources::ConnSource;
 use std::alloc::{AllocError, Global};
-use timetable::{Footpath, GhostValue};
+use timetable::Footpath;
 
 /// The answers from every stop to any of several targets, for one window and criterion. The scan's records of how
 /// journeys go are kept as they are; `found_from` spells those from one stop.
@@ -86,17 +85,18 @@ impl<C: Scanned> ProfilesToAny<C> {
             keeping: &self.state.keeping,
             origin,
         };
-        let points = self.points(stop);
-        let spelled = journeys_as_nodes(alloc, source, &view, points)?;
         let query = self.asked.query.from_stop(alloc, stop)?;
-        Ok(FoundBetween {
-            criterion: self.asked.criterion,
-            points: spelled.points,
-            nodes: spelled.nodes,
-            walk: self.asked.final_walks.walk_from(stop),
-            timetable: timetable_of(source),
-            query: GhostValue::of(&query),
-        })
+        let points = self.points(stop);
+        let walk = self.direct_walk(stop);
+        found_in_nodes(
+            alloc,
+            source,
+            &self.asked.criterion,
+            &query,
+            &view,
+            points,
+            walk,
+        )
     }
 }
 
