@@ -54,7 +54,7 @@ spelled_again_before {V} rules old new same pairs i j d lt within =
       ap (λ (v : V). rules.list_order v s.value) (sym (ap (λ (x : ℕ × V). x.1) e)) ∙ ap (rules.list_order p.value) (sym (ap (λ (x : ℕ × V). x.1) f)) ∙ less,
     )
 
-spelled_again_answer : {V : Type 0} (rules : Rules V) (IsThere : ℕ → V → Type 0) (old new : List (Point V))
+pub spelled_again_answer : {V : Type 0} (rules : Rules V) (IsThere : ℕ → V → Type 0) (old new : List (Point V))
     → map untagged new ≡ map untagged old → IsAnswerOf rules IsThere old → IsAnswerOf rules IsThere new
 spelled_again_answer {V} rules IsThere old new same is = record {
   exactly = λ d v. (
