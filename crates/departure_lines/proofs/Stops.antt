@@ -13,6 +13,7 @@ use Rattle.image_layout.specs.Image.{ImageValue}
 use Rattle.profile_scan.specs.SetQuery.{SetQueryValue, IsAnswerBetween, secs_of}
 use Rattle.profile_scan.specs.Everywhere.{AnswerToAny, asked_to_any, criterion_to_any, listed_to_any, walk_to_any}
 use Rattle.profile_scan.specs.Origins.{from_stop}
+use Rattle.profile_scan.specs.ScanRecords.{KeptValue}
 use Rattle.profile_scan.specs.declared.to_any.ProfilesToAny.{ProfilesToAny}
 use Rattle.bags.specs.declared.point.Point.{Point}
 use Rattle.timetable.specs.TimetableValue.{TimetableValue}
@@ -109,13 +110,13 @@ module _ {V : Type 0} (figures : V → Figures) (rules : Rules V) (form : Depart
       regroup a b c = append_assoc a b c
 
 -- the text of a stop's points, without journeys
-pub points_shown : {K V : Type 0} {c : _} (rules_of : K → Rules V) (figures : V → Figures) (form : DeparturesForm) (image : ImageValue)
-    (profiles : ProfilesToAny K V c) (criterion : K) (stop : ℕ) (points : List (Point V)) (text old new : List ℕ)
+pub points_shown : {K L V : Type 0} {c : _} {value : L → KeptValue V} (rules_of : K → Rules V) (figures : V → Figures) (form : DeparturesForm)
+    (image : ImageValue) (profiles : ProfilesToAny K L V c) (criterion : K) (stop : ℕ) (points : List (Point V)) (text old new : List ℕ)
     → stop < image.timetable.stops → (Contains (asked_to_any profiles).targets stop → ⊥) → criterion_to_any profiles ≡ criterion
-    → AnswerToAny rules_of image.timetable profiles → points ≡ listed_to_any profiles stop
+    → AnswerToAny rules_of value image.timetable profiles → points ≡ listed_to_any profiles stop
     → IsInForm figures (rules_of criterion) form image (asked_to_any profiles) stop points (secs_of (walk_to_any profiles stop)) text → new ≡ old ++ text
     → ShowsStop figures (rules_of criterion) form image (asked_to_any profiles) stop old new (length points)
-points_shown {K} {V} {c} rules_of figures form image profiles criterion stop points text old new lt other same all is in_form added =
+points_shown {K} {L} {V} rules_of figures form image profiles criterion stop points text old new lt other same all is in_form added =
     let q = from_stop (asked_to_any profiles) stop in
     let from = all.each stop lt in
     record {
@@ -133,16 +134,16 @@ points_shown {K} {V} {c} rules_of figures form image profiles criterion stop poi
     }
 
 -- the text of a stop's departures, with journeys
-pub journeys_shown : {K V : Type 0} {c : _} (rules_of : K → Rules V) (figures : V → Figures) (form : DeparturesForm) (image : ImageValue)
-    (profiles : ProfilesToAny K V c) (criterion : K) (stop : ℕ) (departures : List (Departure V)) (count : ℕ)
+pub journeys_shown : {K L V : Type 0} {c : _} {value : L → KeptValue V} (rules_of : K → Rules V) (figures : V → Figures) (form : DeparturesForm)
+    (image : ImageValue) (profiles : ProfilesToAny K L V c) (criterion : K) (stop : ℕ) (departures : List (Departure V)) (count : ℕ)
     (text old new : List ℕ) → count ≡ length departures → stop < image.timetable.stops → (Contains (asked_to_any profiles).targets stop → ⊥)
     → criterion_to_any profiles ≡ criterion
-    → AnswerToAny rules_of image.timetable profiles
+    → AnswerToAny rules_of value image.timetable profiles
     → IsAnswerBetween (rules_of (criterion_to_any profiles)) image.timetable (from_stop (asked_to_any profiles) stop) (map point_of departures)
     → IsInForm figures (rules_of criterion) form image (asked_to_any profiles) stop (map point_of departures) (secs_of (walk_to_any profiles stop)) text
     → new ≡ old ++ text
     → ShowsStop figures (rules_of criterion) form image (asked_to_any profiles) stop old new count
-journeys_shown {K} {V} {c} rules_of figures form image profiles criterion stop departures count text old new many lt other same all answer in_form added =
+journeys_shown {K} {L} {V} rules_of figures form image profiles criterion stop departures count text old new many lt other same all answer in_form added =
     let q = from_stop (asked_to_any profiles) stop in
     record {
       text = text;

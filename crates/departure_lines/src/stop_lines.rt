@@ -21,13 +21,13 @@ use droppable_sources::in_place;
 use image_files::NameForm;
 use image_verifier::Verified;
 use journeys::{Departure, departures_from};
-use profile_scan::ProfilesToAny;
+use profile_scan::{ProfilesToAny, Scanned};
 use std::alloc::{AllocError, Global};
 use text_pieces::Form;
 
 /// The answers from every stop of an image to any of several, and what is needed to print them.
 #[derive(Clone, Copy)]
-pub struct AnswersToPrint<'a, C: ShowsFigures> {
+pub struct AnswersToPrint<'a, C: ShowsFigures + Scanned> {
     pub alloc: Global,
     pub image: &'a Verified,
     pub criterion: &'a C,
@@ -44,14 +44,14 @@ pub struct StopCounts {
 }
 
 /// Adds the lines of each wanted stop except the targets, in order, and returns the counts.
-pub fn append_stops<C: ShowsFigures>(
+pub fn append_stops<C: ShowsFigures + Scanned>(
     lines: &mut String,
     shown: &AnswersToPrint<'_, C>,
     form: DeparturesForm,
     wanted: &WantedStops,
 ) -> Result<StopCounts, AllocError>
     requires same { criterion_to_any shown.now.profiles.now ≡ shown.now.criterion.now }
-    requires answered { AnswerToAny C.rules shown.now.image.now.timetable shown.now.profiles.now }
+    requires answered { AnswerToAny C.rules C.Kept.value shown.now.image.now.timetable shown.now.profiles.now }
     ensures { IfOk result (λ counts. AddsStops C.figures (C.rules shown.now.criterion.now) form
         (printed shown.now.names shown.now.image.now)
         (asked_to_any shown.now.profiles.now) wanted.now shown.now.image.now.timetable.stops
@@ -68,7 +68,7 @@ pub fn append_stops<C: ShowsFigures>(
 }
 
 // Adds the lines of the next stop, if it is shown, and counts its departures.
-fn append_next<C: ShowsFigures>(
+fn append_next<C: ShowsFigures + Scanned>(
     lines: &mut String,
     shown: &AnswersToPrint<'_, C>,
     form: DeparturesForm,
@@ -78,7 +78,7 @@ fn append_next<C: ShowsFigures>(
 ) -> Result<StopCounts, AllocError>
     requires stop { stop < shown.now.image.now.timetable.stops }
     requires same { criterion_to_any shown.now.profiles.now ≡ shown.now.criterion.now }
-    requires answered { AnswerToAny C.rules shown.now.image.now.timetable shown.now.profiles.now }
+    requires answered { AnswerToAny C.rules C.Kept.value shown.now.image.now.timetable shown.now.profiles.now }
     ensures { IfOk result (λ next. (before : List ℕ)
         → AddsStops C.figures (C.rules shown.now.criterion.now) form (printed shown.now.names shown.now.image.now)
         (asked_to_any shown.now.profiles.now) wanted.now stop before (string_bytes lines.old) counts
@@ -125,7 +125,7 @@ fn sum_of(count: usize, more: usize) -> Result<usize, AllocError>
 }
 
 // Adds the lines of a stop, and returns how many departures it has.
-fn append_stop<C: ShowsFigures>(
+fn append_stop<C: ShowsFigures + Scanned>(
     lines: &mut String,
     shown: &AnswersToPrint<'_, C>,
     form: DeparturesForm,
@@ -134,7 +134,7 @@ fn append_stop<C: ShowsFigures>(
     requires stop { stop < shown.now.image.now.timetable.stops }
     requires differ { Contains (asked_to_any shown.now.profiles.now).targets stop → ⊥ }
     requires same { criterion_to_any shown.now.profiles.now ≡ shown.now.criterion.now }
-    requires answered { AnswerToAny C.rules shown.now.image.now.timetable shown.now.profiles.now }
+    requires answered { AnswerToAny C.rules C.Kept.value shown.now.image.now.timetable shown.now.profiles.now }
     ensures { IfOk result (ShowsStop C.figures (C.rules shown.now.criterion.now) form
         (printed shown.now.names shown.now.image.now)
         (asked_to_any shown.now.profiles.now) stop (string_bytes lines.old) (string_bytes lines.new)) }
@@ -150,7 +150,7 @@ fn append_stop<C: ShowsFigures>(
 }
 
 // The name of a stop, as it is printed.
-fn printed_stop<C: ShowsFigures>(
+fn printed_stop<C: ShowsFigures + Scanned>(
     shown: &AnswersToPrint<'_, C>,
     stop: u32,
 ) -> Result<String, AllocError>
@@ -160,7 +160,7 @@ fn printed_stop<C: ShowsFigures>(
     printed_stop_name(shown.alloc, shown.image, stop, shown.names)
 }
 
-fn append_journeys<C: ShowsFigures>(
+fn append_journeys<C: ShowsFigures + Scanned>(
     lines: &mut String,
     shown: &AnswersToPrint<'_, C>,
     stop: u32,
@@ -168,7 +168,7 @@ fn append_journeys<C: ShowsFigures>(
     requires stop { stop < shown.now.image.now.timetable.stops }
     requires differ { Contains (asked_to_any shown.now.profiles.now).targets stop → ⊥ }
     requires same { criterion_to_any shown.now.profiles.now ≡ shown.now.criterion.now }
-    requires answered { AnswerToAny C.rules shown.now.image.now.timetable shown.now.profiles.now }
+    requires answered { AnswerToAny C.rules C.Kept.value shown.now.image.now.timetable shown.now.profiles.now }
     ensures { IfOk result (ShowsStop C.figures (C.rules shown.now.criterion.now) DeparturesForm.Journeys
         (printed shown.now.names shown.now.image.now)
         (asked_to_any shown.now.profiles.now) stop (string_bytes lines.old) (string_bytes lines.new)) }
@@ -185,7 +185,7 @@ fn append_journeys<C: ShowsFigures>(
     Ok(departures.len())
 }
 
-fn append_bare<C: ShowsFigures>(
+fn append_bare<C: ShowsFigures + Scanned>(
     lines: &mut String,
     shown: &AnswersToPrint<'_, C>,
     stop: u32,
@@ -193,7 +193,7 @@ fn append_bare<C: ShowsFigures>(
     requires stop { stop < shown.now.image.now.timetable.stops }
     requires differ { Contains (asked_to_any shown.now.profiles.now).targets stop → ⊥ }
     requires same { criterion_to_any shown.now.profiles.now ≡ shown.now.criterion.now }
-    requires answered { AnswerToAny C.rules shown.now.image.now.timetable shown.now.profiles.now }
+    requires answered { AnswerToAny C.rules C.Kept.value shown.now.image.now.timetable shown.now.profiles.now }
     ensures { IfOk result (ShowsStop C.figures (C.rules shown.now.criterion.now) DeparturesForm.Points
         (printed shown.now.names shown.now.image.now)
         (asked_to_any shown.now.profiles.now) stop (string_bytes lines.old) (string_bytes lines.new)) }
@@ -204,7 +204,7 @@ fn append_bare<C: ShowsFigures>(
     Ok(points.len())
 }
 
-fn append_summed<C: ShowsFigures>(
+fn append_summed<C: ShowsFigures + Scanned>(
     lines: &mut String,
     shown: &AnswersToPrint<'_, C>,
     form: Form,
@@ -213,7 +213,7 @@ fn append_summed<C: ShowsFigures>(
     requires stop { stop < shown.now.image.now.timetable.stops }
     requires differ { Contains (asked_to_any shown.now.profiles.now).targets stop → ⊥ }
     requires same { criterion_to_any shown.now.profiles.now ≡ shown.now.criterion.now }
-    requires answered { AnswerToAny C.rules shown.now.image.now.timetable shown.now.profiles.now }
+    requires answered { AnswerToAny C.rules C.Kept.value shown.now.image.now.timetable shown.now.profiles.now }
     ensures { IfOk result (ShowsStop C.figures (C.rules shown.now.criterion.now) (summary_form form)
         (printed shown.now.names shown.now.image.now)
         (asked_to_any shown.now.profiles.now) stop (string_bytes lines.old) (string_bytes lines.new)) }
@@ -225,7 +225,7 @@ fn append_summed<C: ShowsFigures>(
     Ok(points.len())
 }
 
-fn append_as_json<C: ShowsFigures>(
+fn append_as_json<C: ShowsFigures + Scanned>(
     lines: &mut String,
     shown: &AnswersToPrint<'_, C>,
     stop: u32,
@@ -233,7 +233,7 @@ fn append_as_json<C: ShowsFigures>(
     requires stop { stop < shown.now.image.now.timetable.stops }
     requires differ { Contains (asked_to_any shown.now.profiles.now).targets stop → ⊥ }
     requires same { criterion_to_any shown.now.profiles.now ≡ shown.now.criterion.now }
-    requires answered { AnswerToAny C.rules shown.now.image.now.timetable shown.now.profiles.now }
+    requires answered { AnswerToAny C.rules C.Kept.value shown.now.image.now.timetable shown.now.profiles.now }
     ensures { IfOk result (ShowsStop C.figures (C.rules shown.now.criterion.now) DeparturesForm.Json
         (printed shown.now.names shown.now.image.now)
         (asked_to_any shown.now.profiles.now) stop (string_bytes lines.old) (string_bytes lines.new)) }
@@ -252,7 +252,7 @@ fn append_as_json<C: ShowsFigures>(
     Ok(departures.len())
 }
 
-fn append_bare_json<C: ShowsFigures>(
+fn append_bare_json<C: ShowsFigures + Scanned>(
     lines: &mut String,
     shown: &AnswersToPrint<'_, C>,
     stop: u32,
@@ -260,7 +260,7 @@ fn append_bare_json<C: ShowsFigures>(
     requires stop { stop < shown.now.image.now.timetable.stops }
     requires differ { Contains (asked_to_any shown.now.profiles.now).targets stop → ⊥ }
     requires same { criterion_to_any shown.now.profiles.now ≡ shown.now.criterion.now }
-    requires answered { AnswerToAny C.rules shown.now.image.now.timetable shown.now.profiles.now }
+    requires answered { AnswerToAny C.rules C.Kept.value shown.now.image.now.timetable shown.now.profiles.now }
     ensures { IfOk result (ShowsStop C.figures (C.rules shown.now.criterion.now) DeparturesForm.JsonPoints
         (printed shown.now.names shown.now.image.now)
         (asked_to_any shown.now.profiles.now) stop (string_bytes lines.old) (string_bytes lines.new)) }
@@ -280,9 +280,9 @@ fn append_bare_json<C: ShowsFigures>(
 }
 
 // The seconds of the shortest footpath from a stop to a target, if there is one.
-fn direct_secs<C: ShowsFigures>(shown: &AnswersToPrint<'_, C>, stop: u32) -> Option<u32>
+fn direct_secs<C: ShowsFigures + Scanned>(shown: &AnswersToPrint<'_, C>, stop: u32) -> Option<u32>
     requires stop { stop < shown.now.image.now.timetable.stops }
-    requires answered { AnswerToAny C.rules shown.now.image.now.timetable shown.now.profiles.now }
+    requires answered { AnswerToAny C.rules C.Kept.value shown.now.image.now.timetable shown.now.profiles.now }
     ensures { result ≡ secs_of (walk_to_any shown.now.profiles.now stop) }
 {
     match shown.profiles.direct_walk(stop) {
@@ -292,13 +292,13 @@ fn direct_secs<C: ShowsFigures>(shown: &AnswersToPrint<'_, C>, stop: u32) -> Opt
 }
 
 // The best departures from a stop, each with a journey.
-fn journeys_from<C: ShowsFigures>(
+fn journeys_from<C: ShowsFigures + Scanned>(
     shown: &AnswersToPrint<'_, C>,
     stop: u32,
 ) -> Result<Vec<Departure<C::V>>, AllocError>
     requires stop { stop < shown.now.image.now.timetable.stops }
     requires differ { Contains (asked_to_any shown.now.profiles.now).targets stop → ⊥ }
-    requires answered { AnswerToAny C.rules shown.now.image.now.timetable shown.now.profiles.now }
+    requires answered { AnswerToAny C.rules C.Kept.value shown.now.image.now.timetable shown.now.profiles.now }
     ensures points { IfOk result (λ departures. IsAnswerBetween (C.rules (criterion_to_any shown.now.profiles.now))
         shown.now.image.now.timetable
         (from_stop (asked_to_any shown.now.profiles.now) stop) (map point_of departures.items)) }

@@ -18,7 +18,7 @@ use droppable_sources::in_place;
 use image_files::NameForm;
 use image_verifier::Verified;
 use journeys::window_len;
-use profile_scan::{ConnSource, Destinations, profiles_to_any};
+use profile_scan::{ConnSource, Destinations, Scanned, profiles_to_any};
 use std::alloc::{AllocError, Global};
 use timetable::Query;
 
@@ -27,7 +27,7 @@ use timetable::Query;
 /// lines, names are written in the form `names`.
 ///
 /// One scan answers for all stops; it reads the image in place. The only error is that memory runs out.
-pub fn departures_text<C: ShowsFigures>(
+pub fn departures_text<C: ShowsFigures + Scanned>(
     alloc: Global,
     image: &Verified,
     criterion: &C,

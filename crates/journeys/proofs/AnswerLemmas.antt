@@ -11,7 +11,6 @@ use Rattle.timetable.specs.TimetableValue.{TimetableValue}
 use Rattle.timetable.specs.Legal.{IsLegal}
 use Rattle.sources.specs.FirstAt.{IsFirstAt}
 use Rattle.profile_scan.specs.Window.{window, falling}
-use Rattle.profile_scan.proofs.LogLemmas.{taken_all}
 use Rattle.profile_scan.proofs.Windows.{window_is_read_backward}
 
 -- how many indices a window has
@@ -24,10 +23,6 @@ pub window_count : (t : TimetableValue) (q : Query) (start end : ℕ) → IsLega
 window_count t q start end legal is_start is_end =
     let falls = (window_is_read_backward t legal q).falls start end is_start is_end in
     sym (length-falling start (end - start)) ∙ (ap length (sym falls) ∙ length-reverse (window t q))
-
--- an error behind the scan: all of the window was read
-pub whole_read : {T E : Type 0} (r : Result T E) (log read now : List ℕ) → now ≡ log ++ read → OnErr r ((n : ℕ) × (now ≡ log ++ take n read))
-whole_read r log read now e = on_err r ((n : ℕ) × (now ≡ log ++ take n read)) (length read, taken_all log read now e)
 
 -- a point that has lost its tag
 abbrev pub tagless : {V : Type 0} → Point V → Point V

@@ -19,7 +19,7 @@ use Rattle.profile_scan.specs.declared.found_between.FoundBetween.{FoundBetween}
 use Rattle.timetable.specs.JourneyValue.{RideValue, JourneyValue}
 use Rattle.profile_scan.specs.Continuations.{Aboard}
 use Rattle.profile_scan.specs.Steps.{boarded}
-use Rattle.profile_scan.specs.Nodes.{Spelled, nothing, spelled, spells, changed_at, boarded_after, set_out_by, walk_of}
+use Rattle.profile_scan.specs.Nodes.{Spelled, nothing, spelled, spelling, spells, changed_at, boarded_after, set_out_by, walk_of}
 use Rattle.profile_scan.specs.declared.nodes.Node.{Node}
 use Rattle.profile_scan.specs.declared.nodes.Node.TheVariants.{Ends, Changes, Boards, SetsOut}
 use Rattle.profile_scan.proofs.NodeLemmas.{spelled_at, spelled_past}
@@ -181,7 +181,7 @@ none_is view e (Some b) is h = absurd cc
 
 -- what was found answers the query that it keeps
 pub answers_its_own : {K V : Type 0} {c : _} (rules : Rules V) (found : Found K V c)
-    → IsAnswered rules (timetable_of found) (query_of found) (listed found) (nodes_of found) (walk_of_found found)
+    → IsAnswered rules (timetable_of found) (query_of found) (listed found) (spelling (nodes_of found)).journey (walk_of_found found)
     → Answers (criterion_of_found found) rules (timetable_of found) (query_of found) found
 answers_its_own rules found is = record { answer = is.answer; attained = is.attained; direct = is.direct; keeps = (refl, refl, refl) }
 
@@ -222,7 +222,7 @@ between_attained : {K V : Type 0} {c : _} (criterion : K) (rules : Rules V) (t :
     (p : Point V) → AnswersBetween criterion rules t b found → slice_get (listed_between found) i ≡ Some p
     → (j : JourneyValue) × ((spelled (nodes_between found) p.tag).journey ≡ Some j) × AttainsBetween rules t b p j
 between_attained criterion rules t b found i p answers at =
-    let a = answers.answered.attained p (contains_at (listed_between found) i p at) in
+    let a = answers.answered.tagged.attained p (contains_at (listed_between found) i p at) in
     let pair = a.there.pair in (
       a.way,
       a.spells,

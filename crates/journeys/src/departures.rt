@@ -12,7 +12,7 @@ ghost use Rattle.journeys.specs.Extracted.{AttainsBetween};
 use crate::answering::Departure;
 use crate::extraction::extract_between;
 use criteria::Criterion;
-use profile_scan::{ConnSource, FoundBetween, ProfilesToAny};
+use profile_scan::{ConnSource, FoundBetween, ProfilesToAny, Scanned};
 use std::alloc::{AllocError, Global};
 
 /// Returns the points of the answer of a query between sets, each with a journey that counts, departs when the point
@@ -48,7 +48,7 @@ pub fn departures_between<C: Criterion>(
 /// are made stop by stop, and needn't be in memory all at once.
 ///
 /// `source` has to read the timetable that was scanned. The only error is that memory runs out.
-pub fn departures_from<S: ConnSource, C: Criterion>(
+pub fn departures_from<S: ConnSource, C: Scanned>(
     alloc: Global,
     source: &S,
     profiles: &ProfilesToAny<C>,
@@ -56,7 +56,7 @@ pub fn departures_from<S: ConnSource, C: Criterion>(
 ) -> Result<Vec<Departure<C::V>>, AllocError>
     requires stop { stop < (S.timetable source.now).stops }
     requires differ { Contains (asked_to_any profiles.now).targets stop → ⊥ }
-    requires answered { AnswerToAny C.rules (S.timetable source.now) profiles.now }
+    requires answered { AnswerToAny C.rules C.Kept.value (S.timetable source.now) profiles.now }
     ensures points { IfOk result (λ departures. IsAnswerBetween (C.rules (criterion_to_any profiles.now))
         (S.timetable source.now) (from_stop (asked_to_any profiles.now) stop) (map point_of departures.items)) }
     ensures journeys { IfOk result (λ departures. (departure : _) → Contains departures.items departure

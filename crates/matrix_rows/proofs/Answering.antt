@@ -15,6 +15,7 @@ use Rattle.profile_scan.specs.SetQuery.{SetQueryValue, IsAnswerBetween, IsAskabl
 use Rattle.profile_scan.specs.Everywhere.{AnswerToAny, asked_to_any, criterion_to_any, listed_to_any}
 use Rattle.profile_scan.specs.Origins.{from_stop}
 use Rattle.profile_scan.specs.Points.{Before}
+use Rattle.profile_scan.specs.ScanRecords.{KeptValue}
 use Rattle.profile_scan.specs.declared.to_any.ProfilesToAny.{ProfilesToAny}
 use Rattle.timetable.specs.TimetableValue.{TimetableValue}
 use Rattle.travel_times.specs.Fields.{pair_fields}
@@ -24,10 +25,10 @@ use Rattle.matrix_rows.specs.Tables.{IsMeanFrom, destination, point_row, span_of
 use Rattle.matrix_rows.specs.declared.table.TravelTable.{TravelTable}
 
 -- the answer from a stop, under the criterion that was asked for
-pub answer_at : {K V : Type 0} {c : _} (rules_of : K → Rules V) (t : TimetableValue) (profiles : ProfilesToAny K V c) (criterion : K) (stop : ℕ)
-    → AnswerToAny rules_of t profiles → criterion_to_any profiles ≡ criterion → stop < t.stops
+pub answer_at : {K L V : Type 0} {c : _} {value : L → KeptValue V} (rules_of : K → Rules V) (t : TimetableValue) (profiles : ProfilesToAny K L V c)
+    (criterion : K) (stop : ℕ) → AnswerToAny rules_of value t profiles → criterion_to_any profiles ≡ criterion → stop < t.stops
     → IsAnswerBetween (rules_of criterion) t (from_stop (asked_to_any profiles) stop) (listed_to_any profiles stop)
-answer_at {K} {V} {c} rules_of t profiles criterion stop all same lt =
+answer_at {K} {L} {V} rules_of t profiles criterion stop all same lt =
     subst (λ (k : K). IsAnswerBetween (rules_of k) t (from_stop (asked_to_any profiles) stop) (listed_to_any profiles stop)) same (all.each stop lt).answer
 
 -- a list of one

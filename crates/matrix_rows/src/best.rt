@@ -12,13 +12,13 @@ ghost use Rattle.matrix_rows.specs.Tables.{IsLeastWalk, Meet, from_stops};
 use bags::{Bag, Point};
 use criteria::Criterion;
 use image_verifier::Verified;
-use profile_scan::{ProfilesToAny, in_order};
+use profile_scan::{ProfilesToAny, Scanned, in_order};
 use std::alloc::{AllocError, Global};
 use std::borrow::CowSlice;
 
 /// The best departures from any of some stops, in order: those of each, without the ones that another dominates. Those
 /// of one stop are where they were found.
-pub(crate) fn best_points<'p, C: Criterion>(
+pub(crate) fn best_points<'p, C: Scanned>(
     alloc: Global,
     image: &Verified,
     criterion: &C,
@@ -26,7 +26,7 @@ pub(crate) fn best_points<'p, C: Criterion>(
     stops: &[u32],
 ) -> Result<CowSlice<'p, Point<C::V>, Global>, AllocError>
     requires same { criterion_to_any profiles.now ≡ criterion.now }
-    requires answered { AnswerToAny C.rules image.now.timetable profiles.now }
+    requires answered { AnswerToAny C.rules C.Kept.value image.now.timetable profiles.now }
     requires asked { IsAskableBetween image.now.timetable.stops (asked_to_any profiles.now) }
     requires within { (stop : ℕ) → Contains stops.now stop → stop < image.now.timetable.stops }
     ensures { IfOk result (λ points. IsAnswerBetween (C.rules criterion.now) image.now.timetable
@@ -40,7 +40,7 @@ pub(crate) fn best_points<'p, C: Criterion>(
 }
 
 // The best departures from any of some stops, by a bag that takes in those of each.
-fn merged_points<C: Criterion>(
+fn merged_points<C: Scanned>(
     alloc: Global,
     image: &Verified,
     criterion: &C,
@@ -48,7 +48,7 @@ fn merged_points<C: Criterion>(
     stops: &[u32],
 ) -> Result<Vec<Point<C::V>>, AllocError>
     requires same { criterion_to_any profiles.now ≡ criterion.now }
-    requires answered { AnswerToAny C.rules image.now.timetable profiles.now }
+    requires answered { AnswerToAny C.rules C.Kept.value image.now.timetable profiles.now }
     requires asked { IsAskableBetween image.now.timetable.stops (asked_to_any profiles.now) }
     requires within { (stop : ℕ) → Contains stops.now stop → stop < image.now.timetable.stops }
     ensures { IfOk result (λ points. IsAnswerBetween (C.rules criterion.now) image.now.timetable
@@ -78,12 +78,12 @@ fn put_points<C: Criterion>(best: &mut Bag<C>, points: &[Point<C::V>]) -> Result
 
 /// The seconds of the shortest footpath from any of some stops, none of which is a target, to a target, if there is
 /// one.
-pub(crate) fn least_walk<C: Criterion>(
+pub(crate) fn least_walk<C: Scanned>(
     image: &Verified,
     profiles: &ProfilesToAny<C>,
     stops: &[u32],
 ) -> Option<u32>
-    requires answered { AnswerToAny C.rules image.now.timetable profiles.now }
+    requires answered { AnswerToAny C.rules C.Kept.value image.now.timetable profiles.now }
     requires within { (stop : ℕ) → Contains stops.now stop → stop < image.now.timetable.stops }
     requires apart { Meet stops.now (asked_to_any profiles.now).targets → ⊥ }
     ensures { IsLeastWalk image.now.timetable (from_stops (asked_to_any profiles.now) stops.now) result }
@@ -96,8 +96,8 @@ pub(crate) fn least_walk<C: Criterion>(
 }
 
 // The seconds of the shortest footpath from a stop to a target, if there is one.
-fn walk_from<C: Criterion>(image: &Verified, profiles: &ProfilesToAny<C>, stop: u32) -> Option<u32>
-    requires answered { AnswerToAny C.rules image.now.timetable profiles.now }
+fn walk_from<C: Scanned>(image: &Verified, profiles: &ProfilesToAny<C>, stop: u32) -> Option<u32>
+    requires answered { AnswerToAny C.rules C.Kept.value image.now.timetable profiles.now }
     requires within { stop < image.now.timetable.stops }
     requires apart { Contains (asked_to_any profiles.now).targets stop → ⊥ }
     ensures { IsLeastWalk image.now.timetable (from_stops (asked_to_any profiles.now) (stop ∷ [])) result }

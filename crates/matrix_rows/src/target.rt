@@ -22,7 +22,7 @@ use criteria::{Arrival, ArrivalTrips, ArrivalTripsWalk, CriterionName, ShowsFigu
 use droppable_sources::in_place;
 use image_files::NameForm;
 use image_verifier::Verified;
-use profile_scan::{Destinations, ProfilesToAny, profiles_to_any};
+use profile_scan::{Destinations, ProfilesToAny, Scanned, profiles_to_any};
 use std::alloc::{AllocError, Global};
 use travel_times::{Pair, Rows, Span, mean_wait, put_pair, put_point};
 
@@ -44,7 +44,7 @@ pub fn rows_to(
 }
 
 // The same by a criterion.
-fn rows_by<C: ShowsFigures>(
+fn rows_by<C: ShowsFigures + Scanned>(
     alloc: Global,
     table: &NamedTable<'_>,
     criterion: &C,
@@ -62,7 +62,7 @@ fn rows_by<C: ShowsFigures>(
 }
 
 // The row of each pair.
-fn pair_rows<C: ShowsFigures>(
+fn pair_rows<C: ShowsFigures + Scanned>(
     alloc: Global,
     table: &NamedTable<'_>,
     criterion: &C,
@@ -80,7 +80,7 @@ fn pair_rows<C: ShowsFigures>(
 }
 
 // The row of each pair, where one may leave as late as one arrives: the answers are also those for the means.
-fn pair_rows_of_one_scan<C: ShowsFigures>(
+fn pair_rows_of_one_scan<C: ShowsFigures + Scanned>(
     alloc: Global,
     table: &NamedTable<'_>,
     criterion: &C,
@@ -99,7 +99,7 @@ fn pair_rows_of_one_scan<C: ShowsFigures>(
 }
 
 // The row of each pair, with a scan of its own for the means.
-fn pair_rows_of_two_scans<C: ShowsFigures>(
+fn pair_rows_of_two_scans<C: ShowsFigures + Scanned>(
     alloc: Global,
     table: &NamedTable<'_>,
     criterion: &C,
@@ -118,14 +118,15 @@ fn pair_rows_of_two_scans<C: ShowsFigures>(
 }
 
 // The answers from all stops, by a scan of the image in place.
-fn answers<C: ShowsFigures>(
+fn answers<C: ShowsFigures + Scanned>(
     alloc: Global,
     table: &TravelTable<'_>,
     criterion: &C,
     destinations: &Destinations,
 ) -> Result<ProfilesToAny<C>, AllocError>
     requires { IsAskableBetween table.now.image.now.timetable.stops (question_to_any destinations.now) }
-    ensures answered { IfOk result (λ profiles. AnswerToAny C.rules table.now.image.now.timetable profiles) }
+    ensures answered { IfOk result
+        (λ profiles. AnswerToAny C.rules C.Kept.value table.now.image.now.timetable profiles) }
     ensures keeps { IfOk result (λ profiles. (criterion_to_any profiles ≡ criterion.now)
         × (asked_to_any profiles ≡ question_to_any destinations.now)) }
 {
@@ -134,7 +135,7 @@ fn answers<C: ShowsFigures>(
 }
 
 // For each set of sources the mean wait, by a scan of its own, whose answers are freed.
-fn means_to<C: ShowsFigures>(
+fn means_to<C: ShowsFigures + Scanned>(
     alloc: Global,
     table: &TravelTable<'_>,
     criterion: &C,
@@ -152,14 +153,14 @@ fn means_to<C: ShowsFigures>(
 }
 
 // For each set of sources the mean wait over the seconds of the window.
-fn means_of<C: ShowsFigures>(
+fn means_of<C: ShowsFigures + Scanned>(
     alloc: Global,
     table: &TravelTable<'_>,
     criterion: &C,
     profiles: &ProfilesToAny<C>,
 ) -> Result<Vec<Option<u64>>, AllocError>
     requires same { criterion_to_any profiles.now ≡ criterion.now }
-    requires answered { AnswerToAny C.rules table.now.image.now.timetable profiles.now }
+    requires answered { AnswerToAny C.rules C.Kept.value table.now.image.now.timetable profiles.now }
     requires asked { IsAskableBetween table.now.image.now.timetable.stops (asked_to_any profiles.now) }
     requires sources { AreWithin table.now.image.now table.now.sources.now }
     requires window { table.now.after ≤ table.now.until }
@@ -177,7 +178,7 @@ fn means_of<C: ShowsFigures>(
 }
 
 // The mean wait from a set of sources. What is in `spans` is written over, here and below.
-fn mean_of<C: ShowsFigures>(
+fn mean_of<C: ShowsFigures + Scanned>(
     alloc: Global,
     table: &TravelTable<'_>,
     criterion: &C,
@@ -186,7 +187,7 @@ fn mean_of<C: ShowsFigures>(
     spans: &mut Vec<Span>,
 ) -> Result<Option<u64>, AllocError>
     requires same { criterion_to_any profiles.now ≡ criterion.now }
-    requires answered { AnswerToAny C.rules table.now.image.now.timetable profiles.now }
+    requires answered { AnswerToAny C.rules C.Kept.value table.now.image.now.timetable profiles.now }
     requires asked { IsAskableBetween table.now.image.now.timetable.stops (asked_to_any profiles.now) }
     requires sources { (stop : ℕ) → Contains sources.now stop → stop < table.now.image.now.timetable.stops }
     requires window { table.now.after ≤ table.now.until }
@@ -225,7 +226,7 @@ fn span_of<C: ShowsFigures>(criterion: &C, point: &Point<C::V>) -> Span
 
 // The answers from all stops to a set of targets, and what else is needed to make rows of them.
 #[derive(Clone, Copy)]
-struct Answered<'a, C: ShowsFigures> {
+struct Answered<'a, C: ShowsFigures + Scanned> {
     alloc: Global,
     image: &'a Verified,
     names: NameForm,
@@ -236,7 +237,7 @@ struct Answered<'a, C: ShowsFigures> {
 }
 
 // The row of each pair, with these means.
-fn pair_rows_of<C: ShowsFigures>(
+fn pair_rows_of<C: ShowsFigures + Scanned>(
     alloc: Global,
     table: &NamedTable<'_>,
     criterion: &C,
@@ -244,7 +245,7 @@ fn pair_rows_of<C: ShowsFigures>(
     means: &[Option<u64>],
 ) -> Result<Vec<u8>, AllocError>
     requires same { criterion_to_any profiles.now ≡ criterion.now }
-    requires answered { AnswerToAny C.rules table.now.plain.image.now.timetable profiles.now }
+    requires answered { AnswerToAny C.rules C.Kept.value table.now.plain.image.now.timetable profiles.now }
     requires asked { IsAskableBetween table.now.plain.image.now.timetable.stops (asked_to_any profiles.now) }
     requires sources { AreWithin table.now.plain.image.now table.now.plain.sources.now }
     requires means { AllZip (IsMeanFrom C.figures (C.rules criterion.now)
@@ -290,7 +291,7 @@ fn mean_at(means: &[Option<u64>], list_index: usize) -> Option<u64>
 }
 
 // Adds the row of a pair, if no source is a target.
-fn put_pair_from<C: ShowsFigures>(
+fn put_pair_from<C: ShowsFigures + Scanned>(
     rows: &mut Rows,
     answered: &Answered<'_, C>,
     sources: &[u32],
@@ -302,7 +303,7 @@ fn put_pair_from<C: ShowsFigures>(
     requires from { from.now ≡ set_bytes (printed answered.now.names answered.now.image.now).names sources.now }
     requires sources { (stop : ℕ) → Contains sources.now stop → stop < answered.now.image.now.timetable.stops }
     requires same { criterion_to_any answered.now.profiles.now ≡ answered.now.criterion.now }
-    requires answered { AnswerToAny C.rules answered.now.image.now.timetable answered.now.profiles.now }
+    requires answered { AnswerToAny C.rules C.Kept.value answered.now.image.now.timetable answered.now.profiles.now }
     requires asked { IsAskableBetween answered.now.image.now.timetable.stops (asked_to_any answered.now.profiles.now) }
     requires to { answered.now.to.now
         ≡ set_bytes (printed answered.now.names answered.now.image.now).names
@@ -342,7 +343,7 @@ fn put_pair_from<C: ShowsFigures>(
 }
 
 // The row of each departure.
-fn point_rows<C: ShowsFigures>(
+fn point_rows<C: ShowsFigures + Scanned>(
     alloc: Global,
     table: &NamedTable<'_>,
     criterion: &C,
@@ -359,14 +360,14 @@ fn point_rows<C: ShowsFigures>(
 }
 
 // The row of each departure, with these answers.
-fn point_rows_of<C: ShowsFigures>(
+fn point_rows_of<C: ShowsFigures + Scanned>(
     alloc: Global,
     table: &NamedTable<'_>,
     criterion: &C,
     profiles: &ProfilesToAny<C>,
 ) -> Result<Vec<u8>, AllocError>
     requires same { criterion_to_any profiles.now ≡ criterion.now }
-    requires answered { AnswerToAny C.rules table.now.plain.image.now.timetable profiles.now }
+    requires answered { AnswerToAny C.rules C.Kept.value table.now.plain.image.now.timetable profiles.now }
     requires asked { IsAskableBetween table.now.plain.image.now.timetable.stops (asked_to_any profiles.now) }
     requires sources { AreWithin table.now.plain.image.now table.now.plain.sources.now }
     ensures { IfOk result (λ text. AreRowsTo C.figures (C.rules criterion.now) true
@@ -396,7 +397,7 @@ fn point_rows_of<C: ShowsFigures>(
 }
 
 // Adds the row of each departure from a set of sources, if none of them is a target.
-fn put_points_from<C: ShowsFigures>(
+fn put_points_from<C: ShowsFigures + Scanned>(
     rows: &mut Rows,
     answered: &Answered<'_, C>,
     sources: &[u32],
@@ -406,7 +407,7 @@ fn put_points_from<C: ShowsFigures>(
     requires from { from.now ≡ set_bytes (printed answered.now.names answered.now.image.now).names sources.now }
     requires sources { (stop : ℕ) → Contains sources.now stop → stop < answered.now.image.now.timetable.stops }
     requires same { criterion_to_any answered.now.profiles.now ≡ answered.now.criterion.now }
-    requires answered { AnswerToAny C.rules answered.now.image.now.timetable answered.now.profiles.now }
+    requires answered { AnswerToAny C.rules C.Kept.value answered.now.image.now.timetable answered.now.profiles.now }
     requires asked { IsAskableBetween answered.now.image.now.timetable.stops (asked_to_any answered.now.profiles.now) }
     requires to { answered.now.to.now
         ≡ set_bytes (printed answered.now.names answered.now.image.now).names

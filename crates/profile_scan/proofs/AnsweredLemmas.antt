@@ -1,23 +1,23 @@
 -- What a scan found, put in order, is the answer.
-use Rattle.std.proofs.Common.{◌≡◌, ◌∙◌, ◌<◌, ◌≤◌, ℕ, List, Option, AllPairs, Contains, length, map, get_or, inl, inr, ap, sym, subst, arith}
+use Rattle.std.proofs.Common.{◌≡◌, ◌∙◌, ◌<◌, ◌≤◌, ℕ, List, AllPairs, Contains, length, map, get_or, inl, inr, ap, sym, subst, arith}
 use Rattle.std.proofs.lemmas.List.{get_or_default, length-map}
 use Rattle.std.proofs.Math.ListN.{get_or-map}
 use Rattle.criteria.specs.Laws.{Rules, Laws, NoWorse}
 use Rattle.bags.specs.Dominance.{IsBag}
 use Rattle.bags.specs.declared.point.Point.{Point}
 use Rattle.timetable.specs.TimetableValue.{TimetableValue}
-use Rattle.timetable.specs.declared.network.Footpath.{Footpath}
 use Rattle.sources.specs.FirstAt.{IsFirstAt}
 use Rattle.profile_scan.specs.Values.{journey_value}
 use Rattle.profile_scan.specs.Continuations.{CountsFrom}
-use Rattle.profile_scan.specs.SetQuery.{SetQueryValue, CountsBetween, IsDirectWalk, IsPointBetween}
+use Rattle.profile_scan.specs.SetQuery.{SetQueryValue, CountsBetween, IsPointBetween}
 use Rattle.profile_scan.specs.Plain.{IsPlainOf}
-use Rattle.profile_scan.specs.Points.{Before, IsAnswerOf, untagged}
-use Rattle.profile_scan.specs.Matching.{Matches}
+use Rattle.profile_scan.specs.Points.{AreInOrder, Before, IsAnswerOf, untagged}
 use Rattle.profile_scan.specs.ScanRecords.{ScanRecords, spelling_of}
-use Rattle.profile_scan.specs.JourneyNodes.{IsJourneySpelled, IsSpelledAgain}
-use Rattle.profile_scan.specs.Answered.{IsAnsweredBetween}
+use Rattle.profile_scan.specs.JourneyNodes.{AreSpelledAgain}
+use Rattle.profile_scan.specs.Answered.{IsTaggedAnswer}
 use Rattle.profile_scan.specs.LawStatements.{CanScan}
+use Rattle.profile_scan.specs.Nodes.{spelling}
+use Rattle.profile_scan.specs.ScanState.{HasFound}
 use Rattle.profile_scan.specs.declared.nodes.Node.{Node}
 use Rattle.profile_scan.proofs.Answer.{match_is_the_answer}
 use Rattle.profile_scan.proofs.OrderLemmas.{listed_bag, listed_match}
@@ -70,41 +70,37 @@ spelled_again_answer {V} rules IsThere old new same is = record {
   ordered = spelled_again_before rules old new same is.ordered;
 }
 
--- points that match at the start of the window, listed in order and spelled in nodes
-pub answered : {V : Type 0} (rules : Rules V) → Laws rules → (t : TimetableValue) (q : SetQueryValue) → CanScan t q
-    → (start : ℕ) → IsFirstAt t q.from start
-    → (s : ScanRecords) (nodes : List Node) (found points spelled_again : List (Point V)) (walk : Option Footpath)
-    → Matches rules (spelling_of t.footpaths s).journey (CountsFrom t q start) (IsPlainOf t (Contains q.targets)) (journey_value rules t) found
-    → IsBag rules found
-    → AllPairs (Before rules) points → ((p : Point V) → Contains points p → Contains found p) → ((p : Point V) → Contains found p → Contains points p)
-    → map untagged spelled_again ≡ map untagged points → ((p : Point V) → Contains spelled_again p → IsSpelledAgain t.footpaths s points nodes p)
-    → IsDirectWalk t q walk → IsAnsweredBetween rules t q spelled_again nodes walk
-answered rules laws t q can start is_start s nodes found points spelled_again walk matches bag ordered only each same says way =
+-- points that match at the start of the window, in order, are the answer, and each is attained by what its tag tells
+pub answered_from : {V : Type 0} (rules : Rules V) → Laws rules → (t : TimetableValue) (q : SetQueryValue) → CanScan t q → (start : ℕ)
+    → IsFirstAt t q.from start → (s : ScanRecords) (found points : List (Point V)) → HasFound rules t q start s found → IsBag rules found
+    → AreInOrder rules found points → IsTaggedAnswer rules t q (spelling_of t.footpaths s).journey points
+answered_from rules laws t q can start is_start s found points matches bag are =
     let tags = spelling_of t.footpaths s in
     record {
-      answer = spelled_again_answer rules (IsPointBetween rules t q) points spelled_again same
-          (match_is_the_answer rules laws t q can start is_start tags points
-          (listed_match rules tags.journey (CountsFrom t q start) (IsPlainOf t (Contains q.targets)) (journey_value rules t) found points only each matches)
-          (listed_bag rules laws found points bag ordered only)
-          ordered);
+      answer = match_is_the_answer rules laws t q can start is_start tags points
+          (listed_match rules tags.journey (CountsFrom t q start) (IsPlainOf t (Contains q.targets))
+          (journey_value rules t) found points are.only are.each matches)
+          (listed_bag rules laws found points bag are.ordered are.only)
+          are.ordered;
       attained = λ p h.
-          let r = says p h in
-          let a = matches.sound r.of (only r.of r.is_there) in
-          record {
-            way = a.way;
-            spells = r.says a.way a.spells;
-            there =
-                subst (λ (n : ℕ). CountsBetween t q n a.way) (sym r.departs) a.there.counts;
-            plain = a.plain;
-            worth =
-                r.worth ∙ a.worth;
-          };
-      direct = way;
+          let a = matches.sound p (are.only p h) in
+          record { way = a.way; spells = a.spells; there = a.there.counts; plain = a.plain; worth = a.worth };
     }
 
--- each point found is spelled
-pub journeys_spelled : {V : Type 0} (rules : Rules V) (t : TimetableValue) (q : SetQueryValue) (start : ℕ) (s : ScanRecords)
-    (found points : List (Point V)) → Matches rules (spelling_of t.footpaths s).journey (CountsFrom t q start)
-    (IsPlainOf t (Contains q.targets)) (journey_value rules t) found → ((p : Point V) → Contains points p → Contains found p)
-    → (p : Point V) → Contains points p → IsJourneySpelled t.footpaths s p.tag
-journeys_spelled rules t q start s found points matches only p h = let a = matches.sound p (only p h) in (a.way, a.spells)
+-- spelled in nodes they still are
+pub tagged_in_nodes : {V : Type 0} (rules : Rules V) (t : TimetableValue) (q : SetQueryValue) (s : ScanRecords) (points spelled_again : List (Point V))
+    (nodes : List Node) → IsTaggedAnswer rules t q (spelling_of t.footpaths s).journey points → AreSpelledAgain t.footpaths s points spelled_again nodes
+    → IsTaggedAnswer rules t q (spelling nodes).journey spelled_again
+tagged_in_nodes rules t q s points spelled_again nodes is again = record {
+  answer = spelled_again_answer rules (IsPointBetween rules t q) points spelled_again again.same is.answer;
+  attained = λ p h.
+      let r = again.says p h in
+      let a = is.attained r.of r.is_there in
+      record {
+        way = a.way;
+        spells = r.says a.way a.spells;
+        there = subst (λ (n : ℕ). CountsBetween t q n a.way) (sym r.departs) a.there;
+        plain = a.plain;
+        worth = r.worth ∙ a.worth;
+      };
+}

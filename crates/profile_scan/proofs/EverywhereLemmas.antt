@@ -1,43 +1,29 @@
 -- One scan for all sources, as each of them sees it.
-use Rattle.std.proofs.Common.{◌≡◌, ◌+◌, ◌<◌, ◌≤◌, ◌∷◌, ◌++◌, [], ℕ, List, Option, Some, Contains, length, map, slice_get, sym}
+use Rattle.std.proofs.Common.{◌≡◌, ◌+◌, ◌<◌, ◌≤◌, ◌∷◌, ◌++◌, [], ℕ, List, Option, Some, Contains, length, slice_get, sym}
 use Rattle.std.proofs.Common.{◌∙◌, ap, subst, inl, inr, arith}
 use Rattle.std.specs.Global.{Vec}
 use Rattle.std.proofs.lemmas.Bool.{cases_eq}
 use Rattle.std.proofs.lemmas.List.{length_push}
 use Rattle.std.proofs.lemmas.Option.{slice_get_cases}
 use Rattle.reasoning.proofs.ListLemmas.{contains_first, contains_only, slice_get-front, slice_get-last}
-use Rattle.criteria.specs.Laws.{Rules, Laws}
+use Rattle.criteria.specs.Laws.{Rules}
 use Rattle.bags.specs.Bag.{points_of}
-use Rattle.bags.specs.Dominance.{IsBag}
 use Rattle.bags.specs.declared.point.Point.{Point}
 use Rattle.timetable.specs.TimetableValue.{TimetableValue}
-use Rattle.timetable.specs.declared.network.Footpath.{Footpath}
-use Rattle.sources.specs.FirstAt.{IsFirstAt}
-use Rattle.profile_scan.specs.SetQuery.{SetQueryValue, CountsBetween, IsAnswerBetween, IsAskableBetween, IsDirectWalk}
-use Rattle.profile_scan.specs.SetQuery.{IsPointBetween}
-use Rattle.profile_scan.specs.Values.{journey_value}
-use Rattle.profile_scan.specs.Continuations.{CountsFrom}
-use Rattle.profile_scan.specs.Plain.{IsPlainOf}
-use Rattle.profile_scan.specs.Points.{AreInOrder, untagged}
-use Rattle.profile_scan.specs.Matching.{IsAttained, Matches}
-use Rattle.profile_scan.specs.ScanRecords.{ScanRecords, spelling_of}
-use Rattle.profile_scan.specs.JourneyNodes.{IsJourneySpelled, IsSpelledAgain}
+use Rattle.profile_scan.specs.SetQuery.{SetQueryValue, IsAskableBetween, IsDirectWalk}
+use Rattle.profile_scan.specs.Points.{AreInOrder}
+use Rattle.profile_scan.specs.ScanRecords.{KeptValue, spelling_of}
 use Rattle.profile_scan.specs.ScanState.{IsDirectSecs}
-use Rattle.profile_scan.specs.Answered.{IsAnsweredBetween}
+use Rattle.profile_scan.specs.Answered.{IsTaggedAnswer}
 use Rattle.profile_scan.specs.Destinations.{CanBeAsked, query_from, question_to}
-use Rattle.profile_scan.specs.LawStatements.{CanScan}
 use Rattle.profile_scan.specs.Origins.{found_by, found_from, from_stop}
 use Rattle.profile_scan.specs.Everywhere.{AnswerAll, AnswerToAny, AnswersFrom, asked_to_any, criterion_of_profiles, listed_from, points_in}
 use Rattle.profile_scan.specs.Everywhere.{scan_records_from, walk_from, walk_to_any}
 use Rattle.profile_scan.specs.declared.destination.Destination.{Destination}
-use Rattle.profile_scan.specs.declared.nodes.Node.{Node}
 use Rattle.profile_scan.specs.declared.origin.Origin.{Origin}
 use Rattle.profile_scan.specs.declared.origins.Origins.{Origins}
 use Rattle.profile_scan.specs.declared.profiles.Profiles.{Profiles}
-use Rattle.profile_scan.proofs.Answer.{match_is_the_answer}
-use Rattle.profile_scan.proofs.AnsweredLemmas.{spelled_again_answer}
-use Rattle.profile_scan.proofs.OrderLemmas.{listed_bag, listed_match}
-use Rattle.profile_scan.proofs.Single.{answer_from, attained_one, direct_one}
+use Rattle.profile_scan.proofs.Single.{direct_one, tagged_one}
 
 -- points in order are those found from a stop
 pub in_order_from : {K V : Type 0} {d : _} (rules : Rules V) (origins : Origins K V d) (stop : ℕ) (o : Origin K V d) (points : List (Point V))
@@ -90,56 +76,6 @@ all_listed_to {V} rules found n lists are past stop = elim (slice_get_cases list
     no_points : AreInOrder rules [] []
     no_points = record { ordered = λ i j e lt within. absurd (omega (arith, within)); only = λ p h. h; each = λ p h. h }
 
--- points that match at the start of the window, in order, are the answer, and each is attained by what its tag tells
-pub answered_from : {V : Type 0} (rules : Rules V) → Laws rules → (t : TimetableValue) (q : SetQueryValue) → CanScan t q → (start : ℕ)
-    → IsFirstAt t q.from start → (s : ScanRecords) (found points : List (Point V))
-    → Matches rules (spelling_of t.footpaths s).journey (CountsFrom t q start) (IsPlainOf t (Contains q.targets)) (journey_value rules t) found
-    → IsBag rules found
-    → AreInOrder rules found points
-    → IsAnswerBetween rules t q points × ((p : Point V) → Contains points p → IsAttained (spelling_of t.footpaths s).journey (CountsBetween t q)
-    (IsPlainOf t (Contains q.targets))
-    (journey_value rules t) p)
-answered_from rules laws t q can start is_start s found points matches bag are =
-    let tags = spelling_of t.footpaths s in (
-      match_is_the_answer rules laws t q can start is_start tags points
-          (listed_match rules tags.journey (CountsFrom t q start) (IsPlainOf t (Contains q.targets))
-          (journey_value rules t) found points are.only are.each matches)
-          (listed_bag rules laws found points bag are.ordered are.only)
-          are.ordered,
-      λ p h. let a = matches.sound p (are.only p h) in record { way = a.way; spells = a.spells; there = a.there.counts; plain = a.plain; worth = a.worth },
-    )
-
--- spelled in nodes they still are
-pub answered_in_nodes : {V : Type 0} (rules : Rules V) (t : TimetableValue) (q : SetQueryValue) (s : ScanRecords) (nodes : List Node)
-    (points spelled_again : List (Point V)) (walk : Option Footpath)
-    → IsAnswerBetween rules t q points
-    → ((p : Point V) → Contains points p → IsAttained (spelling_of t.footpaths s).journey (CountsBetween t q) (IsPlainOf t (Contains q.targets))
-    (journey_value rules t) p)
-    → map untagged spelled_again ≡ map untagged points → ((p : Point V) → Contains spelled_again p → IsSpelledAgain t.footpaths s points nodes p)
-    → IsDirectWalk t q walk → IsAnsweredBetween rules t q spelled_again nodes walk
-answered_in_nodes rules t q s nodes points spelled_again walk answer attained same says way = record {
-  answer = spelled_again_answer rules (IsPointBetween rules t q) points spelled_again same answer;
-  attained = λ p h.
-      let r = says p h in
-      let a = attained r.of r.is_there in
-      record {
-        way = a.way;
-        spells = r.says a.way a.spells;
-        there = subst (λ (n : ℕ). CountsBetween t q n a.way)
-            (sym r.departs) a.there;
-        plain = a.plain;
-        worth = r.worth ∙ a.worth;
-      };
-  direct = way;
-}
-
--- of each point a journey is spelled
-pub attained_spelled : {V : Type 0} (rules : Rules V) (t : TimetableValue) (q : SetQueryValue) (s : ScanRecords) (points : List (Point V))
-    → ((p : Point V) → Contains points p → IsAttained (spelling_of t.footpaths s).journey (CountsBetween t q) (IsPlainOf t (Contains q.targets))
-    (journey_value rules t) p)
-    → (p : Point V) → Contains points p → IsJourneySpelled t.footpaths s p.tag
-attained_spelled rules t q s points attained p h = let a = attained p h in (a.way, a.spells)
-
 -- a destination that can be asked is a query between sets that can
 pub asked_to_one : (stops : ℕ) (d : Destination) → CanBeAsked stops d → IsAskableBetween stops (question_to d)
 asked_to_one stops d can = record {
@@ -152,24 +88,18 @@ asked_to_one stops d can = record {
 }
 
 -- answers to any of several targets, where there is one, are those to it
-module _ {K V : Type 0} {c : _} (rules_of : K → Rules V) (t : TimetableValue) (profiles : Profiles K V c)
-    (asked : asked_to_any profiles.to_any ≡ question_to profiles.destination) (all : AnswerToAny rules_of t profiles.to_any) where
+module _ {K L V : Type 0} {c : _} (rules_of : K → Rules V) (value : L → KeptValue V) (t : TimetableValue) (profiles : Profiles K L V c)
+    (asked : asked_to_any profiles.to_any ≡ question_to profiles.destination) (all : AnswerToAny rules_of value t profiles.to_any) where
   from_one_stop : (stop : ℕ) → stop < t.stops → IsDirectSecs t profiles.destination.target stop (walk_from profiles stop)
-      → AnswersFrom (rules_of (criterion_of_profiles profiles)) t (query_from profiles.destination stop) profiles
+      → AnswersFrom (rules_of (criterion_of_profiles profiles)) value t (query_from profiles.destination stop) profiles
   from_one_stop stop lt way =
       let rules = rules_of (criterion_of_profiles profiles) in
-      let q = query_from profiles.destination stop in
-      let is = all.each stop lt in
-      record {
-        answer = answer_from rules t q (listed_from profiles stop)
-            (subst (λ (b : SetQueryValue). IsAnswerBetween rules t (from_stop b stop) (listed_from profiles stop)) asked is.answer);
-        attained = λ p h. attained_one rules t q (spelling_of t.footpaths (scan_records_from profiles.to_any stop)).journey p
-            (subst (λ (b : SetQueryValue). IsAttained (spelling_of t.footpaths (scan_records_from profiles.to_any stop)).journey
-            (CountsBetween t (from_stop b stop)) (IsPlainOf t (Contains b.targets)) (journey_value rules t) p) asked (is.attained p h));
-        direct = way;
-      }
+      let told = (spelling_of t.footpaths (scan_records_from value profiles.to_any stop)).journey in
+      let points = listed_from profiles stop in
+      tagged_one rules t (query_from profiles.destination stop) told points (walk_from profiles stop)
+      (subst (λ (b : SetQueryValue). IsTaggedAnswer rules t (from_stop b stop) told points) asked (all.each stop lt)) way
 
-  pub all_to_one : profiles.destination.target < t.stops → AnswerAll rules_of t profiles
+  pub all_to_one : profiles.destination.target < t.stops → AnswerAll rules_of value t profiles
   all_to_one target =
       let d = profiles.destination in
       let is_target : Contains (asked_to_any profiles.to_any).targets d.target =

@@ -1,11 +1,13 @@
 -- The log of a scan.
 use Rattle.std.proofs.Common.{◌≡◌, inl, inr, length, ℕ, zero, suc, ◌+◌, ◌-◌, ◌≤◌, List, [], ◌∷◌, ◌++◌, take, arith}
-use Rattle.std.proofs.Common.{refl, sym, ◌∙◌, ap, add-zero, append_assoc, append-nil}
+use Rattle.std.proofs.Common.{refl, sym, ◌∙◌, ap, add-zero, append_assoc, append-nil, reverse, Result, Ok, Err, OnOk, OnErr}
 use Rattle.std.proofs.Math.Seq.{take-length}
 use Rattle.std.proofs.lemmas.Bool.{cases_lt}
 use Rattle.timetable.specs.TimetableValue.{TimetableValue}
 use Rattle.sources.specs.FirstAt.{IsFirstAt}
-use Rattle.profile_scan.specs.Window.{falling}
+use Rattle.reasoning.proofs.OptionLemmas.{on_err}
+use Rattle.profile_scan.specs.Window.{falling, window_of}
+use Rattle.profile_scan.proofs.Windows.{window_falls}
 
 -- one more, below
 pub falling_more : (low n : ℕ) → falling low (suc n) ≡ falling (low + 1) n ++ low ∷ []
@@ -60,3 +62,21 @@ taken_none log xs = sym (append-nil log)
 
 pub taken_all : (log xs now : List ℕ) → now ≡ log ++ xs → now ≡ log ++ take (length xs) xs
 taken_all log xs now e = e ∙ ap (λ ys. log ++ ys) (sym (take-length xs))
+
+-- what follows once all of it was read reads no more, whether it fails or not
+pub whole_read : {T E : Type 0} (r : Result T E) (log read now : List ℕ) → now ≡ log ++ read → OnErr r ((n : ℕ) × (now ≡ log ++ take n read))
+whole_read r log read now e = on_err r ((n : ℕ) × (now ≡ log ++ take n read)) (length read, taken_all log read now e)
+
+pub on_ok : {T E : Type 0} (r : Result T E) (P : Type 0) → P → OnOk r P
+on_ok (Ok x) P h = h
+on_ok (Err e) P h = tt
+
+-- what a scan read of the window of a query, all of it or a part
+module _ (t : TimetableValue) (from by start end : ℕ) (is_start : IsFirstAt t from start) (is_end : IsFirstAt t by end) where
+  pub window_read : (log now : List ℕ) → now ≡ log ++ falling start (end - start) → now ≡ log ++ reverse (window_of t from by)
+  window_read log now e = e ∙ ap (λ (ks : List ℕ). log ++ ks) (sym (window_falls t from by start end is_start is_end))
+
+  pub part_read : {T E : Type 0} (r : Result T E) (log now : List ℕ) → (n : ℕ) × (now ≡ log ++ take n (falling start (end - start)))
+      → OnErr r ((n : ℕ) × (now ≡ log ++ take n (reverse (window_of t from by))))
+  part_read r log now read = on_err r ((n : ℕ) × (now ≡ log ++ take n (reverse (window_of t from by))))
+      (read.0, read.1 ∙ ap (λ (ks : List ℕ). log ++ take read.0 ks) (sym (window_falls t from by start end is_start is_end)))

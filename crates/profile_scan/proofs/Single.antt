@@ -17,7 +17,7 @@ use Rattle.profile_scan.specs.Plain.{ArePlain, IsPlain, IsPlainOf}
 use Rattle.profile_scan.specs.Matching.{IsAttained}
 use Rattle.profile_scan.specs.Nodes.{spelling}
 use Rattle.profile_scan.specs.ScanState.{IsDirectSecs}
-use Rattle.profile_scan.specs.Answered.{IsAnswered, IsAnsweredBetween}
+use Rattle.profile_scan.specs.Answered.{IsAnswered, IsAnsweredBetween, IsTaggedAnswer}
 use Rattle.profile_scan.specs.declared.nodes.Node.{Node}
 
 -- two sets with the same points have the same answer
@@ -120,7 +120,7 @@ plain_at t IsGoal goal stop time (ride ∷ next ∷ rides) leads is plain =
     (plain.0, plain_at t IsGoal goal (stop_after t ride) (time_after t ride) (next ∷ rides) leads.5 is plain.1)
 
 -- a point that is attained for a query between single stops
-pub attained_one : {V : Type 0} (rules : Rules V) (t : TimetableValue) (q : Query) (spelled : ℕ → Option JourneyValue) (p : Point V)
+attained_one : {V : Type 0} (rules : Rules V) (t : TimetableValue) (q : Query) (spelled : ℕ → Option JourneyValue) (p : Point V)
     → IsAttained spelled (CountsBetween t (single_set_query q)) (IsPlainOf t (Contains (q.target ∷ []))) (journey_value rules t) p
     → IsAttained spelled (Counts t q) (IsPlain t q.target) (journey_value rules t) p
 attained_one rules t q spelled p a =
@@ -149,10 +149,16 @@ direct_one t q (Some f) is =
     (subst (λ (z : ℕ). Contains t.footpaths (record { from = f.from; to = z; secs = f.secs })) to is.2.is_footpath)
 
 -- an answer between single stops is an answer of the plain query
-pub answered_one : {V : Type 0} (rules : Rules V) (t : TimetableValue) (q : Query) (points : List (Point V)) (nodes : List Node)
-    (walk : Option Footpath) → IsAnsweredBetween rules t (single_set_query q) points nodes walk → IsAnswered rules t q points nodes (secs_of walk)
-answered_one rules t q points nodes walk is = record {
+pub tagged_one : {V : Type 0} (rules : Rules V) (t : TimetableValue) (q : Query) (told : ℕ → Option JourneyValue) (points : List (Point V))
+    (walk : Option ℕ) → IsTaggedAnswer rules t (single_set_query q) told points → IsDirectSecs t q.target q.source walk → IsAnswered rules t q points told walk
+tagged_one rules t q told points walk is way = record {
   answer = answer_from rules t q points is.answer;
-  attained = λ p h. attained_one rules t q (spelling nodes).journey p (is.attained p h);
-  direct = direct_one t q walk is.direct;
+  attained = λ p h. attained_one rules t q told p (is.attained p h);
+  direct = way;
 }
+
+pub answered_one : {V : Type 0} (rules : Rules V) (t : TimetableValue) (q : Query) (points : List (Point V)) (nodes : List Node)
+    (walk : Option Footpath) → IsAnsweredBetween rules t (single_set_query q) points nodes walk
+    → IsAnswered rules t q points (spelling nodes).journey (secs_of walk)
+answered_one rules t q points nodes walk is =
+    tagged_one rules t q (spelling nodes).journey points (secs_of walk) is.tagged (direct_one t q walk is.direct)

@@ -7,14 +7,10 @@ use Rattle.bags.specs.declared.point.Point.{Point}
 use Rattle.timetable.specs.TimetableValue.{TimetableValue}
 use Rattle.timetable.specs.declared.query.Query.{Query}
 use Rattle.timetable.specs.declared.network.Footpath.{Footpath}
-use Rattle.timetable.specs.Journeys.{Counts}
-use Rattle.profile_scan.specs.SetQuery.{SetQueryValue, CountsBetween, IsAnswerBetween, IsDirectWalk, question, secs_of}
-use Rattle.profile_scan.specs.Values.{journey_value}
-use Rattle.profile_scan.specs.Plain.{IsPlain, IsPlainOf}
-use Rattle.profile_scan.specs.Points.{AreInOrder, IsAnswer}
-use Rattle.profile_scan.specs.Matching.{IsAttained}
-use Rattle.profile_scan.specs.ScanRecords.{ScanRecords, spelling_of}
-use Rattle.profile_scan.specs.InLists.{value_in}
+use Rattle.profile_scan.specs.SetQuery.{SetQueryValue, IsDirectWalk, question, secs_of}
+use Rattle.profile_scan.specs.Answered.{IsAnswered, IsTaggedAnswer}
+use Rattle.profile_scan.specs.Points.{AreInOrder}
+use Rattle.profile_scan.specs.ScanRecords.{KeptValue, ScanRecords, spelling_of}
 use Rattle.profile_scan.specs.ScanState.{IsDirectSecs, scan_records_of, walk_by, final_walks_of}
 use Rattle.profile_scan.specs.Destinations.{query_from, question_to}
 use Rattle.profile_scan.specs.Origins.{AreOrigins, found_from, from_stop, scan_value_from}
@@ -23,9 +19,9 @@ use Rattle.profile_scan.specs.declared.origins.Origins.{Origins}
 use Rattle.profile_scan.specs.declared.profiles.Profiles.{Profiles}
 use Rattle.profile_scan.specs.declared.to_any.ProfilesToAny.{ProfilesToAny}
 
--- what is written down, as one source sees it
-abbrev pub scan_records_from : {K V : Type 0} {c : _} → ProfilesToAny K V c → ℕ → ScanRecords
-scan_records_from profiles = scan_records_of value_in scan_value_from profiles.state
+-- what is written down, as one source sees it; `value` reads what is kept of trips and stops
+abbrev pub scan_records_from : {K L V : Type 0} {c : _} → (L → KeptValue V) → ProfilesToAny K L V c → ℕ → ScanRecords
+scan_records_from value profiles = scan_records_of value scan_value_from profiles.state
 
 abbrev pub points_in : {V : Type 0} → Option (Vec (Point V)) → List (Point V)
 points_in None = []
@@ -37,37 +33,29 @@ pub record AreStopLists {K V : Type 0} {c : _} (rules : Rules V) (origins : Orig
   pub lists : (stop : ℕ) → AreInOrder rules (found_from origins stop) (points_in (slice_get listed stop))
 
 -- the points of a stop, in order
-abbrev pub listed_to_any : {K V : Type 0} {c : _} → ProfilesToAny K V c → ℕ → List (Point V)
+abbrev pub listed_to_any : {K L V : Type 0} {c : _} → ProfilesToAny K L V c → ℕ → List (Point V)
 listed_to_any profiles stop = points_in (slice_get profiles.lists.items stop)
 
 -- what was asked from every stop, by which criterion, and how many stops there are
-abbrev pub asked_to_any : {K V : Type 0} {c : _} → ProfilesToAny K V c → SetQueryValue
+abbrev pub asked_to_any : {K L V : Type 0} {c : _} → ProfilesToAny K L V c → SetQueryValue
 asked_to_any profiles = question profiles.asked.query
 
-abbrev pub criterion_to_any : {K V : Type 0} {c : _} → ProfilesToAny K V c → K
+abbrev pub criterion_to_any : {K L V : Type 0} {c : _} → ProfilesToAny K L V c → K
 criterion_to_any profiles = profiles.asked.criterion
 
-abbrev pub stops_to_any : {K V : Type 0} {c : _} → ProfilesToAny K V c → ℕ
+abbrev pub stops_to_any : {K L V : Type 0} {c : _} → ProfilesToAny K L V c → ℕ
 stops_to_any profiles = length profiles.lists.items
 
 -- the footpath from a stop to the nearest target, if there is one
-abbrev pub walk_to_any : {K V : Type 0} {c : _} → ProfilesToAny K V c → ℕ → Option Footpath
+abbrev pub walk_to_any : {K L V : Type 0} {c : _} → ProfilesToAny K L V c → ℕ → Option Footpath
 walk_to_any profiles stop = walk_by stop (slice_index_or (final_walks_of profiles.asked.final_walks) stop None)
 
--- from a stop alone: its list is the answer of the query from there to the targets, and each point's tag tells a journey that counts, with the point's
--- departure and value, and is plain with regard to all targets: after its last leg it walks on only if that leg ends at none of them
-pub record AnswersFromStop {K V : Type 0} {c : _} (rules : Rules V) (t : TimetableValue) (profiles : ProfilesToAny K V c)
-    (stop : ℕ) : Type 0 where
-  pub answer : IsAnswerBetween rules t (from_stop (asked_to_any profiles) stop) (listed_to_any profiles stop)
-  pub attained : (p : Point V) → Contains (listed_to_any profiles stop) p
-      → IsAttained (spelling_of t.footpaths (scan_records_from profiles stop)).journey
-      (CountsBetween t (from_stop (asked_to_any profiles) stop)) (IsPlainOf t (Contains (asked_to_any profiles).targets)) (journey_value rules t) p
-
--- the same from every stop, also from a target, for which no query can be asked: there the journeys are those that come back to it or go on to another. And the
--- direct walk from every stop that is no target, and from a target its loop
-pub record AnswerToAny {K V : Type 0} {c : _} (rules_of : K → Rules V) (t : TimetableValue)
-    (profiles : ProfilesToAny K V c) : Type 0 where
-  pub each : (stop : ℕ) → stop < t.stops → AnswersFromStop (rules_of (criterion_to_any profiles)) t profiles stop
+-- the list of each stop is the answer of the query from there to the targets, as its tags tell; also of a target, for which no query can be asked: there
+-- the journeys are those that come back to it or go on to another. And the direct walk from every stop that is no target, and from a target its loop
+pub record AnswerToAny {K L V : Type 0} {c : _} (rules_of : K → Rules V) (value : L → KeptValue V) (t : TimetableValue)
+    (profiles : ProfilesToAny K L V c) : Type 0 where
+  pub each : (stop : ℕ) → stop < t.stops → IsTaggedAnswer (rules_of (criterion_to_any profiles)) t (from_stop (asked_to_any profiles) stop)
+      (spelling_of t.footpaths (scan_records_from value profiles stop)).journey (listed_to_any profiles stop)
   pub direct : (stop : ℕ) → stop < t.stops → (Contains (asked_to_any profiles).targets stop → ⊥)
       → IsDirectWalk t (from_stop (asked_to_any profiles) stop) (walk_to_any profiles stop)
   pub loops : (stop : ℕ) → stop < t.stops → Contains (asked_to_any profiles).targets stop → IsDirectSecs t stop stop (secs_of (walk_to_any profiles stop))
@@ -76,41 +64,36 @@ pub record AnswerToAny {K V : Type 0} {c : _} (rules_of : K → Rules V) (t : Ti
   pub final_walks : length (final_walks_of profiles.asked.final_walks) ≡ t.stops
 
 -- answers to a single target: the points of a stop, what was asked from every stop, by which criterion, and how many stops there are
-abbrev pub listed_from : {K V : Type 0} {c : _} → Profiles K V c → ℕ → List (Point V)
+abbrev pub listed_from : {K L V : Type 0} {c : _} → Profiles K L V c → ℕ → List (Point V)
 listed_from profiles = listed_to_any profiles.to_any
 
-abbrev pub destination_of : {K V : Type 0} {c : _} → Profiles K V c → Destination
+abbrev pub destination_of : {K L V : Type 0} {c : _} → Profiles K L V c → Destination
 destination_of profiles = profiles.destination
 
-abbrev pub criterion_of_profiles : {K V : Type 0} {c : _} → Profiles K V c → K
+abbrev pub criterion_of_profiles : {K L V : Type 0} {c : _} → Profiles K L V c → K
 criterion_of_profiles profiles = criterion_to_any profiles.to_any
 
-abbrev pub stops_of : {K V : Type 0} {c : _} → Profiles K V c → ℕ
+abbrev pub stops_of : {K L V : Type 0} {c : _} → Profiles K L V c → ℕ
 stops_of profiles = stops_to_any profiles.to_any
 
 -- the seconds of the footpath from a stop to the target, if there is one
-abbrev pub walk_from : {K V : Type 0} {c : _} → Profiles K V c → ℕ → Option ℕ
+abbrev pub walk_from : {K L V : Type 0} {c : _} → Profiles K L V c → ℕ → Option ℕ
 walk_from profiles stop = secs_of (walk_to_any profiles.to_any stop)
 
--- from the query's source: its list is the answer of the query, each point's tag tells a plain journey that counts, with the point's departure and value, and
--- the walk is the footpath from there to the target
-pub record AnswersFrom {K V : Type 0} {c : _} (rules : Rules V) (t : TimetableValue) (q : Query)
-    (profiles : Profiles K V c) : Type 0 where
-  pub answer : IsAnswer rules t q (listed_from profiles q.source)
-  pub attained : (p : Point V) → Contains (listed_from profiles q.source) p
-      → IsAttained (spelling_of t.footpaths (scan_records_from profiles.to_any q.source)).journey
-      (Counts t q) (IsPlain t q.target) (journey_value rules t) p
-  pub direct : IsDirectSecs t q.target q.source (walk_from profiles q.source)
+-- the list of the query's source is the answer of the query, as its tags tell, and the walk is the footpath from there to the target
+abbrev pub AnswersFrom : {K L V : Type 0} {c : _} → Rules V → (L → KeptValue V) → TimetableValue → Query → Profiles K L V c → Type 0
+AnswersFrom rules value t q profiles = IsAnswered rules t q (listed_from profiles q.source)
+    (spelling_of t.footpaths (scan_records_from value profiles.to_any q.source)).journey (walk_from profiles q.source)
 
 -- the same from every stop but the target, each by its own query; and from the target itself, for which no query can be asked: there the journeys are those
 -- that come back to it, and the walk is its loop
-pub record AnswerAll {K V : Type 0} {c : _} (rules_of : K → Rules V) (t : TimetableValue)
-    (profiles : Profiles K V c) : Type 0 where
+pub record AnswerAll {K L V : Type 0} {c : _} (rules_of : K → Rules V) (value : L → KeptValue V) (t : TimetableValue)
+    (profiles : Profiles K L V c) : Type 0 where
   pub each : (stop : ℕ) → stop < t.stops → stop ≢ (destination_of profiles).target
-      → AnswersFrom (rules_of (criterion_of_profiles profiles)) t (query_from (destination_of profiles) stop) profiles
-  pub at_target : AnswersFrom (rules_of (criterion_of_profiles profiles)) t
+      → AnswersFrom (rules_of (criterion_of_profiles profiles)) value t (query_from (destination_of profiles) stop) profiles
+  pub at_target : AnswersFrom (rules_of (criterion_of_profiles profiles)) value t
       (query_from (destination_of profiles) (destination_of profiles).target) profiles
   pub long : stops_of profiles ≡ t.stops
   pub final_walks : length (final_walks_of profiles.to_any.asked.final_walks) ≡ t.stops
   pub asked : asked_to_any profiles.to_any ≡ question_to (destination_of profiles)
-  pub to_any : AnswerToAny rules_of t profiles.to_any
+  pub to_any : AnswerToAny rules_of value t profiles.to_any

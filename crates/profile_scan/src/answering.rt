@@ -2,9 +2,12 @@
 
 ghost use Rattle.std.specs.Prelude.{◌≡◌, ◌++◌, ℕ, IfOk, OnOk, OnErr, reverse, take};
 ghost use Rattle.timetable.specs.Queries.{IsAskable};
-ghost use Rattle.profile_scan.specs.SetQuery.{IsAskableBetween, question};
+ghost use Rattle.profile_scan.specs.SetQuery.{IsAskableBetween, IsDirectWalk, question};
 ghost use Rattle.profile_scan.specs.Window.{window, window_of};
+ghost use Rattle.profile_scan.specs.Answered.{IsTaggedAnswer};
 ghost use Rattle.profile_scan.specs.Found.{Answers, AnswersBetween};
+ghost use Rattle.profile_scan.specs.ScanRecords.{spelling_of};
+ghost use Rattle.profile_scan.specs.Views.{scan_records_seen};
 ghost use Rattle.profile_scan.specs.Hops.{Asks};
 
 use crate::final_walks::final_walks_to;
@@ -12,16 +15,18 @@ use crate::found::{Found, in_order};
 use crate::found_between::FoundBetween;
 use crate::hop::ScanQuery;
 use crate::journey_nodes::journeys_as_nodes;
+use crate::keeping::Keeping;
 use crate::origin::Origin;
 use crate::scan::scan_window;
 use crate::scanned::Scanned;
 use crate::set_query::SetQuery;
 use crate::starts::starts_from;
 use crate::view::ScanView;
+use bags::Point;
 use criteria::Criterion;
 use sources::ConnSource;
 use std::alloc::{AllocError, Global};
-use timetable::{GhostValue, Query, Timetable};
+use timetable::{Footpath, GhostValue, Query, Timetable};
 
 /// The timetable that a source stands for.
 pub fn timetable_of<S: ConnSource>(source: &S) -> GhostValue<Timetable>
@@ -86,16 +91,36 @@ pub fn profile_between<S: ConnSource, C: Scanned>(
     let asked = ask(alloc, source, criterion, own)?;
     let scan = scan_window::<S, C, C::Kept, Origin<C>>(alloc, source, &asked, start..end)?;
     let points = in_order(alloc, criterion, &scan.state.origin.found)?;
+    let walk = asked.final_walks.direct_walk(&query.sources);
     let view = ScanView {
         keeping: &scan.state.keeping,
         origin: &scan.state.origin,
     };
-    let spelled = journeys_as_nodes(alloc, source, &view, &points)?;
+    found_in_nodes(alloc, source, criterion, query, &view, &points, walk)
+}
+
+/// Returns an answer that a scan found, with its journeys as nodes. The only error is that memory runs out.
+pub fn found_in_nodes<S: ConnSource, C: Criterion, K: Keeping<C>>(
+    alloc: Global,
+    source: &S,
+    criterion: &C,
+    query: &SetQuery,
+    view: &ScanView<'_, C, K>,
+    points: &[Point<C::V>],
+    walk: Option<Footpath>,
+) -> Result<FoundBetween<C>, AllocError>
+    requires tagged { IsTaggedAnswer (C.rules criterion.now) (S.timetable source.now) (question query.now)
+        (spelling_of (S.timetable source.now).footpaths (scan_records_seen K.value view.now)).journey points.now }
+    requires direct { IsDirectWalk (S.timetable source.now) (question query.now) walk }
+    ensures { IfOk result
+        (AnswersBetween criterion.now (C.rules criterion.now) (S.timetable source.now) (question query.now)) }
+{
+    let spelled = journeys_as_nodes(alloc, source, view, points)?;
     Ok(FoundBetween {
         criterion: *criterion,
         points: spelled.points,
         nodes: spelled.nodes,
-        walk: asked.final_walks.direct_walk(&query.sources),
+        walk,
         timetable: timetable_of(source),
         query: GhostValue::of(query),
     })

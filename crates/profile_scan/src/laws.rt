@@ -8,7 +8,7 @@ ghost use Rattle.timetable.specs.TimetableValue.{TimetableValue};
 ghost use Rattle.timetable.specs.declared.query.Query.{Query};
 ghost use Rattle.profile_scan.specs.SetQuery.{CountsBetween, OneIsPlain};
 ghost use Rattle.timetable.specs.Queries.{IsAskable};
-ghost use Rattle.profile_scan.specs.Answered.{IsAnswered};
+ghost use Rattle.profile_scan.specs.Answered.{Answer};
 ghost use Rattle.profile_scan.specs.Found.{Answers, criterion_of_found, listed, nodes_of, query_of, timetable_of};
 ghost use Rattle.profile_scan.specs.Found.{walk_of_found};
 ghost use Rattle.profile_scan.specs.Points.{untagged};
@@ -83,8 +83,8 @@ pub fn window_is_read_backward()
 
 /// What was found is the answer of the query that it keeps, over the timetable that it keeps.
 pub fn found_answers<C: Criterion>(found: &Found<C>)
-    ensures { ∥ IsAnswered (C.rules (criterion_of_found found.now)) (timetable_of found.now) (query_of found.now)
-        (listed found.now) (nodes_of found.now) (walk_of_found found.now) ∥₁ }
+    ensures { Answer (C.rules (criterion_of_found found.now)) (timetable_of found.now) (query_of found.now)
+        (listed found.now) (nodes_of found.now) (walk_of_found found.now) }
 {
     let _kept = found.points();
 }

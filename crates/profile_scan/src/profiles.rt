@@ -9,22 +9,22 @@ use crate::destination::Destination;
 use crate::destinations::Destinations;
 use crate::found::Found;
 use crate::found_between::secs_of;
+use crate::scanned::Scanned;
 use crate::to_any::{ProfilesToAny, profiles_to_any};
 use bags::Point;
-use criteria::Criterion;
 use sources::ConnSource;
 use std::alloc::{AllocError, Global};
 
 /// The answers from every stop, for one target, window and criterion. The scan's records of how journeys go are kept
 /// as they are; `found_from` spells those from one stop.
 #[derive(Drop)]
-pub struct Profiles<C: Criterion> {
+pub struct Profiles<C: Scanned> {
     destination: Destination,
     // the same as answers to any of several targets, of which there is one
     to_any: ProfilesToAny<C>,
 }
 
-impl<C: Criterion> Profiles<C> {
+impl<C: Scanned> Profiles<C> {
     ghost use Rattle.std.specs.Prelude.{◌≡◌, ◌≢◌, ◌<◌, IfOk, length};
     ghost use Rattle.profile_scan.specs.Destinations.{query_from};
     ghost use Rattle.profile_scan.specs.ScanState.{final_walks_of};
@@ -68,7 +68,7 @@ impl<C: Criterion> Profiles<C> {
     ) -> Result<Found<C>, AllocError>
         requires stop { stop < (S.timetable source.now).stops }
         requires differ { stop ≢ (destination_of self.now).target }
-        requires answered { AnswerAll C.rules (S.timetable source.now) self.now }
+        requires answered { AnswerAll C.rules C.Kept.value (S.timetable source.now) self.now }
         ensures { IfOk result (λ found. Answers (criterion_of_profiles self.now)
             (C.rules (criterion_of_profiles self.now)) (S.timetable source.now)
             (query_from (destination_of self.now) stop) found) }
@@ -85,7 +85,7 @@ impl<C: Criterion> Profiles<C> {
 ///
 /// Each connection of the window is asked for once for all stops, from the last to the first. The only error is that
 /// memory runs out, or that a number would need more than 32 bits; then a first part of them, or all, was asked for.
-pub fn profiles_to<S: ConnSource, C: Criterion>(
+pub fn profiles_to<S: ConnSource, C: Scanned>(
     alloc: Global,
     source: &mut S,
     criterion: &C,
@@ -93,7 +93,7 @@ pub fn profiles_to<S: ConnSource, C: Criterion>(
 ) -> Result<Profiles<C>, AllocError>
     requires { CanBeAsked (S.timetable source.old).stops destination.now }
     ensures timetable { S.timetable source.new ≡ S.timetable source.old }
-    ensures answers { IfOk result (λ profiles. AnswerAll C.rules (S.timetable source.old) profiles) }
+    ensures answers { IfOk result (λ profiles. AnswerAll C.rules C.Kept.value (S.timetable source.old) profiles) }
     ensures keeps { IfOk result (λ profiles. (criterion_of_profiles profiles ≡ criterion.now)
         × (destination_of profiles ≡ destination.now)) }
     ensures log { OnOk result (S.log source.new ≡ S.log source.old

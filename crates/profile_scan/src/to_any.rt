@@ -7,33 +7,32 @@ ghost use Rattle.profile_scan.specs.Window.{window_of};
 ghost use Rattle.profile_scan.specs.Origins.{AreUnder};
 ghost use Rattle.profile_scan.specs.Everywhere.{AnswerToAny, AreStopLists, asked_to_any, criterion_to_any};
 
-use crate::answering::{ask, timetable_of};
+use crate::answering::{ask, found_in_nodes};
 use crate::destinations::Destinations;
 use crate::found::in_order;
 use crate::found_between::FoundBetween;
 use crate::hop::ScanQuery;
-use crate::in_lists::InLists;
-use crate::journey_nodes::journeys_as_nodes;
 use crate::origins::Origins;
 use crate::scan::{State, scan_window};
+use crate::scanned::Scanned;
 use crate::view::ScanView;
 use bags::Point;
 use criteria::Criterion;
 use sources::ConnSource;
 use std::alloc::{AllocError, Global};
-use timetable::{Footpath, GhostValue};
+use timetable::Footpath;
 
 /// The answers from every stop to any of several targets, for one window and criterion. The scan's records of how
 /// journeys go are kept as they are; `found_from` spells those from one stop.
 #[derive(Drop)]
-pub struct ProfilesToAny<C: Criterion> {
+pub struct ProfilesToAny<C: Scanned> {
     asked: ScanQuery<C>,
-    state: State<InLists<C>, Origins<C>>,
+    state: State<C::Kept, Origins<C>>,
     // the points of each stop, in order; a point's tag is the index of how one sets out for it
     lists: Vec<Vec<Point<C::V>>>,
 }
 
-impl<C: Criterion> ProfilesToAny<C> {
+impl<C: Scanned> ProfilesToAny<C> {
     ghost use Rattle.std.specs.Prelude.{◌≡◌, ◌<◌, IfOk, Contains, length};
     ghost use Rattle.profile_scan.specs.ScanState.{final_walks_of};
     ghost use Rattle.profile_scan.specs.Found.{AnswersBetween};
@@ -76,7 +75,7 @@ impl<C: Criterion> ProfilesToAny<C> {
     ) -> Result<FoundBetween<C>, AllocError>
         requires stop { stop < (S.timetable source.now).stops }
         requires differ { Contains (asked_to_any self.now).targets stop → ⊥ }
-        requires answered { AnswerToAny C.rules (S.timetable source.now) self.now }
+        requires answered { AnswerToAny C.rules C.Kept.value (S.timetable source.now) self.now }
         ensures { IfOk result (λ found. AnswersBetween (criterion_to_any self.now)
             (C.rules (criterion_to_any self.now)) (S.timetable source.now)
             (from_stop (asked_to_any self.now) stop) found) }
@@ -86,17 +85,18 @@ impl<C: Criterion> ProfilesToAny<C> {
             keeping: &self.state.keeping,
             origin,
         };
-        let points = self.points(stop);
-        let spelled = journeys_as_nodes(alloc, source, &view, points)?;
         let query = self.asked.query.from_stop(alloc, stop)?;
-        Ok(FoundBetween {
-            criterion: self.asked.criterion,
-            points: spelled.points,
-            nodes: spelled.nodes,
-            walk: self.asked.final_walks.walk_from(stop),
-            timetable: timetable_of(source),
-            query: GhostValue::of(&query),
-        })
+        let points = self.points(stop);
+        let walk = self.direct_walk(stop);
+        found_in_nodes(
+            alloc,
+            source,
+            &self.asked.criterion,
+            &query,
+            &view,
+            points,
+            walk,
+        )
     }
 }
 
@@ -128,7 +128,7 @@ fn lists_in_order<C: Criterion>(
 /// Each connection of the window is asked for once for all stops and targets, from the last to the first. The only
 /// error is that memory runs out, or that a number would need more than 32 bits; then a first part of them, or all, was
 /// asked for.
-pub fn profiles_to_any<S: ConnSource, C: Criterion>(
+pub fn profiles_to_any<S: ConnSource, C: Scanned>(
     alloc: Global,
     source: &mut S,
     criterion: &C,
@@ -136,7 +136,7 @@ pub fn profiles_to_any<S: ConnSource, C: Criterion>(
 ) -> Result<ProfilesToAny<C>, AllocError>
     requires { IsAskableBetween (S.timetable source.old).stops (question_to_any destinations.now) }
     ensures timetable { S.timetable source.new ≡ S.timetable source.old }
-    ensures answers { IfOk result (λ profiles. AnswerToAny C.rules (S.timetable source.old) profiles) }
+    ensures answers { IfOk result (λ profiles. AnswerToAny C.rules C.Kept.value (S.timetable source.old) profiles) }
     ensures keeps { IfOk result (λ profiles. (criterion_to_any profiles ≡ criterion.now)
         × (asked_to_any profiles ≡ question_to_any destinations.now)) }
     ensures log { OnOk result (S.log source.new ≡ S.log source.old
@@ -148,7 +148,7 @@ pub fn profiles_to_any<S: ConnSource, C: Criterion>(
     let end = source.first_at(destinations.by);
     let query = destinations.query(alloc)?;
     let asked = ask(alloc, source, criterion, query)?;
-    let scan = scan_window::<S, C, InLists<C>, Origins<C>>(alloc, source, &asked, start..end)?;
+    let scan = scan_window::<S, C, C::Kept, Origins<C>>(alloc, source, &asked, start..end)?;
     let lists = lists_in_order(alloc, criterion, &scan.state.origin)?;
     Ok(ProfilesToAny {
         asked,

@@ -16,7 +16,7 @@ use crate::merging::MergedAnswers;
 use crate::walking::direct_walk;
 use criteria::Criterion;
 use journeys::{Answer, Departure};
-use profile_scan::{ConnSource, Destination, Profiles, SetQuery, in_order, profiles_to};
+use profile_scan::{ConnSource, Destination, Profiles, Scanned, SetQuery, in_order, profiles_to};
 use std::alloc::{AllocError, Global};
 
 /// Answers a question as `answer_between` does, by one scan for each target. The journey of a point may be another one:
@@ -24,7 +24,7 @@ use std::alloc::{AllocError, Global};
 ///
 /// The connections of the window are asked for from the last to the first, at most once for each target; `read` is
 /// their number. The only error is that memory runs out, or that a number would need more than 32 bits.
-pub fn answer_by_targets<S: ConnSource, C: Criterion>(
+pub fn answer_by_targets<S: ConnSource, C: Scanned>(
     alloc: Global,
     source: &mut S,
     criterion: &C,
@@ -59,7 +59,7 @@ pub fn answer_by_targets<S: ConnSource, C: Criterion>(
 }
 
 // The best points of the answers of all pairs, by one scan for each target.
-fn merged_between<S: ConnSource, C: Criterion>(
+fn merged_between<S: ConnSource, C: Scanned>(
     alloc: Global,
     source: &mut S,
     criterion: &C,
@@ -98,7 +98,7 @@ fn destination_to(query: &SetQuery, target: u32) -> Destination
 }
 
 // Takes in the answers from each of the sources to one target.
-fn take_from_sources<S: ConnSource, C: Criterion>(
+fn take_from_sources<S: ConnSource, C: Scanned>(
     alloc: Global,
     source: &S,
     query: &SetQuery,
@@ -106,7 +106,7 @@ fn take_from_sources<S: ConnSource, C: Criterion>(
     merged: &mut MergedAnswers<C>,
 ) -> Result<(), AllocError>
     requires askable { IsAskableBetween (S.timetable source.now).stops (question query.now) }
-    requires answered { AnswerAll C.rules (S.timetable source.now) profiles.now }
+    requires answered { AnswerAll C.rules C.Kept.value (S.timetable source.now) profiles.now }
     requires target { IsToTarget (question query.now) (destination_of profiles.now) }
     requires merged { IsMerged C.rules (criterion_of_profiles profiles.now) (S.timetable source.now)
         (question query.now) merged.old }

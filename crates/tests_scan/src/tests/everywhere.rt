@@ -79,7 +79,7 @@ fn assert_same<C: ShowsFigures>(
 }
 
 /// Asserts that the points and the walk that the one scan has for a stop are those of the answer from there.
-fn assert_listed<C: ShowsFigures>(
+fn assert_listed<C: ShowsFigures + Scanned>(
     rt: &impl Abort,
     image: &Verified,
     criterion: &C,
@@ -88,7 +88,7 @@ fn assert_listed<C: ShowsFigures>(
     stop: u32,
 )
     requires stop { stop < image.now.timetable.stops }
-    requires answered { AnswerAll C.rules image.now.timetable profiles.now }
+    requires answered { AnswerAll C.rules C.Kept.value image.now.timetable profiles.now }
 {
     let points = profiles.points(stop);
     assert!(rt; points.len() == alone.len());
@@ -99,7 +99,7 @@ fn assert_listed<C: ShowsFigures>(
 }
 
 /// Asserts that what the one scan finds from a stop, with its journeys, is what the query from there finds.
-fn assert_found<C: ShowsFigures>(
+fn assert_found<C: ShowsFigures + Scanned>(
     rt: &impl Abort,
     alloc: Global,
     image: &Verified,
@@ -110,7 +110,7 @@ fn assert_found<C: ShowsFigures>(
 ) -> Result<(), Fail>
     requires stop { asked.now.source < image.now.timetable.stops }
     requires differ { asked.now.source ≢ (destination_of profiles.now).target }
-    requires answered { AnswerAll C.rules image.now.timetable profiles.now }
+    requires answered { AnswerAll C.rules C.Kept.value image.now.timetable profiles.now }
 {
     let found = profiles.found_from(alloc, &in_place(image), asked.source)?;
     assert_same(rt, alloc, image, criterion, &found, alone, asked)
@@ -141,7 +141,7 @@ fn assert_stop<C: ShowsFigures + Scanned>(
 ) -> Result<(), Fail>
     requires stop { stop < image.now.timetable.stops }
     requires differ { stop ≢ (destination_of profiles.now).target }
-    requires answered { AnswerAll C.rules image.now.timetable profiles.now }
+    requires answered { AnswerAll C.rules C.Kept.value image.now.timetable profiles.now }
 {
     let asked = profiles.destination().query_from(stop);
     let mut source = InTurn::before(in_place(image), asked.by);
@@ -160,7 +160,7 @@ fn assert_stops<C: ShowsFigures + Scanned>(
     profiles: &Profiles<C>,
     left: usize,
 ) -> Result<(), Fail>
-    requires { AnswerAll C.rules image.now.timetable profiles.now }
+    requires { AnswerAll C.rules C.Kept.value image.now.timetable profiles.now }
 {
     let target = profiles.destination().target;
     for stop in 0..image.stops() {
@@ -172,13 +172,13 @@ fn assert_stops<C: ShowsFigures + Scanned>(
 }
 
 /// The answers from all stops.
-fn answers_to<S: ConnSource, C: ShowsFigures>(
+fn answers_to<S: ConnSource, C: ShowsFigures + Scanned>(
     alloc: Global,
     source: &mut S,
     criterion: &C,
     asked: &Destination,
 ) -> Result<Profiles<C>, Fail>
-    ensures { IfOk result (λ profiles. AnswerAll C.rules (S.timetable source.old) profiles) }
+    ensures { IfOk result (λ profiles. AnswerAll C.rules C.Kept.value (S.timetable source.old) profiles) }
 {
     let stops = source.stops();
     asked.check(stops).ok().ok_or("it can be asked")?;

@@ -1,4 +1,4 @@
-use Rattle.journeys.proofs.AnswerLemmas.{whole_read}
+use Rattle.profile_scan.proofs.LogLemmas.{whole_read}
 use Rattle.journeys.proofs.answering.answer_query.Goals as goal
 
 pub returns-in_err-departures-clause-err : goal.returns-in_err-departures-clause-err

@@ -28,7 +28,7 @@ loop-i-preserved g c criterion t b answers =
 pub returns-clause-points : goal.returns-clause-points
 returns-clause-points g c criterion t b answers =
     let rules = g.C.Criterion.rules criterion in
-    let answer = subst (λ (ps : List (Point g.row.C-V.Denot)). IsAnswerBetween rules t b ps) (sym c.points-points.ensures) answers.answered.answer in
+    let answer = subst (λ (ps : List (Point g.row.C-V.Denot)). IsAnswerBetween rules t b ps) (sym c.points-points.ensures) answers.answered.tagged.answer in
     all_extracted rules (IsPointBetween rules t b) (AttainsBetween rules t b) c.points-points.result.now c.loop-i.i c.loop-i.departures.items
     (c.loop-i.invariant criterion t b answers) (omega arith) answer
 

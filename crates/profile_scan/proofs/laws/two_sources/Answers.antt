@@ -1,4 +1,4 @@
-use Rattle.std.proofs.Common.{◌++◌, ◌∙◌, length, reverse, take, ap, subst}
+use Rattle.std.proofs.Common.{◌++◌, ◌∙◌, reverse, take, ap, subst}
 use Rattle.reasoning.proofs.OptionLemmas.{on_err}
 use Rattle.timetable.specs.TimetableValue.{TimetableValue}
 use Rattle.profile_scan.specs.Found.{listed}
@@ -8,7 +8,7 @@ use Rattle.profile_scan.specs.Window.{window}
 use Rattle.profile_scan.specs.SetQuery.{single_set_query}
 use Rattle.profile_scan.proofs.Answer.{one_answer}
 use Rattle.profile_scan.proofs.Single.{answer_to}
-use Rattle.profile_scan.proofs.LogLemmas.{taken_all, taken_none}
+use Rattle.profile_scan.proofs.LogLemmas.{taken_none, whole_read}
 use Rattle.profile_scan.proofs.laws.two_sources.Goals as goal
 
 pub returns-clause-same : goal.returns-clause-same
@@ -40,12 +40,7 @@ returns-in_err-found-clause-other_err g c =
 
 -- the second was: the first source was asked for all of them
 pub returns-in_err-again-clause-err : goal.returns-in_err-again-clause-err
-returns-in_err-again-clause-err g c =
-    let read = reverse (window (g.A.ConnSource.timetable c.args.one.now) c.args.query.now) in
-    on_err c.from_residual-in_err-again.result _ (
-      length read,
-      taken_all (g.A.ConnSource.log c.args.one.now) read (g.A.ConnSource.log c.profile.new.source) c.in_ok-found.ensures.log,
-    )
+returns-in_err-again-clause-err g c = whole_read c.from_residual-in_err-again.result _ _ _ c.in_ok-found.ensures.log
 
 pub returns-in_err-again-clause-other_err : goal.returns-in_err-again-clause-other_err
 returns-in_err-again-clause-other_err g c =

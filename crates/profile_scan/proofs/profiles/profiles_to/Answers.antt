@@ -12,7 +12,7 @@ profiles_to_any-requires g c =
 
 pub returns-clause-answers : goal.returns-clause-answers
 returns-clause-answers g c =
-    all_to_one g.C.Criterion.rules (g.S.ConnSource.timetable c.args.source.now)
+    all_to_one g.C.Criterion.rules g.C.Kept.Keeping.value (g.S.ConnSource.timetable c.args.source.now)
     (record { destination = c.args.destination.now; to_any = c.in_ok-to_any.to_any })
     (c.in_ok-to_any.ensures.keeps.1 ∙ c.in_ok-destinations.ensures)
     c.in_ok-to_any.ensures.answers c.requires.target

@@ -1,19 +1,18 @@
-use Rattle.std.proofs.Common.{◌++◌, ℕ, List, None, get_or, length, reverse, take, slice_get, sym, ◌∙◌, ap, subst}
-use Rattle.reasoning.proofs.OptionLemmas.{on_err}
+use Rattle.std.proofs.Common.{◌≡◌, ◌++◌, ℕ, None, get_or, reverse, slice_get, sym, ◌∙◌, ap, subst}
 use Rattle.sources.specs.FirstAt.{IsFirstAt}
 use Rattle.profile_scan.specs.SetQuery.{IsAskableBetween, SetQueryValue, question}
 use Rattle.profile_scan.specs.LawStatements.{CanScan}
 use Rattle.profile_scan.specs.Window.{window_of}
-use Rattle.profile_scan.specs.InLists.{value_in}
 use Rattle.profile_scan.specs.ScanState.{scan_records_of, final_walks_of}
 use Rattle.profile_scan.specs.Origins.{AreUnder, found_from, from_stop, scan_value_from}
 use Rattle.profile_scan.specs.Points.{AreInOrder}
 use Rattle.profile_scan.specs.Everywhere.{points_in}
-use Rattle.profile_scan.proofs.Windows.{window_falls}
-use Rattle.profile_scan.proofs.EverywhereLemmas.{answered_from}
+use Rattle.profile_scan.proofs.AnsweredLemmas.{answered_from}
 use Rattle.profile_scan.proofs.PartLemmas.{firsts_rise}
-use Rattle.profile_scan.proofs.LogLemmas.{taken_all}
+use Rattle.profile_scan.proofs.LogLemmas.{part_read, whole_read, window_read}
 use Rattle.profile_scan.proofs.FinalWalkLemmas.{nearest_direct, target_loop}
+use Rattle.profile_scan.proofs.to_any.profiles_to_any.Given as given
+use Rattle.profile_scan.proofs.to_any.profiles_to_any.Goals.{In_ok-scan}
 use Rattle.profile_scan.proofs.to_any.profiles_to_any.Goals as goal
 
 pub ask-requires : goal.ask-requires
@@ -30,33 +29,24 @@ scan_window-requires g c =
       past = subst (λ (n : ℕ). IsFirstAt t n c.first_at-end.result) (sym same_by) c.first_at-end.ensures;
     }
 
+-- the log behind the scan
+logged : (g : given.Over) (c : goal.In_ok-scan g) → g.S.ConnSource.log c.scan_window.new.source ≡ g.S.ConnSource.log c.args.source.now
+    ++ reverse (window_of (g.S.ConnSource.timetable c.args.source.now) c.args.destinations.now.from c.args.destinations.now.by)
+logged g c = window_read (g.S.ConnSource.timetable c.args.source.now) c.args.destinations.now.from c.args.destinations.now.by
+    c.first_at-start.result c.first_at-end.result c.first_at-start.ensures c.first_at-end.ensures
+    (g.S.ConnSource.log c.args.source.now) (g.S.ConnSource.log c.scan_window.new.source) c.in_ok-scan.ensures.log
+
 pub returns-in_err-scan-clause-err : goal.returns-in_err-scan-clause-err
-returns-in_err-scan-clause-err g c =
-    let t = g.S.ConnSource.timetable c.args.source.now in
-    let falls = window_falls t c.args.destinations.now.from c.args.destinations.now.by
-    c.first_at-start.result c.first_at-end.result c.first_at-start.ensures c.first_at-end.ensures in
-    let read = c.in_err-scan.ensures.err in
-    on_err c.from_residual-in_err-scan.result _ (read.0, read.1 ∙ ap (λ (ks : List ℕ). g.S.ConnSource.log c.args.source.now ++ take read.0 ks) (sym falls))
+returns-in_err-scan-clause-err g c = part_read (g.S.ConnSource.timetable c.args.source.now) c.args.destinations.now.from c.args.destinations.now.by
+    c.first_at-start.result c.first_at-end.result c.first_at-start.ensures c.first_at-end.ensures c.from_residual-in_err-scan.result
+    (g.S.ConnSource.log c.args.source.now) (g.S.ConnSource.log c.scan_window.new.source) c.in_err-scan.ensures.err
 
 pub returns-clause-log : goal.returns-clause-log
-returns-clause-log g c =
-    let t = g.S.ConnSource.timetable c.args.source.now in
-    let falls = window_falls t c.args.destinations.now.from c.args.destinations.now.by
-    c.first_at-start.result c.first_at-end.result c.first_at-start.ensures c.first_at-end.ensures in
-    c.in_ok-scan.ensures.log ∙ ap (λ (ks : List ℕ). g.S.ConnSource.log c.args.source.now ++ ks) (sym falls)
+returns-clause-log g c = logged g (goal.at.returns-clause-log g c).In_ok-scan
 
 pub returns-in_err-lists-clause-err : goal.returns-in_err-lists-clause-err
 returns-in_err-lists-clause-err g c =
-    let t = g.S.ConnSource.timetable c.args.source.now in
-    let read = reverse (window_of t c.args.destinations.now.from c.args.destinations.now.by) in
-    let falls = window_falls t c.args.destinations.now.from c.args.destinations.now.by
-    c.first_at-start.result c.first_at-end.result c.first_at-start.ensures c.first_at-end.ensures in
-    on_err c.from_residual-in_err-lists.result _ (
-      length read,
-      taken_all (g.S.ConnSource.log c.args.source.now)
-          read (g.S.ConnSource.log c.scan_window.new.source)
-          (c.in_ok-scan.ensures.log ∙ ap (λ (ks : List ℕ). g.S.ConnSource.log c.args.source.now ++ ks) (sym falls)),
-    )
+    whole_read c.from_residual-in_err-lists.result _ _ _ (logged g (goal.at.returns-in_err-lists-clause-err g c).In_ok-scan)
 
 pub lists_in_order-requires : goal.lists_in_order-requires
 lists_in_order-requires g c =
@@ -89,11 +79,10 @@ returns-clause-answers g c =
           } in
           let listed = subst (λ k. AreInOrder (g.C.Criterion.rules k) (found_from state.origin stop) (points_in (slice_get lists stop))) (sym same)
           (c.in_ok-lists.ensures.lists stop) in
-          let is = answered_from rules laws t q can start
+          answered_from rules laws t q can start
           (subst (λ (n : ℕ). IsFirstAt t n start) (sym same_from) c.first_at-start.ensures)
-          (scan_records_of value_in scan_value_from state stop) (found_from state.origin stop)
-          (points_in (slice_get lists stop)) (c.in_ok-scan.ensures.scanned.found stop) (origins.1 stop) listed in
-          record { answer = is.0; attained = is.1 };
+          (scan_records_of g.C.Kept.Keeping.value scan_value_from state stop) (found_from state.origin stop)
+          (points_in (slice_get lists stop)) (c.in_ok-scan.ensures.scanned.found stop) (origins.1 stop) listed;
       direct = λ stop lt other. nearest_direct t b stop other (get_or (final_walks_of c.in_ok-asked.asked.final_walks) stop None)
           (asked.final_walks.each stop lt);
       loops = λ stop lt is. target_loop t b.targets stop is (get_or (final_walks_of c.in_ok-asked.asked.final_walks) stop None)

@@ -1,6 +1,6 @@
 use Rattle.std.proofs.Common.{subst, sym}
 use Rattle.profile_scan.specs.SetQuery.{IsDirectWalk, question}
-use Rattle.journeys.proofs.AnswerLemmas.{whole_read}
+use Rattle.profile_scan.proofs.LogLemmas.{whole_read}
 use Rattle.station_answers.proofs.answering.answer_between.Goals as goal
 
 pub returns-in_err-departures-clause-err : goal.returns-in_err-departures-clause-err

@@ -2,6 +2,7 @@ use Rattle.std.proofs.Common.{ℕ, Option, sym, subst}
 use Rattle.std.proofs.Math.Logic.{∥∥₁_map}
 use Rattle.timetable.specs.declared.query.Query.{Query}
 use Rattle.profile_scan.specs.SetQuery.{SetQueryValue}
+use Rattle.profile_scan.specs.Nodes.{spelling}
 use Rattle.profile_scan.specs.Answered.{Answer, IsAnswered, IsAnsweredBetween}
 use Rattle.profile_scan.proofs.Single.{answered_one}
 use Rattle.profile_scan.proofs.found_between.FoundBetween.of_one.Goals as goal
@@ -23,7 +24,7 @@ pub returns : goal.returns
 returns g c criterion t is =
     let found = c.args.self in
     let rules = g.C.Criterion.rules criterion in
-    let answer = subst (λ (w : Option ℕ). IsAnswered rules t c.args.query.now found.points.items found.nodes.items w) (sym c.secs_of.ensures)
+    let answer = subst (λ (w : Option ℕ). IsAnswered rules t c.args.query.now found.points.items (spelling found.nodes.items).journey w) (sym c.secs_of.ensures)
     (answered_one rules t c.args.query.now found.points.items found.nodes.items found.walk is.answered) in
     record {
       answer = answer.answer;
