@@ -17,5 +17,6 @@ mod vectors;
 pub use entry::{Boarding, FrontEntry, Item, RiddenLabel, Step};
 pub use front_lists::FrontLists;
 pub use labels::{Label, Labels, offer_label};
+pub use putting::index_of;
 pub use valued::{HasValue, some_no_worse};
 pub use vectors::{append, copies};

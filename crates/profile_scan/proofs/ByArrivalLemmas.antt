@@ -13,8 +13,6 @@ use Rattle.timetable.proofs.LegalLemmas.{At-Contains, Contains-At}
 use Rattle.reasoning.proofs.ListLemmas.{contains_first, contains_only, extends_one}
 use Rattle.reasoning.proofs.ListLemmas.{not_in_nil, slice_get-replicate-is, slice_get-set_other, slice_get-set_same}
 use Rattle.criteria.specs.Laws.{Admits, IsTime, time_limit}
-use Rattle.criteria.specs.contracts.arrival.ArrivalCriterion.TheImpl.Laws.{laws-law}
-use Rattle.criteria.specs.declared.arrival.Arrival.{Arrival}
 use Rattle.bags.specs.declared.point.Point.{Point}
 use Rattle.bags.specs.Dominance.{IsCovered}
 use Rattle.timetable.specs.declared.network.Connection.{Connection}
@@ -22,14 +20,16 @@ use Rattle.timetable.specs.declared.network.Footpath.{Footpath}
 use Rattle.timetable.specs.Legal.{At}
 use Rattle.timetable.specs.TimetableValue.{TimetableValue}
 use Rattle.timetable.specs.Journeys.{start_secs}
-use Rattle.fronts.specs.Lists.{AreMoreLists, HasTaken, IsEmptyAlone, IsFrontFrom, IsSound}
-use Rattle.fronts.specs.Lists.{entries_of, front_at, items_of, list_points, lists_criterion, steps_of}
-use Rattle.fronts.specs.Putting.{IsLate}
+use Rattle.fronts.specs.Lists.{TakesRidden}
 use Rattle.fronts.specs.declared.entry.RiddenLabel.{RiddenLabel}
-use Rattle.fronts.specs.declared.front_lists.FrontLists.{FrontLists}
+use Rattle.fronts.specs.declared.entry.Step.{Step}
 use Rattle.fronts.specs.declared.labels.Label.{Label}
-use Rattle.fronts.proofs.Growth.{extends_long, same_lists}
-use Rattle.fronts.proofs.Mapped.{list_admitted, points_bettered, points_made_of}
+use Rattle.arrival_lists.specs.Lists.{AreMoreLists, HasTaken, IsBestFrom, IsEmptyAlone, IsFirstOf, Reaches, TakesPoint}
+use Rattle.arrival_lists.specs.Lists.{as_point, entries_of, list_points, never, steps_of}
+use Rattle.arrival_lists.specs.declared.arrival_lists.ArrivalLists.{ArrivalLists}
+use Rattle.arrival_lists.specs.declared.entry.FirstPoint.{FirstPoint}
+use Rattle.arrival_lists.proofs.Entries.{same_points, times_of}
+use Rattle.arrival_lists.proofs.Searches.{first_least, first_made, first_still, steps_more}
 use Rattle.profile_scan.specs.ScanState.{final_walk_in}
 use Rattle.profile_scan.specs.SetQuery.{SetQueryValue}
 use Rattle.profile_scan.specs.Values.{started}
@@ -43,11 +43,10 @@ use Rattle.profile_scan.specs.Hops.{StandsAt}
 use Rattle.profile_scan.specs.Keeping.{AdmitsKept, IsIdle}
 use Rattle.profile_scan.specs.KeptParts.{BagsTake}
 use Rattle.profile_scan.specs.ByArrival.{AreByArrival, AreUnderByArrival, BoardsByArrival, BoundExcludes}
-use Rattle.profile_scan.specs.ByArrival.{CanBoardAfterByArrival, CanLeaveByArrival, CanRenewByArrival, IsBestFrom, IsFirst}
-use Rattle.profile_scan.specs.ByArrival.{IsLikeByArrival, RelabelsByArrival, RenewsByArrival, ShowsFront, arrival_rules, arrival_rules_of, as_point, heads_of}
-use Rattle.profile_scan.specs.ByArrival.{label_if, label_in, labels_of, never, ridden_point, stops_of, trips_of, value_by_arrival}
+use Rattle.profile_scan.specs.ByArrival.{CanBoardAfterByArrival, CanLeaveByArrival, CanRenewByArrival}
+use Rattle.profile_scan.specs.ByArrival.{IsLikeByArrival, RelabelsByArrival, RenewsByArrival, arrival_rules, heads_of}
+use Rattle.profile_scan.specs.ByArrival.{label_if, label_in, labels_of, ridden_point, stops_of, trips_of, value_by_arrival}
 use Rattle.profile_scan.specs.declared.by_arrival.ByArrival.{ByArrival}
-use Rattle.profile_scan.specs.declared.by_arrival.FirstPoint.{FirstPoint}
 use Rattle.profile_scan.specs.declared.final_walks.FinalWalk.{FinalWalk}
 use Rattle.profile_scan.specs.declared.hop.Hop.{Hop}
 use Rattle.profile_scan.specs.declared.scan_records.Exit.{Exit}
@@ -97,7 +96,7 @@ labels_are kept trip l at = ap label_in at
 -- all values that are kept are admitted
 pub admits_kept : (kept : ByArrival) → AreByArrival kept → AdmitsKept arrival_rules (value_by_arrival kept)
 admits_kept kept are = record {
-  bags = λ stop. list_admitted arrival_rules (entries_of kept.lists) (items_of kept.lists) are.sound (slice_index (heads_of kept.firsts.items) stop);
+  bags = λ stop p is. lt-ltb p.value time_limit (times_of (entries_of kept.lists) are.sound (slice_index (heads_of kept.firsts.items) stop) p is);
   labels = λ trip p is. elim (slice_get_cases kept.labels.items trip).1 [
     | inl there ↦
         let l = there.0 in
@@ -211,7 +210,8 @@ module _ (kept : ByArrival) (are : AreByArrival kept) where
     | inl below ↦ elim (slice_get_cases kept.firsts.items k).1 [
       | inl there ↦
           let at : slice_get kept.firsts.items k ≡ Some there.0 = there.2 in
-          let within = (are.firsts k there.0 at).within in
+          let first = are.firsts k there.0 at in
+          let within = slice_get_within (entries_of kept.lists) (there.0).head first.entry first.at in
           subst (λ n. n < length (entries_of kept.lists)) (sym (head_at kept.firsts.items k there.0 at)) within
       | inr past ↦ (let out = past.0 in absurd (omega (arith, out, below)))
     ]
@@ -221,73 +221,6 @@ module _ (kept : ByArrival) (are : AreByArrival kept) where
         let none = get_or_past (heads_of kept.firsts.items) k 0 (omega (arith, past, long)) in
         omega (arith, none, some)
   ]
-
--- the front of a list's first entry stands for the whole list
-whole_list : (lists : FrontLists Arrival ℕ) → IsSound arrival_rules_of lists → (head : ℕ) → head < length (entries_of lists)
-    → IsFrontFrom arrival_rules_of lists head 0 head
-whole_list lists sound head within =
-    let late : IsLate (entries_of lists) (items_of lists) head 0 head =
-    record { within = within; late = omega arith; only = λ p h. h; all = λ p h after. h } in
-    record {
-      within = within;
-      made_of = points_made_of arrival_rules (laws-law (lists_criterion lists)) (entries_of lists) (items_of lists) sound head 0 head late;
-      betters = points_bettered arrival_rules (laws-law (lists_criterion lists)) (entries_of lists) (items_of lists) sound head 0 head late;
-    }
-
--- the best point of a list from a time on is that of the front
-pub best_of_front : (lists : FrontLists Arrival ℕ) (head time entry : ℕ) (f : FirstPoint) → IsFrontFrom arrival_rules_of lists head time entry
-    → ShowsFront (front_at lists entry) f → IsBestFrom (list_points lists head) time f
-best_of_front lists head time entry f stands shows = record {
-  made_of = λ lt.
-      let made = stands.made_of (as_point f) (shows.only lt) in
-      (made.0, made.1, ltb-true f.time time_limit made.2);
-  least = λ p is late.
-      let better = stands.betters p is late in
-      let low = shows.least better.0 better.1 in
-      let le = leb-true better.0.value p.value better.2 in
-      omega (arith, low, le);
-}
-
-pub is_first : (lists : FrontLists Arrival ℕ) → IsSound arrival_rules_of lists → (f : FirstPoint) → f.head < length (entries_of lists)
-    → ShowsFront (front_at lists f.head) f → IsFirst lists f
-is_first lists sound f within shows = record {
-  within = within;
-  best = best_of_front lists f.head 0 f.head f (whole_list lists sound f.head within) shows;
-}
-
--- of no points, none is shown
-pub shows_none : (front : List (Point ℕ)) (f : FirstPoint) → never ≤ f.time → ShowsFront (take 0 front) f
-shows_none front f none = record { only = λ lt. absurd (omega (arith, lt, none)); least = λ p is. absurd (not_in_nil p is) }
-
--- one point more
-module _ (front : List (Point ℕ)) (k : ℕ) (p : Point ℕ) (at : slice_get front k ≡ Some p) where
-  more_are : take (k + 1) front ≡ take k front ++ p ∷ []
-  more_are = let lt = slice_get_within front k p at in
-      take_more front k p lt
-      ∙ ap (λ x. take k front ++ x ∷ []) (same_Some (get_or front k p) p (sym (slice_get-get_or front k p lt) ∙ at))
-
-  -- it is no better than what is shown
-  pub shows_still : (f : FirstPoint) → f.time ≤ p.value → ShowsFront (take k front) f → ShowsFront (take (k + 1) front) f
-  shows_still f late shows = subst (λ ps. ShowsFront ps f) (sym more_are) (record {
-    only = λ lt. Contains-append_left (take k front) (p ∷ []) (as_point f) (shows.only lt);
-    least = λ q h. elim (Contains-push_cases (take k front) p q h) [
-      | inl was ↦ shows.least q was
-      | inr e ↦ (let value : p.value ≡ q.value = ap (λ (x : Point ℕ). x.value) e in omega (arith, late, value))
-    ];
-  })
-
-  -- or better, and is shown
-  pub shows_better : (f new : FirstPoint) → p ≡ as_point new → p.value < f.time → ShowsFront (take k front) f
-      → ShowsFront (take (k + 1) front) new
-  shows_better f new is early shows =
-      let value : p.value ≡ new.time = ap (λ (x : Point ℕ). x.value) is in
-      subst (λ ps. ShowsFront ps new) (sym more_are) (record {
-        only = λ lt. subst (Contains (take k front ++ p ∷ [])) is (Contains-push (take k front) p);
-        least = λ q h. elim (Contains-push_cases (take k front) p q h) [
-          | inl was ↦ (let low = shows.least q was in omega (arith, low, early, value))
-          | inr e ↦ (let same : p.value ≡ q.value = ap (λ (x : Point ℕ). x.value) e in omega (arith, same, value))
-        ];
-      })
 
 -- one changes to no point that isn't news, and to the best
 module _ (hop : Hop ℕ) (old : ByArrival) (are : AreByArrival old) (excludes : BoundExcludes hop.bound.now old) (first : FirstPoint)
@@ -317,7 +250,7 @@ module _ (hop : Hop ℕ) (old : ByArrival) (are : AreByArrival old) (excludes : 
     like = still_like old are;
     takes = labels_none arrival_rules
         (λ tags p opened.
-        let least = (are.firsts hop.connection.to first there).best.least p (subst (λ ps. Contains ps p) points_are opened.0) (omega arith) in
+        let least = first_least old.lists are.sound first (are.firsts hop.connection.to first there) p (subst (λ ps. Contains ps p) points_are opened.0) in
         let in_time = point_in_time p opened.0 in
         elim (cases_lt first.time l.value) [
           | inl news ↦ inr (excused p opened.0 (omega (arith, news, low, least)))
@@ -377,7 +310,7 @@ module _ (kept : ByArrival) (are : AreByArrival kept) (values : List ℕ) (exclu
       no_way,
       λ p h.
           let is = subst (λ ps. Contains ps p) (ap (list_points kept.lists) (head_at kept.firsts.items stop first there)) h in
-          let least = (are.firsts stop first there).best.least p is (omega arith) in
+          let least = first_least kept.lists are.sound first (are.firsts stop first there) p is in
           excludes p.value ((admits_kept kept are).bags stop p h) (omega (arith, late, least)),
     );
   }
@@ -395,6 +328,38 @@ alone ride = record {
   each = λ p h.
       let same : p ≡ ridden_point ride = contains_only (ridden_point ride) p h in
       (ride, contains_first ride [], sym (ap (λ (x : Point ℕ). x.value) same));
+}
+
+-- what is reached is covered
+reached : (points : List (Point ℕ)) (d v : ℕ) → Reaches points d v → IsCovered arrival_rules points d v
+reached points d v r = (r.0, r.1, r.2, le-leb (r.0).value v r.3)
+
+reaches : (points : List (Point ℕ)) (d v : ℕ) → IsCovered arrival_rules points d v → Reaches points d v
+reaches points d v c = (c.0, c.1, c.2, leb-true (c.0).value v c.3)
+
+-- a list takes in the point of boarding with a label
+takes_ridden : (steps : List Step) (departure first walk secs : ℕ) (ride : RiddenLabel ℕ) (old new : List (Point ℕ))
+    → TakesPoint steps departure ride.value (record { first = first; label = ride.label; walk = walk }) old new
+    → TakesRidden arrival_rules steps (record { departure = departure; first = first; walk = walk; secs = secs }) (ride ∷ []) old new
+takes_ridden steps departure first walk secs ride old new takes = record {
+  only = λ p h. elim (takes.only p h) [
+    | inl before ↦ inl before
+    | inr is ↦ inr (
+      record { departure = p.departure; value = p.value; tag = p.tag },
+      refl,
+      record {
+        by = ride;
+        is_ridden = contains_first ride [];
+        departs = is.0;
+        worth = is.1;
+        goes_on = is.2;
+      },
+    )
+  ];
+  kept = λ d v a c. reached new d v (takes.kept d v (reaches old d v c));
+  covered = λ r h.
+      subst (λ (x : RiddenLabel ℕ). IsCovered arrival_rules new departure x.value) (sym (contains_only ride r h))
+      (reached new departure ride.value takes.covered);
 }
 
 -- passengers board after a footpath
@@ -419,10 +384,10 @@ module _ (hop : Hop ℕ) (walk_index : ℕ) (walk : Footpath) (ride : RiddenLabe
     covered_already late low =
         let time = can.time in
         let points = (value_by_arrival old).bag in
-        let made = (can.are.firsts walk.from first there).best.made_of (omega (arith, low, time)) in
+        let made = first_made old.lists can.are.sound first (can.are.firsts walk.from first there) (omega (arith, low, time)) in
         let is : points walk.from ≡ list_points old.lists first.head = ap (list_points old.lists) (head_at old.firsts.items walk.from first there) in
         let covers : IsCovered arrival_rules (points walk.from) (hop.connection.dep - walk.secs) ride.value =
-        (as_point first, subst (λ ps. Contains ps (as_point first)) (sym is) made.0, late, le-leb first.time ride.value low) in
+        (as_point first, subst (λ ps. Contains ps (as_point first)) (sym is) made, late, le-leb first.time ride.value low) in
         record {
           like = still_like old can.are;
           takes = bags_none arrival_rules (λ stop tags way opened.
@@ -432,15 +397,12 @@ module _ (hop : Hop ℕ) (walk_index : ℕ) (walk : Footpath) (ride : RiddenLabe
         }
 
     -- the stop's list takes it in
-    module _ (number : ℕ) (number_is : number ≡ walk_index) (lists : FrontLists Arrival ℕ) (more : AreMoreLists arrival_rules_of old.lists lists)
-        (head : ℕ)
-        (taken : HasTaken arrival_rules_of (record {
-          departure = hop.connection.dep - walk.secs;
+    module _ (number : ℕ) (number_is : number ≡ walk_index) (lists : ArrivalLists) (more : AreMoreLists old.lists lists) (f : FirstPoint)
+        (taken : HasTaken (hop.connection.dep - walk.secs) ride.value (record {
           first = hop.place;
+          label = ride.label;
           walk = number;
-          secs = walk.secs;
-        }) (ride ∷ []) old.lists first.head lists head)
-        (f : FirstPoint) (head_is : f.head ≡ head) (shows : ShowsFront (front_at lists head) f) where
+        }) old.lists first.head lists f) where
       abbrev after : ByArrival
       after = record {
         labels = old.labels;
@@ -451,24 +413,16 @@ module _ (hop : Hop ℕ) (walk_index : ℕ) (walk : Footpath) (ride : RiddenLabe
       }
 
       same : (index : ℕ) → index < length (entries_of old.lists) → list_points lists index ≡ list_points old.lists index
-      same = same_lists arrival_rules_of old.lists lists can.are.sound more
+      same = same_points (entries_of old.lists) (entries_of lists) can.are.sound more.entries
 
-      new_firsts : (k : ℕ) (x : FirstPoint) → slice_get (set old.firsts.items walk.from f) k ≡ Some x → IsFirst lists x
+      new_firsts : (k : ℕ) (x : FirstPoint) → slice_get (set old.firsts.items walk.from f) k ≡ Some x → IsFirstOf lists x.head x
       new_firsts k x at = elim (cases_eq k walk.from) [
         | inl here ↦
             let is : f ≡ x = same_Some f x (sym (slice_get-set_same old.firsts.items walk.from f can.stop)
             ∙ subst (λ n. slice_get (set old.firsts.items walk.from f) n ≡ Some x) here at) in
-            subst (IsFirst lists) is
-            (is_first lists more.sound f (subst (λ n. n < length (entries_of lists)) (sym head_is) taken.within)
-            (subst (λ n. ShowsFront (front_at lists n) f) (sym head_is) shows))
+            subst (λ (y : FirstPoint). IsFirstOf lists y.head y) is taken.is_first
         | inr other ↦
-            let was = can.are.firsts k x (sym (slice_get-set_other old.firsts.items walk.from k f other) ∙ at) in
-            let within = was.within in
-            let longer = extends_long (entries_of old.lists) (entries_of lists) more.entries in
-            record {
-              within = omega (arith, within, longer);
-              best = subst (λ ps. IsBestFrom ps 0 x) (sym (same x.head was.within)) was.best;
-            }
+            first_still old.lists lists more.entries x (can.are.firsts k x (sym (slice_get-set_other old.firsts.items walk.from k f other) ∙ at))
       ]
 
       pub boards : BoardsByArrival IsWalk (λ _. ⊥) Boardings old after
@@ -481,7 +435,7 @@ module _ (hop : Hop ℕ) (walk_index : ℕ) (walk : Footpath) (ride : RiddenLabe
         };
         takes = record {
           exits = refl;
-          steps = more.steps;
+          steps = steps_more (entries_of old.lists) (entries_of lists) more.entries;
           labels = λ trip. refl;
           takes = λ walks at stop set_outs before all first_grows then_grows.
               let heads = heads_of old.firsts.items in
@@ -490,17 +444,18 @@ module _ (hop : Hop ℕ) (walk_index : ℕ) (walk : Footpath) (ride : RiddenLabe
               let spell = from_to (spelling_of walks before) (spelling_of walks all) in
               let long = heads_long old.firsts.items in
               let stop_in = can.stop in
-              let heads_are : set heads walk.from head ≡ heads_of (set old.firsts.items walk.from f) =
-              ap (set heads walk.from) (sym head_is) ∙ sym (heads_set old.firsts.items walk.from f) in
+              let grown = steps_more (entries_of old.lists) (entries_of lists) more.entries in
+              let heads_are : set heads walk.from f.head ≡ heads_of (set old.firsts.items walk.from f) = sym (heads_set old.firsts.items walk.from f) in
               takes_but arrival_rules (λ _. ⊥) (Boardings stop spell) ((value_by_arrival old).bag stop) ((value_by_arrival after).bag stop)
               (subst (λ hs. TakesIn arrival_rules (Boardings stop spell) ((value_by_arrival old).bag stop) (list_points lists (slice_index hs stop))) heads_are
-              (boarded_at arrival_rules_of (lists_criterion old.lists) (lists_criterion old.lists) refl (ridden_point ride ∷ []) walks (ride ∷ []) (alone ride)
-              (list_points old.lists) (list_points lists) heads (length (entries_of old.lists)) (heads_below old can.are) same (steps_of lists) walk number
-              hop.place hop.connection.dep first.head head (omega (arith, long, stop_in)) fits
-              (subst (λ n. slice_get walks n ≡ Some walk) (sym number_is) at) (sym (head_at old.firsts.items walk.from first there)) taken.takes stop
-              before all
+              (boarded_at (λ (_ : ℕ). arrival_rules) 0 0 refl (ridden_point ride ∷ []) walks (ride ∷ []) (alone ride) (list_points old.lists) (list_points lists)
+              heads (length (entries_of old.lists)) (heads_below old can.are) same (steps_of lists) walk number hop.place hop.connection.dep first.head f.head
+              (omega (arith, long, stop_in)) fits (subst (λ n. slice_get walks n ≡ Some walk) (sym number_is) at)
+              (sym (head_at old.firsts.items walk.from first there))
+              (takes_ridden (steps_of lists) (hop.connection.dep - walk.secs) hop.place number walk.secs ride (list_points old.lists first.head)
+              (list_points lists f.head) taken.takes) stop before all
               (grows_on before was all first_grows
-              (grows_on was now all (steps_grow old.exits.items (steps_of old.lists) (steps_of lists) set_outs more.steps) then_grows)) then_grows.steps));
+              (grows_on was now all (steps_grow old.exits.items (steps_of old.lists) (steps_of lists) set_outs grown) then_grows)) then_grows.steps));
         };
       }
 
@@ -578,11 +533,6 @@ module _ (q : SetQueryValue) (hop : Hop ℕ) (old : ByArrival) where
         })))
         taken.takes;
   }
-
--- a ridden value that is a time is admitted
-pub ridden_admitted : (ride : RiddenLabel ℕ) → IsTime ride.value → (r : RiddenLabel ℕ) → Contains (ride ∷ []) r → Admits arrival_rules r.value
-ridden_admitted ride in_time r h =
-    subst (λ (x : RiddenLabel ℕ). Admits arrival_rules x.value) (sym (contains_only ride r h)) (lt-ltb ride.value time_limit in_time)
 
 -- one item of a list
 pub part_one : {X : Type 0} (xs : List X) (k : ℕ) (x : X) → slice_get xs k ≡ Some x → take 1 (drop k xs) ≡ x ∷ []
@@ -676,10 +626,13 @@ module _ (values : List ℕ) (old new : ByArrival) (renewed : RenewsByArrival va
   renewed_trips = ap trips_of renewed.same
 
 -- at first nothing is kept
-module _ (stops trips : ℕ) (criterion : Arrival) (kept : ByArrival) (no_label : Label ℕ) (no_point : FirstPoint)
+module _ (stops trips : ℕ) (kept : ByArrival) (no_label : Label ℕ) (no_point : FirstPoint)
     (labels : kept.labels.items ≡ replicate trips no_label) (firsts : kept.firsts.items ≡ replicate stops no_point)
-    (no_time : never ≤ no_label.value) (nothing : never ≤ no_point.time) (at_end : no_point.head ≡ 0)
-    (empty : IsEmptyAlone arrival_rules_of criterion kept.lists) (unbounded : kept.bound ≡ never) where
+    (no_time : never ≤ no_label.value) (is_end : no_point ≡ record { time = never; departure = never; tag = 0; head = 0 })
+    (empty : IsEmptyAlone kept.lists) (unbounded : kept.bound ≡ never) where
+  at_end : no_point.head ≡ 0
+  at_end = ap (λ (f : FirstPoint). f.head) is_end
+
   no_first : (stop : ℕ) (f : FirstPoint) → slice_get kept.firsts.items stop ≡ Some f → f ≡ no_point
   no_first stop f at = slice_get-replicate-is stops stop no_point f (sym (ap (λ xs. slice_get xs stop) firsts) ∙ at)
 
@@ -691,13 +644,7 @@ module _ (stops trips : ℕ) (criterion : Arrival) (kept : ByArrival) (no_label 
   new_are : AreByArrival kept
   new_are = record {
     sound = empty.sound;
-    firsts = λ stop f at. subst (IsFirst kept.lists) (sym (no_first stop f at)) (record {
-      within = subst (λ n. n < length (entries_of kept.lists)) (sym at_end) empty.sound.some;
-      best = record {
-        made_of = λ lt. absurd (omega (arith, lt, nothing));
-        least = λ p is late. absurd (not_in_nil p (subst (λ ps. Contains ps p) (ap (list_points kept.lists) at_end ∙ empty.empty) is));
-      };
-    });
+    firsts = λ stop f at. subst (λ (x : FirstPoint). IsFirstOf kept.lists x.head x) (sym (no_first stop f at ∙ is_end)) empty.first;
     times = λ trip l at lt. let late = not_labelled trip l at in absurd (omega (arith, late, lt));
     limit = omega (arith, unbounded);
   }

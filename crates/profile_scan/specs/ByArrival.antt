@@ -3,13 +3,12 @@ use Rattle.std.specs.Prelude.{◌≡◌, ℕ, ◌<◌, ◌≤◌, Bool, true, fa
 use Rattle.std.specs.Prelude.{Option, Some, None}
 use Rattle.std.specs.Ordering.{nat_cmp}
 use Rattle.criteria.specs.Laws.{Rules, Admits, IsTime, IsSecs, time_limit}
-use Rattle.criteria.specs.declared.arrival.Arrival.{Arrival}
 use Rattle.bags.specs.declared.point.Point.{Point}
 use Rattle.timetable.specs.declared.network.Footpath.{Footpath}
 use Rattle.timetable.specs.TimetableValue.{TimetableValue}
-use Rattle.fronts.specs.Lists.{IsSound, entries_of, list_points, steps_of}
+use Rattle.arrival_lists.specs.Lists.{AreEntries, IsFirstOf, entries_of, list_points, never, steps_of}
+use Rattle.arrival_lists.specs.declared.entry.FirstPoint.{FirstPoint}
 use Rattle.fronts.specs.declared.entry.RiddenLabel.{RiddenLabel}
-use Rattle.fronts.specs.declared.front_lists.FrontLists.{FrontLists}
 use Rattle.fronts.specs.declared.labels.Label.{Label}
 use Rattle.profile_scan.specs.SetQuery.{SetQueryValue}
 use Rattle.profile_scan.specs.Matching.{Spellings}
@@ -21,7 +20,6 @@ use Rattle.profile_scan.specs.Hops.{IsHop, StandsAt}
 use Rattle.profile_scan.specs.Keeping.{AdmitsKept, Leaves}
 use Rattle.profile_scan.specs.KeptParts.{BagsTake, LabelsTake}
 use Rattle.profile_scan.specs.declared.by_arrival.ByArrival.{ByArrival}
-use Rattle.profile_scan.specs.declared.by_arrival.FirstPoint.{FirstPoint}
 use Rattle.profile_scan.specs.declared.hop.Hop.{Hop}
 
 -- what the criterion of arrival computes
@@ -34,13 +32,6 @@ arrival_rules = record {
   list_order = nat_cmp;
   admits = λ v. nat_lt v time_limit;
 }
-
-abbrev pub arrival_rules_of : Arrival → Rules ℕ
-arrival_rules_of criterion = arrival_rules
-
--- no time
-abbrev pub never : ℕ
-never = 4294967295
 
 abbrev pub label_if : Bool → Label ℕ → List (Label ℕ)
 label_if true l = l ∷ []
@@ -72,35 +63,12 @@ trips_of kept = length kept.labels.items
 abbrev pub stops_of : ByArrival → ℕ
 stops_of kept = length kept.firsts.items
 
-abbrev pub as_point : FirstPoint → Point ℕ
-as_point f = record { departure = f.departure; value = f.time; tag = f.tag }
-
--- of the points that depart at a time or later the best, if there is any: none arrives earlier
-pub record IsBestFrom (points : List (Point ℕ)) (time : ℕ) (best : FirstPoint) : Type 0 where
-  pub made_of : best.time < never → Contains points (as_point best) × (time ≤ best.departure) × IsTime best.time
-  pub least : (p : Point ℕ) → Contains points p → time ≤ p.departure → best.time ≤ p.value
-
--- the best point of a front, if it has one
-pub record ShowsFront (front : List (Point ℕ)) (first : FirstPoint) : Type 0 where
-  pub only : first.time < never → Contains front (as_point first)
-  pub least : (p : Point ℕ) → Contains front p → first.time ≤ p.value
-
--- the first point of a list is its best
-pub record IsFirst (lists : FrontLists Arrival ℕ) (first : FirstPoint) : Type 0 where
-  pub within : first.head < length (entries_of lists)
-  pub best : IsBestFrom (list_points lists first.head) 0 first
-
--- lists carry their fronts, each stop's first point is its list's, labels have times, and the bound is one or `never`
+-- lists rise, each stop's first point is its list's, labels have times, and the bound is one or `never`
 pub record AreByArrival (kept : ByArrival) : Type 0 where
-  pub sound : IsSound arrival_rules_of kept.lists
-  pub firsts : (stop : ℕ) (first : FirstPoint) → slice_get kept.firsts.items stop ≡ Some first → IsFirst kept.lists first
+  pub sound : AreEntries (entries_of kept.lists)
+  pub firsts : (stop : ℕ) (first : FirstPoint) → slice_get kept.firsts.items stop ≡ Some first → IsFirstOf kept.lists first.head first
   pub times : (trip : ℕ) (l : Label ℕ) → slice_get kept.labels.items trip ≡ Some l → l.value < never → IsTime l.value
   pub limit : kept.bound ≤ never
-
--- a list's first point
-pub record HasFirst (kept : ByArrival) (first : FirstPoint) : Type 0 where
-  pub sound : IsSound arrival_rules_of kept.lists
-  pub is : IsFirst kept.lists first
 
 -- what isn't earlier than the bound, these values exclude
 abbrev pub BoundExcludes : List ℕ → ByArrival → Type 0

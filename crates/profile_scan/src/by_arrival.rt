@@ -3,47 +3,19 @@
 //! A trip then needs one label. No point of a stop's list arrives earlier than the first, so the first points of all
 //! lists are at hand, and at most connections they are all that is read.
 
-ghost use Rattle.std.specs.Prelude.{◌≡◌, ◌<◌, ◌≤◌, ◌⊎◌, ℕ, IfOk, Contains};
-ghost use Rattle.fronts.specs.Lists.{HasList, front_at};
-ghost use Rattle.profile_scan.specs.ByArrival.{ShowsFront, arrival_rules_of};
+ghost use Rattle.std.specs.Prelude.{◌≡◌, ◌≤◌, ◌⊎◌, ℕ, Contains, if◌then◌else◌, nat_lt};
 
 use crate::hop::{Hop, ScanQuery};
 use crate::riding::number_of;
 use crate::scan_records::Exit;
 use crate::trips::end_of;
+use arrival_lists::{ArrivalLists, FirstPoint, NEVER};
 use criteria::Arrival;
-use fronts::{Boarding, FrontLists, Label, RiddenLabel, append};
+use fronts::{Label, RiddenLabel, Step, append};
 use sources::ConnSource;
 use std::alloc::AllocError;
 use std::ops::Range;
 use timetable::Footpath;
-
-/// No time: it is later than all times.
-pub const NEVER: u32 = u32::MAX;
-
-/// The first point of a stop's list, and the head of that list. If the list is empty, the time is `NEVER`.
-#[derive(Clone, Copy, Drop)]
-pub struct FirstPoint {
-    pub time: u32,
-    pub departure: u32,
-    pub tag: u32,
-    pub head: u32,
-}
-
-impl FirstPoint {
-    ghost use Rattle.std.specs.Prelude.{◌≡◌, ◌<◌, if◌then◌else◌, nat_lt};
-
-    /// Its time, or `NEVER` if a bound excludes it.
-    #[inline(always)]
-    pub fn unless_excluded(self, bound: u32) -> u32
-        ensures { result ≡ if nat_lt self.time bound then self.time else 4294967295 }
-    {
-        if self.time < bound {
-            return self.time;
-        }
-        NEVER
-    }
-}
 
 /// The label of each trip, and of each stop's list the first point.
 #[derive(Drop)]
@@ -53,15 +25,14 @@ pub struct ByArrival {
     // a label's tag is the index of its exit
     pub exits: Vec<Exit>,
     pub firsts: Vec<FirstPoint>,
-    pub lists: FrontLists<Arrival>,
+    pub lists: ArrivalLists,
     // the least value of the bound, or `NEVER`
     pub bound: u32,
 }
 
 impl ByArrival {
-    ghost use Rattle.std.specs.Prelude.{◌≡◌, ◌<◌, ◌∷◌, [], IfOk, OnOk, slice_get, Some};
+    ghost use Rattle.std.specs.Prelude.{◌≡◌, ◌<◌, ◌∷◌, [], OnOk, slice_get, Some};
     ghost use Rattle.criteria.specs.Laws.{IsTime};
-    ghost use Rattle.fronts.specs.Lists.{HasList, list_points};
     ghost use Rattle.profile_scan.specs.SetQuery.{question};
     ghost use Rattle.profile_scan.specs.Bound.{Excludes};
     ghost use Rattle.profile_scan.specs.ScanRecords.{IsExit};
@@ -71,8 +42,8 @@ impl ByArrival {
     ghost use Rattle.profile_scan.specs.Steps.{boardings};
     ghost use Rattle.profile_scan.specs.ByArrival.{AreByArrival, BoardsByArrival, CanBoardAfterByArrival};
     ghost use Rattle.profile_scan.specs.ByArrival.{CanBoardByArrival, CanBoardEachByArrival, CanLeaveByArrival};
-    ghost use Rattle.profile_scan.specs.ByArrival.{CanRenewByArrival, HasFirst, IsBestFrom};
-    ghost use Rattle.profile_scan.specs.ByArrival.{RelabelsByArrival, RenewsByArrival, arrival_rules, arrival_rules_of};
+    ghost use Rattle.profile_scan.specs.ByArrival.{CanRenewByArrival};
+    ghost use Rattle.profile_scan.specs.ByArrival.{RelabelsByArrival, RenewsByArrival, arrival_rules};
     ghost use Rattle.profile_scan.specs.ByArrival.{ridden_point, stops_of, trips_of, value_by_arrival};
 
     /// Makes the bound of the hop's values, if these may have changed.
@@ -137,28 +108,6 @@ impl ByArrival {
         }
     }
 
-    // The best point of a list that departs at a time or later, given the list's first point. Mostly that one does.
-    #[inline(always)]
-    fn best_from(&self, first: FirstPoint, time: u32) -> Result<FirstPoint, AllocError>
-        requires { HasFirst self.now first }
-        ensures { IfOk result (IsBestFrom (list_points self.now.lists first.head) time) }
-    {
-        if first.departure >= time {
-            return Ok(first);
-        }
-        self.later_from(first.head, time)
-    }
-
-    // The same by the list itself. It is rare, so it is a call and never inlined.
-    #[inline(never)]
-    fn later_from(&self, head: u32, time: u32) -> Result<FirstPoint, AllocError>
-        requires { HasList arrival_rules_of self.now.lists head }
-        ensures { IfOk result (IsBestFrom (list_points self.now.lists head) time) }
-    {
-        let entry = self.lists.front_from(head, time);
-        first_of(&self.lists, entry)
-    }
-
     /// Offers to the hop's trip the best point of the stop where it ends that departs at the arrival or later, unless
     /// the bound excludes it. A first point that isn't news shows that no point of the stop is.
     #[inline(always)]
@@ -174,7 +123,7 @@ impl ByArrival {
         if first.time >= label.value.min(self.bound) {
             return Ok(());
         }
-        let best = self.best_from(first, hop.connection.arr)?;
+        let best = self.lists.best_from(first, hop.connection.arr);
         if best.time >= self.bound {
             return Ok(());
         }
@@ -210,14 +159,12 @@ impl ByArrival {
             return Ok(());
         }
         let number = number_of(walk_index)?;
-        let boarding = Boarding {
-            departure,
+        let step = Step {
             first: hop.place,
+            label: ride.label,
             walk: number,
-            secs: walk.secs,
         };
-        let head = self.lists.insert_one(first.head, boarding, ride)?;
-        self.firsts[walk.from as usize] = first_of(&self.lists, head)?;
+        self.firsts[walk.from as usize] = self.lists.insert(first, departure, ride.value, step)?;
         Ok(())
     }
 
@@ -270,32 +217,15 @@ impl ByArrival {
     }
 }
 
-// The best point of an entry's front, if it has one, as the first of a list. By arrival a front is one point, so the
-// loop ends after it.
+/// A point's time, or `NEVER` if a bound excludes it.
 #[inline(always)]
-fn first_of(lists: &FrontLists<Arrival>, entry: u32) -> Result<FirstPoint, AllocError>
-    requires { HasList arrival_rules_of lists.now entry }
-    ensures { IfOk result (λ first. (first.head ≡ entry) × ShowsFront (front_at lists.now entry) first) }
+pub fn unless_excluded(point: FirstPoint, bound: u32) -> u32
+    ensures { result ≡ if nat_lt point.time bound then point.time else 4294967295 }
 {
-    let mut first = FirstPoint {
-        time: NEVER,
-        departure: NEVER,
-        tag: 0,
-        head: entry,
-    };
-    for k in 0..lists.front_len(entry) {
-        let point = lists.front_point(entry, k);
-        if point.value < first.time {
-            let tag = number_of(point.tag)?;
-            first = FirstPoint {
-                time: point.value,
-                departure: point.departure,
-                tag,
-                head: entry,
-            };
-        }
+    if point.time < bound {
+        return point.time;
     }
-    Ok(first)
+    NEVER
 }
 
 // The least of some values, or `NEVER` if there is none.

@@ -1,13 +1,14 @@
 //! Trips and stops kept by arrival alone: how a scan takes a connection in.
 
 use crate::at_source::AtSource;
-use crate::by_arrival::{ByArrival, FirstPoint, NEVER};
+use crate::by_arrival::{ByArrival, unless_excluded};
 use crate::final_walks::{FinalWalk, final_walk_of};
 use crate::hop::{Hop, ScanQuery};
 use crate::keeping::Keeping;
 use crate::scan_records::Exit;
+use arrival_lists::{ArrivalLists, FirstPoint, NEVER};
 use criteria::{Arrival, Criterion};
-use fronts::{FrontLists, Label, Step, copies};
+use fronts::{Label, Step, copies};
 use sources::ConnSource;
 use std::alloc::{AllocError, Global};
 use timetable::Connection;
@@ -21,7 +22,7 @@ impl Keeping<Arrival> for ByArrival {
 
     fn new(
         alloc: Global,
-        criterion: &Arrival,
+        _criterion: &Arrival,
         stops: u32,
         trips: u32,
         expected: usize,
@@ -42,7 +43,7 @@ impl Keeping<Arrival> for ByArrival {
             labels,
             exits: Vec::with_capacity(alloc, expected / 8)?,
             firsts,
-            lists: FrontLists::new(alloc, *criterion, expected)?,
+            lists: ArrivalLists::new(alloc, expected)?,
             bound: NEVER,
         })
     }
@@ -61,7 +62,7 @@ impl Keeping<Arrival> for ByArrival {
             None => {
                 let label = self.labels[connection.trip as usize];
                 let point = self.firsts[connection.to as usize];
-                label.value.min(point.unless_excluded(self.bound)) >= NEVER
+                label.value.min(unless_excluded(point, self.bound)) >= NEVER
             },
         }
     }

@@ -1,7 +1,7 @@
 use Rattle.std.proofs.Common.{◌≡◌, ◌-◌, Some, length, refl, slice_get, ◌∙◌, sym, arith}
 use Rattle.std.proofs.lemmas.Bool.{leb-true}
 use Rattle.std.proofs.lemmas.Option.{slice_get_read}
-use Rattle.profile_scan.proofs.ByArrivalLemmas.{boards, covered_already, ridden_admitted, too_long}
+use Rattle.profile_scan.proofs.ByArrivalLemmas.{boards, covered_already, too_long}
 use Rattle.profile_scan.proofs.by_arrival.ByArrival.board_walk.Goals.{After-index-first, else-departure-first, then-departure-first}
 use Rattle.profile_scan.proofs.by_arrival.ByArrival.board_walk.Goals as goal
 
@@ -27,21 +27,14 @@ returns-then-covered c =
           absurd (omega (arith, late, w.if-departure-first.false))
     ]
 
-pub insert_one-requires : goal.insert_one-requires
-insert_one-requires c = record {
-  may = record {
-    sound = c.requires.are.sound;
-    within = (c.requires.are.firsts c.args.walk.from c.index-first.result.now (first_at (goal.at.insert_one-requires c).After-index-first)).within;
-    short = c.requires.secs;
-    admitted = ridden_admitted c.args.ride c.requires.time;
-  };
+pub insert-requires-clause-first : goal.insert-requires-clause-first
+insert-requires-clause-first c = record {
+  sound = c.requires.are.sound;
+  is = c.requires.are.firsts c.args.walk.from c.index-first.result.now (first_at (goal.at.insert-requires-clause-first c).After-index-first);
 }
-
-pub first_of-requires : goal.first_of-requires
-first_of-requires c = record { sound = c.in_ok-head.ensures.more.sound; within = c.in_ok-head.ensures.taken.within }
 
 pub returns : goal.returns
 returns c =
     boards c.args.hop.now c.args.walk_index c.args.walk c.args.ride c.args.self.now c.requires (omega (arith, c.if-walk-dep.false))
-    c.index-first.result.now (first_at (goal.at.returns c).After-index-first) c.in_ok-number.number c.in_ok-number.ensures c.insert_one.new.self
-    c.in_ok-head.ensures.more c.in_ok-head.head c.in_ok-head.ensures.taken c.in_ok-self.field-0 c.in_ok-self.ensures.0 c.in_ok-self.ensures.1
+    c.index-first.result.now (first_at (goal.at.returns c).After-index-first) c.in_ok-number.number c.in_ok-number.ensures c.insert.new.self
+    c.in_ok-self.ensures.more c.in_ok-self.field-0 c.in_ok-self.ensures.taken

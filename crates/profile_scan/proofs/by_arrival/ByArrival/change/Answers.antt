@@ -35,12 +35,12 @@ pub returns-then-best-self : goal.returns-then-best-self
 returns-then-best-self c =
     let can = c.requires.1 in
     all_excluded c.args.hop.now c.args.self.now can.are can.excludes c.index-first.result.now
-    (first_at (goal.at.returns-then-best-self c).After-index-label) c.in_ok-best.best c.in_ok-best.ensures (omega (arith, c.if-best-self.true))
+    (first_at (goal.at.returns-then-best-self c).After-index-label) c.best_from-best.result c.best_from-best.ensures (omega (arith, c.if-best-self.true))
 
 pub offer-requires-clause-time : goal.offer-requires-clause-time
 offer-requires-clause-time c =
     let limit = c.requires.1.are.limit in
-    (c.in_ok-best.ensures.made_of (omega (arith, limit, c.if-best-self.false))).2
+    (c.best_from-best.ensures.made_of (omega (arith, limit, c.if-best-self.false))).2
 
 pub returns : goal.returns
 returns c =
@@ -48,5 +48,5 @@ returns c =
     let limit = can.are.limit in
     on_ok_weaker c.offer.result
     (changed_by c.args.hop.now c.args.self.now can.are can.excludes c.index-first.result.now (first_at (goal.at.returns c).After-index-label)
-    c.in_ok-best.best c.in_ok-best.ensures (omega (arith, limit, c.if-best-self.false)) c.offer.new.self)
+    c.best_from-best.result c.best_from-best.ensures (omega (arith, limit, c.if-best-self.false)) c.offer.new.self)
     c.offer.ensures

@@ -2,7 +2,7 @@ use Rattle.std.proofs.Common.{◌<◌, ◌≤◌, ◌∙◌, if◌then◌else◌
 use Rattle.std.proofs.lemmas.Bool.{cases_lt, leb-true, lt-ltb}
 use Rattle.std.proofs.lemmas.Option.{slice_get_read}
 use Rattle.profile_scan.specs.ScanState.{final_walk_in}
-use Rattle.profile_scan.specs.ByArrival.{never}
+use Rattle.arrival_lists.specs.Lists.{never}
 use Rattle.profile_scan.proofs.ByArrivalLemmas.{is_idle}
 use Rattle.profile_scan.proofs.by_arrival_taking.ByArrivalKeepingArrival.is_idle.Goals as goal
 

@@ -1,8 +1,8 @@
 use Rattle.std.proofs.Common.{ℕ, ◌≤◌, refl, arith}
 use Rattle.fronts.specs.declared.labels.Label.{Label}
-use Rattle.profile_scan.specs.ByArrival.{never}
+use Rattle.arrival_lists.specs.Lists.{never}
 use Rattle.profile_scan.specs.declared.by_arrival.ByArrival.{ByArrival}
-use Rattle.profile_scan.specs.declared.by_arrival.FirstPoint.{FirstPoint}
+use Rattle.arrival_lists.specs.declared.entry.FirstPoint.{FirstPoint}
 use Rattle.profile_scan.proofs.ByArrivalLemmas.{new_labels, new_points, new_under}
 use Rattle.profile_scan.proofs.by_arrival_taking.ByArrivalKeepingArrival.new.Goals as goal
 
@@ -20,10 +20,10 @@ returns c =
     let no_point : FirstPoint = record { time = never; departure = never; tag = 0; head = 0 } in
     let late : never ≤ never = omega arith in
     record {
-      under = new_under c.args.stops c.args.trips c.args.criterion.now kept no_label no_point c.in_ok-labels.ensures c.in_ok-firsts.ensures late late refl
+      under = new_under c.args.stops c.args.trips kept no_label no_point c.in_ok-labels.ensures c.in_ok-firsts.ensures late refl
           c.in_ok-new.ensures refl;
-      bags = new_points c.args.stops c.args.trips c.args.criterion.now kept no_label no_point c.in_ok-labels.ensures c.in_ok-firsts.ensures late late refl
+      bags = new_points c.args.stops c.args.trips kept no_label no_point c.in_ok-labels.ensures c.in_ok-firsts.ensures late refl
           c.in_ok-new.ensures refl;
-      labels = new_labels c.args.stops c.args.trips c.args.criterion.now kept no_label no_point c.in_ok-labels.ensures c.in_ok-firsts.ensures late late refl
+      labels = new_labels c.args.stops c.args.trips kept no_label no_point c.in_ok-labels.ensures c.in_ok-firsts.ensures late refl
           c.in_ok-new.ensures refl;
     }
