@@ -225,12 +225,12 @@ module _ (old : ArrivalLists) (first : FirstPoint) (has : HasFirst old first) (d
                   let r_3 = r.3 in
                   elim (cases_lt p.departure departure) [
                     | inr not_early ↦ (
-                        p,
-                        joined.kept p (subst (λ ps. Contains ps p) (sym points_are)
-                            (contains_rest p (point_of point) (points_from (entries_of old) after) (late.all p r.1 not_early))),
-                        r.2,
-                        r.3,
-                      )
+                      p,
+                      joined.kept p (subst (λ ps. Contains ps p) (sym points_are)
+                          (contains_rest p (point_of point) (points_from (entries_of old) after) (late.all p r.1 not_early))),
+                      r.2,
+                      r.3,
+                    )
                     | inl early ↦ elim (cases_lt p.value time) [
                       | inl soon ↦
                           let e = passed.all p r.1 early soon in
