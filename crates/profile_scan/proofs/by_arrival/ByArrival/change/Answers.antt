@@ -23,12 +23,12 @@ returns-then-first-min c =
     no_news c.args.hop.now c.args.self.now can.are can.excludes c.index-first.result.now (first_at point) c.index-label.result.now (label_at point)
     (omega (arith, least, c.if-first-min.true))
 
-pub best_from-requires : goal.best_from-requires
-best_from-requires c =
+pub best_from-best-requires : goal.best_from-best-requires
+best_from-best-requires c =
     let can = c.requires.1 in
     record {
       sound = can.are.sound;
-      is = can.are.firsts c.args.hop.now.connection.to c.index-first.result.now (first_at (goal.at.best_from-requires c).After-index-label);
+      is = can.are.firsts c.args.hop.now.connection.to c.index-first.result.now (first_at (goal.at.best_from-best-requires c).After-index-label);
     }
 
 pub returns-then-best-self : goal.returns-then-best-self
