@@ -1,4 +1,4 @@
-use Rattle.std.proofs.Common.{refl, sym, ap, ◌∙◌, arith}
+use Rattle.std.proofs.Common.{refl, sym, ap, arith}
 use Rattle.fronts.specs.Lists.{front_at}
 use Rattle.profile_scan.proofs.ByArrivalLemmas.{shows_none, shows_still, shows_better}
 use Rattle.profile_scan.proofs.by_arrival.first_of.Goals.{then-point-first+in_ok-tag, else-point-first}
