@@ -1,5 +1,5 @@
 -- What journeys are worth, by each criterion, and what is shown of their values.
-use Rattle.std.specs.Prelude.{◌+◌, ◌&&◌, ℕ, Some, None, min, nat_le, nat_lt, true, false}
+use Rattle.std.specs.Prelude.{◌+◌, ◌&&◌, ℕ, Some, None, min, nat_le, nat_lt}
 use Rattle.std.specs.Ordering.{nat_cmp, ordering_then}
 use Rattle.criteria.specs.Laws.{Rules, time_limit}
 use Rattle.criteria.specs.declared.arrival_trips.TimeTrips.{TimeTrips}

@@ -1,6 +1,6 @@
 //! Insertions into a list, each of which makes a new list.
 
-ghost use Rattle.std.specs.Prelude.{◌<◌, ◌≤◌, length, IfOk, MatchResult};
+ghost use Rattle.std.specs.Prelude.{◌<◌, length, IfOk, MatchResult};
 ghost use Rattle.fronts.specs.Front.{points_from, Extends};
 ghost use Rattle.fronts.specs.Entries.{AreMore};
 ghost use Rattle.fronts.specs.Putting.{HasJoined, IsJoined, MayJoin, MayJoinAll};

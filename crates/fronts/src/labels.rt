@@ -1,5 +1,5 @@
-//! Labels of many trips in one vector: those of a trip are side by side, in its run. A label is a value that a
-//! passenger aboard the trip can reach at the target.
+//! Labels of many trips in one vector: the values that passengers aboard can reach at the target. Those of a trip are
+//! side by side, in its run.
 //!
 //! A run is written over while labels fit its `room`. Else they go to the vector's end, into a `room` of nearly twice
 //! their number. So what a trip has left behind is no more than its run's `room`, and both together are fewer than four

@@ -1,5 +1,5 @@
 -- Lanes: the least time for each number of trips.
-use Rattle.std.specs.Prelude.{◌≡◌, ◌+◌, ◌<◌, ◌≤◌, ◌&&◌, ℕ, suc, false, nat_le, nat_lt, min, List, [], ◌∷◌, length, slice_index, cond, Contains}
+use Rattle.std.specs.Prelude.{◌≡◌, ◌+◌, ◌<◌, ◌≤◌, ◌&&◌, ℕ, suc, nat_le, nat_lt, min, List, [], ◌∷◌, length, slice_index, cond, Contains}
 use Rattle.std.specs.Ordering.{nat_cmp, ordering_then}
 use Rattle.criteria.specs.Laws.{Rules, NoWorse, time_limit}
 use Rattle.criteria.specs.declared.arrival_trips.TimeTrips.{TimeTrips}

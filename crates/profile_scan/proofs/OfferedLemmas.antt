@@ -1,12 +1,10 @@
 -- Lists that cover what they are offered.
-use Rattle.std.proofs.Common.{◌≡◌, ℕ, ◌+◌, ◌-◌, ◌<◌, ◌≤◌, List, [], ◌∷◌, length, set, min, slice_get, slice_index, Some}
-use Rattle.std.proofs.Common.{get_or-set_same, get_or-set_other, inl, inr, refl, sym, ◌∙◌, ap, subst, arith}
+use Rattle.std.proofs.Common.{◌≡◌, ℕ, ◌-◌, ◌≤◌, List, [], ◌∷◌, slice_get, Some}
+use Rattle.std.proofs.Common.{inl, inr, refl, subst}
 use Rattle.std.proofs.lemmas.Bool.{cases_eq}
-use Rattle.std.proofs.lemmas.List.{length-set}
 use Rattle.std.proofs.lemmas.List.Elements.{Contains-push_cases}
-use Rattle.std.proofs.lemmas.Option.{same_Some, slice_get_within}
-use Rattle.reasoning.proofs.ListLemmas.{not_in_nil, slice_get-set_same, slice_get-set_other}
-use Rattle.criteria.specs.Laws.{Rules, Laws, Admits, NoWorse}
+use Rattle.reasoning.proofs.ListLemmas.{not_in_nil}
+use Rattle.criteria.specs.Laws.{Rules}
 use Rattle.bags.specs.declared.point.Point.{Point}
 use Rattle.bags.specs.Dominance.{IsCovered}
 use Rattle.timetable.specs.declared.network.Footpath.{Footpath}

@@ -1,6 +1,6 @@
 -- Labels' values with the ride, and what boarding with them offers.
 use Rattle.std.proofs.Common.{◌≡◌, true, false, ℕ, ◌+◌, ◌-◌, ◌<◌, ◌≤◌, List, [], ◌∷◌, ◌++◌, length, set, Contains}
-use Rattle.std.proofs.Common.{slice_get, slice_index, Some, get_or, get_or-set_same, get_or-set_other, refl, sym, ◌∙◌, ap, subst, inl}
+use Rattle.std.proofs.Common.{slice_get, slice_index, Some, get_or-set_same, get_or-set_other, sym, ◌∙◌, ap, subst, inl}
 use Rattle.std.proofs.Common.{inr, arith}
 use Rattle.std.proofs.lemmas.Bool.{cases_eq, true≢false}
 use Rattle.std.proofs.lemmas.List.Elements.{Contains-push, Contains-push_cases, Contains-append_left}

@@ -4,8 +4,7 @@ use Rattle.std.specs.Prelude.{Option, Some, None, Bool, true, false, map}
 use Rattle.bags.specs.declared.point.Point.{Point}
 use Rattle.timetable.specs.declared.network.Footpath.{Footpath}
 use Rattle.timetable.specs.TimetableValue.{TimetableValue}
-use Rattle.bags.specs.Dominance.{IsCovered}
-use Rattle.criteria.specs.Laws.{Rules, Admits}
+use Rattle.criteria.specs.Laws.{Rules}
 use Rattle.fronts.specs.Lists.{IsSound, lists_criterion, entries_of, list_points}
 use Rattle.profile_scan.specs.SetQuery.{SetQueryValue, asked_from}
 use Rattle.profile_scan.specs.Values.{journey_value}

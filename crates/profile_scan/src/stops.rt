@@ -20,10 +20,7 @@ pub struct Stops<C: Criterion> {
 }
 
 impl<C: Criterion> Stops<C> {
-    ghost use Rattle.std.specs.Prelude.{◌≡◌, ◌<◌, [], ◌∷◌, true, OnOk, vec_len, slice_index};
-    ghost use Rattle.criteria.specs.Laws.{Admits};
-    ghost use Rattle.bags.specs.Dominance.{IsCovered};
-    ghost use Rattle.profile_scan.specs.ScanState.{HasStop, points_at};
+    ghost use Rattle.std.specs.Prelude.{◌≡◌, ◌<◌, true, OnOk, vec_len, slice_index};
     ghost use Rattle.profile_scan.specs.Parts.{Boards, BoardsAfter, BoardsAfterEach, CanBoard, CanBoardAfter};
     ghost use Rattle.profile_scan.specs.Parts.{CanBoardAfterEach};
 

@@ -1,5 +1,5 @@
 -- Two criteria at once: a value is a pair of values, and no worse if both parts are no worse.
-use Rattle.std.specs.Prelude.{◌≡◌, ◌&&◌, false}
+use Rattle.std.specs.Prelude.{◌≡◌, ◌&&◌}
 use Rattle.std.specs.Ordering.{is_lt, is_eq, ordering_then, ordering_reverse}
 use Rattle.std.specs.declared.cmp.Ordering.{Ordering}
 use Rattle.std.specs.declared.cmp.Ordering.TheVariants.{Less, Equal, Greater}

@@ -1,7 +1,7 @@
 //! A criterion that a test defines, by which riding makes a value better: so a scan may leave nothing out because of
 //! the points found, and must find journeys that it would otherwise leave out.
 
-ghost use Rattle.std.specs.Prelude.{◌-◌, nat_le, nat_lt, true};
+ghost use Rattle.std.specs.Prelude.{◌-◌, nat_le, nat_lt};
 ghost use Rattle.std.specs.Ordering.{nat_cmp};
 ghost use Rattle.std.specs.Cmp.{nat_cmp_total};
 ghost use Rattle.std.proofs.lemmas.Bool.{le-leb, lt-ltb};
