@@ -8,7 +8,6 @@ use Rattle.std.proofs.lemmas.Option.{slice_get_within, slice_get_past, slice_get
 use Rattle.std.proofs.lemmas.List.{length_push, nil_from_length}
 use Rattle.reasoning.proofs.ListLemmas.{not_in_nil, extends_none, slice_get-front, slice_get-last, slice_get-set_same, slice_get-set_other}
 use Rattle.reasoning.proofs.OptionLemmas.{option_cases}
-use Rattle.reasoning.specs.Lists.{Extends}
 use Rattle.criteria.specs.Laws.{Rules, Admits}
 use Rattle.criteria.specs.declared.arrival_trips.TimeTrips.{TimeTrips}
 use Rattle.bags.specs.Bag.{points_of}
@@ -24,12 +23,11 @@ use Rattle.profile_scan.specs.Steps.{TakesIn, TakesInBut}
 use Rattle.profile_scan.specs.Adding.{label_points, one_way}
 use Rattle.profile_scan.specs.ScanRecords.{IsExit, KeptValue, spelling_of}
 use Rattle.profile_scan.specs.KeptParts.{LabelsTake}
-use Rattle.profile_scan.specs.InLanes.{AreInLanes, CanLeaveLanes, exits_in}
+use Rattle.profile_scan.specs.InLanes.{AreInLanes, CanLeaveLanes}
 use Rattle.profile_scan.specs.ByTrips.{AreBeyond, CanLeaveByTrips, IsFilled, IsInsertedAt, RelabelsByTrips, bag_points, points_beyond, value_by_trips}
 use Rattle.profile_scan.specs.declared.by_trips.Beyond.{Beyond}
 use Rattle.profile_scan.specs.declared.by_trips.ByTrips.{ByTrips}
 use Rattle.profile_scan.specs.declared.hop.Hop.{Hop}
-use Rattle.profile_scan.specs.declared.in_lanes.InLanes.{InLanes}
 use Rattle.profile_scan.specs.declared.in_lanes.LaneExit.{LaneExit}
 use Rattle.profile_scan.specs.declared.in_lanes.LaneExit.TheVariants.{ChangesToStep as ToStep}
 use Rattle.profile_scan.specs.declared.scan_records.Exit.TheVariants.{Changes}
@@ -139,12 +137,13 @@ filled_now stops trips old new some are none labels points = record {
 -- a label of a trip is put in, with its exit
 module _ (q : SetQueryValue) (hop : Hop TimeTrips) (old : ByTrips) (can : CanLeaveByTrips q hop old) (filled : Beyond)
     (fills : IsFilled (stops_of old.lanes.stops) (trips_of old.lanes.trips) old.beyond filled) (value : TimeTrips) (tag step : ℕ)
-    (admitted : Admits trip_rules value) (tag_is : tag ≡ 8 * length old.lanes.exits.items) (beyond : Beyond) (exits : Vec LaneExit) (stands : Bool)
+    (admitted : Admits trip_rules value) (tag_is : tag ≡ 8 * length old.lanes.exits.items) (beyond : Beyond) (stands : Bool)
     (same_points : beyond.points ≡ filled.points)
     (inserted : IsInsertedAt trip_rules hop.connection.trip (record { departure = 0; value = value; tag = tag }) stands filled.labels.items
     beyond.labels.items) where
-  abbrev new : ByTrips
-  new = record { lanes = record { trips = old.lanes.trips; stops = old.lanes.stops; exits = exits; bound = old.lanes.bound }; beyond = beyond }
+  abbrev with_exits : Vec LaneExit → ByTrips
+  with_exits exits =
+      record { lanes = record { trips = old.lanes.trips; stops = old.lanes.stops; exits = exits; bound = old.lanes.bound }; beyond = beyond }
 
   abbrev trip : ℕ
   trip = hop.connection.trip
@@ -167,12 +166,15 @@ module _ (q : SetQueryValue) (hop : Hop TimeTrips) (old : ByTrips) (can : CanLea
   points_same : (stop : ℕ) → points_beyond beyond.points.items stop ≡ points_beyond old.beyond.points.items stop
   points_same stop = ap (λ (ps : Vec _). points_beyond ps.items stop) same_points ∙ fills.points stop
 
-  others_same : (k : ℕ) → k ≢ trip → (value_by_trips new).labels k ≡ (value_by_trips old).labels k
+  abbrev labels : ℕ → List (Point TimeTrips)
+  labels k = label_points (labels_at old.lanes.trips k) ++ points_beyond beyond.labels.items k
+
+  others_same : (k : ℕ) → k ≢ trip → labels k ≡ (value_by_trips old).labels k
   others_same k other = ap (λ ps. label_points (labels_at old.lanes.trips k) ++ ps) (inserted.elsewhere k other ∙ fills.labels k)
 
   -- as far as the tag fits
   one_taken : (fits : ℕ → Type 0) → (stands ≡ true → fits tag)
-      → TakesInBut trip_rules (λ _. ⊥) (one_way 0 value fits) ((value_by_trips old).labels trip) ((value_by_trips new).labels trip)
+      → TakesInBut trip_rules (λ _. ⊥) (one_way 0 value fits) ((value_by_trips old).labels trip) (labels trip)
   one_taken fits named =
       let olds = points_beyond old.beyond.labels.items trip in
       let news = points_beyond beyond.labels.items trip in
@@ -185,46 +187,38 @@ module _ (q : SetQueryValue) (hop : Hop TimeTrips) (old : ByTrips) (can : CanLea
   abbrev OneWay : KeptValue TimeTrips → KeptValue TimeTrips → Type 0
   OneWay = LabelsTake trip_rules trip (λ _. ⊥) (λ tags. one_way 0 value (IsExit tags (Changes hop.place step)))
 
-  bags_same : (stop : ℕ) → (value_by_trips new).bag stop ≡ (value_by_trips old).bag stop
+  relabels : (exits : Vec LaneExit) → AreInLanes (stops_of old.lanes.stops) (trips_of old.lanes.trips) hop.bound.now (with_exits exits).lanes
+      → OneWay (value_by_trips old) (value_by_trips (with_exits exits)) → RelabelsByTrips hop.bound.now OneWay old (with_exits exits)
+  relabels exits are takes =
+      record { are = record { in_lanes = are; beyond = are_beyond }; stops = refl; points = points_same; bags = bags_more; takes = takes }
+
+  bags_same : (stop : ℕ) → points_at old.lanes.stops stop ++ points_beyond beyond.points.items stop ≡ (value_by_trips old).bag stop
   bags_same stop = ap (λ ps. points_at old.lanes.stops stop ++ ps) (points_same stop)
 
-  pub label_stands : exits.items ≡ old.lanes.exits.items ++ ToStep hop.place step ∷ [] → RelabelsByTrips hop.bound.now OneWay old new
-  label_stands pushed = record {
-    are = record { in_lanes = still_are q hop old.lanes lanes_can old.lanes.trips exits (ToStep hop.place step) pushed tt refl; beyond = are_beyond };
-    stops = refl;
-    points = points_same;
-    bags = bags_more;
-    takes = record {
-      exits = exits_more (tags_at old.lanes.stops) old.lanes.exits.items exits.items (ToStep hop.place step) pushed;
-      steps = refl;
-      bags = bags_same;
-      other_trips = others_same;
-      takes = λ walks set_outs before all first_grows then_grows.
-          let none_more : tag + 0 ≡ tag = omega arith in
-          let fits = IsExit (from_to (spelling_of walks before) (spelling_of walks all)) (Changes hop.place step) in
-          one_taken fits (λ _. subst fits none_more
-          (lane_spelled q hop old.lanes lanes_can old.lanes.trips exits (ToStep hop.place step) pushed tt walks set_outs before all first_grows then_grows tag 0
-          tag_is (omega arith)));
-    };
-  }
+  pub label_stands : (exits : Vec LaneExit) → exits.items ≡ old.lanes.exits.items ++ ToStep hop.place step ∷ []
+      → RelabelsByTrips hop.bound.now OneWay old (with_exits exits)
+  label_stands exits pushed =
+      relabels exits (still_are q hop old.lanes lanes_can old.lanes.trips exits (ToStep hop.place step) pushed tt refl) (record {
+        exits = exits_more (tags_at old.lanes.stops) old.lanes.exits.items exits.items (ToStep hop.place step) pushed;
+        steps = refl;
+        bags = bags_same;
+        other_trips = others_same;
+        takes = λ walks set_outs before all first_grows then_grows.
+            let none_more : tag + 0 ≡ tag = omega arith in
+            let fits = IsExit (from_to (spelling_of walks before) (spelling_of walks all)) (Changes hop.place step) in
+            one_taken fits (λ _. subst fits none_more
+            (lane_spelled q hop old.lanes lanes_can old.lanes.trips exits (ToStep hop.place step) pushed tt walks set_outs before all first_grows then_grows
+            tag 0 tag_is (omega arith)));
+      })
 
-  pub label_falls : stands ≡ false → exits ≡ old.lanes.exits → RelabelsByTrips hop.bound.now OneWay old new
-  label_falls falls same = record {
-    are = record {
-      in_lanes = subst (λ (lanes : InLanes). AreInLanes (stops_of old.lanes.stops) (trips_of old.lanes.trips) hop.bound.now lanes)
-          (ap (λ es. record { trips = old.lanes.trips; stops = old.lanes.stops; exits = es; bound = old.lanes.bound }) (sym same)) can.are.in_lanes;
-      beyond = are_beyond;
-    };
-    stops = refl;
-    points = points_same;
-    bags = bags_more;
-    takes = record {
-      exits = subst (λ (es : Vec LaneExit). Extends (value_by_trips old).exits (exits_in (tags_at old.lanes.stops) es.items)) (sym same)
-          (extends_none (value_by_trips old).exits);
-      steps = refl;
-      bags = bags_same;
-      other_trips = others_same;
-      takes = λ walks set_outs before all first_grows then_grows.
-          one_taken (IsExit (from_to (spelling_of walks before) (spelling_of walks all)) (Changes hop.place step)) (λ is. absurd (true≢false (sym is ∙ falls)));
-    };
-  }
+  pub label_falls : stands ≡ false → RelabelsByTrips hop.bound.now OneWay old (with_exits old.lanes.exits)
+  label_falls falls =
+      relabels old.lanes.exits can.are.in_lanes (record {
+        exits = extends_none (value_by_trips old).exits;
+        steps = refl;
+        bags = bags_same;
+        other_trips = others_same;
+        takes = λ walks set_outs before all first_grows then_grows.
+            one_taken (IsExit (from_to (spelling_of walks before) (spelling_of walks all)) (Changes hop.place step))
+            (λ is. absurd (true≢false (sym is ∙ falls)));
+      })

@@ -5,10 +5,10 @@ use Rattle.std.proofs.lemmas.Bool.{and_parts, cases_lt, ltb-true}
 use Rattle.std.proofs.lemmas.List.{map-append, take_more}
 use Rattle.std.proofs.lemmas.List.Folds.{list_any_at}
 use Rattle.std.proofs.lemmas.Option.{get_or_from_slice_get, none-some, same_Some, slice_get_past, slice_get_read, slice_get_within}
-use Rattle.std.proofs.lemmas.List.Elements.{Contains-append_cases, Contains-append_left, Contains-append_right}
+use Rattle.std.proofs.lemmas.List.Elements.{Contains-append_cases}
 use Rattle.reasoning.proofs.ListLemmas.{not_in_nil}
 use Rattle.reasoning.proofs.OptionLemmas.{option_cases}
-use Rattle.criteria.specs.Laws.{Rules, Admits, IsTime, time_limit}
+use Rattle.criteria.specs.Laws.{Admits, IsTime, time_limit}
 use Rattle.criteria.specs.TimeTripsLaws.{trips_admitted}
 use Rattle.criteria.specs.declared.arrival_trips.TimeTrips.{TimeTrips}
 use Rattle.bags.specs.declared.bag.Bag.{Bag}
@@ -26,7 +26,6 @@ use Rattle.lanes.proofs.EntryLemmas.{from_map, into_map}
 use Rattle.profile_scan.specs.Values.{started}
 use Rattle.profile_scan.specs.SetQuery.{SetQueryValue, asked_from}
 use Rattle.profile_scan.specs.Matching.{Spellings, from_to}
-use Rattle.profile_scan.specs.Points.{Covers}
 use Rattle.profile_scan.specs.Steps.{MaySetOut, SettingOut, TakesIn, settings_out}
 use Rattle.profile_scan.specs.Bound.{Excludes, ExcludesMore}
 use Rattle.profile_scan.specs.Adding.{label_points}
@@ -83,77 +82,22 @@ admits_kept stops trips values kept are =
           ];
     }
 
--- a point with the value and the tag of another, whatever they depart
-pub record IsAlike {V : Type 0} (points : List (Point V)) (q : Point V) : Type 0 where
-  pub of : Point V
-  pub there : Contains points of
-  pub worth : of.value ≡ q.value
-  pub tagged : of.tag ≡ q.tag
+-- a point that departs at 0
+abbrev at_zero : Point TimeTrips → Point TimeTrips
+at_zero p = record { departure = 0; value = p.value; tag = p.tag }
 
--- these points and those have the same values with the same tags
-pub record AreAlike {V : Type 0} (points others : List (Point V)) : Type 0 where
-  pub first : (q : Point V) → Contains points q → IsAlike others q
-  pub second : (q : Point V) → Contains others q → IsAlike points q
-
--- the labels of a trip
-module _ (kept : ByTrips) (trip : ℕ) where
-  abbrev lane : List (Label TimeTrips)
-  lane = labels_at kept.lanes.trips trip
-
-  abbrev beyond : List (Point TimeTrips)
-  beyond = points_beyond kept.beyond.labels.items trip
-
-  abbrev as_label : Point TimeTrips → Label TimeTrips
-  as_label p = record { value = p.value; tag = p.tag }
-
-  read_alike : (q : Point TimeTrips) (l : Label TimeTrips) → as_point l ≡ q → Contains lane l ⊎ Contains (point_labels beyond) l
-      → IsAlike ((value_by_trips kept).labels trip) q
-  read_alike q l is (inl in_lane) = record {
-    of = as_point l;
-    there = Contains-append_left (label_points lane) beyond (as_point l) (into_map as_point lane l in_lane);
-    worth = ap (λ (p : Point TimeTrips). p.value) is;
-    tagged = ap (λ (p : Point TimeTrips). p.tag) is;
-  }
-  read_alike q l is (inr in_beyond) =
-      let p = from_map as_label beyond l in_beyond in
-      record {
-        of = p.0;
-        there = Contains-append_right (label_points lane) beyond p.0 p.1;
-        worth = ap (λ (x : Label TimeTrips). x.value) p.2 ∙ ap (λ (p : Point TimeTrips). p.value) is;
-        tagged = ap (λ (x : Label TimeTrips). x.tag) p.2 ∙ ap (λ (p : Point TimeTrips). p.tag) is;
-      }
-
-  write_alike : (q : Point TimeTrips) → Contains (label_points lane) q ⊎ Contains beyond q → IsAlike (label_points (labels_by_trips kept trip)) q
-  write_alike q (inl in_lane) =
-      let l = from_map as_point lane q in_lane in
-      record {
-        of = as_point l.0;
-        there = into_map as_point (labels_by_trips kept trip) l.0 (Contains-append_left lane (point_labels beyond) l.0 l.1);
-        worth = ap (λ (p : Point TimeTrips). p.value) l.2;
-        tagged = ap (λ (p : Point TimeTrips). p.tag) l.2;
-      }
-  write_alike q (inr in_beyond) = record {
-    of = as_point (as_label q);
-    there = into_map as_point (labels_by_trips kept trip) (as_label q)
-        (Contains-append_right lane (point_labels beyond) (as_label q) (into_map as_label beyond q in_beyond));
-    worth = refl;
-    tagged = refl;
-  }
-
-  pub labels_alike : AreAlike (label_points (labels_by_trips kept trip)) ((value_by_trips kept).labels trip)
-  labels_alike = record {
-    first = λ q is.
-        let l = from_map as_point (labels_by_trips kept trip) q is in
-        read_alike q l.0 l.2 (Contains-append_cases lane (point_labels beyond) l.0 l.1);
-    second = λ q is. write_alike q (Contains-append_cases (label_points lane) beyond q is);
-  }
+-- the labels read of a trip are its labels, which then depart at 0
+read_at_zero : (lane : List (Label TimeTrips)) (beyond : List (Point TimeTrips))
+    → label_points (lane ++ point_labels beyond) ≡ map at_zero (label_points lane ++ beyond)
+read_at_zero [] [] = refl
+read_at_zero [] (p ∷ ps) = ap (λ xs. at_zero p ∷ xs) (read_at_zero [] ps)
+read_at_zero (l ∷ ls) ps = ap (λ xs. as_point l ∷ xs) (read_at_zero ls ps)
 
 -- to who sets out only the values and tags of labels matter
-module _ {V : Type 0} (rules : Rules V) (t : TimetableValue) (tags : Spellings) (i : ℕ) (q : SetQueryValue) (labels others : List (Point V))
-    (alike : AreAlike labels others) where
-  by_other : (all : List (Point V)) (way : SettingOut V) → (l : Point V) → Contains all l → (some : List (Point V)) → MaySetOut t q i some way
+module _ (t : TimetableValue) (tags : Spellings) (i : ℕ) (q : SetQueryValue) (labels : List (Point TimeTrips)) where
+  by_other : (way : SettingOut TimeTrips) (l : Point TimeTrips) (all some : List (Point TimeTrips)) → Contains all l → MaySetOut t q i some way
       → MaySetOut t q i all (record { start = way.start; label = l })
-  by_other all way l there some may = record {
+  by_other way l all some there may = record {
     boards = may.boards;
     source = may.source;
     is_source = may.is_source;
@@ -165,23 +109,21 @@ module _ {V : Type 0} (rules : Rules V) (t : TimetableValue) (tags : Spellings) 
     is_label = there;
   }
 
-  pub sets_out_alike : (old new : List (Point V)) → TakesIn rules (settings_out rules t q tags i labels) old new
-      → TakesIn rules (settings_out rules t q tags i others) old new
-  sets_out_alike old new takes =
-      takes_as rules (settings_out rules t q tags i labels) (settings_out rules t q tags i others) old new
+  sets_out_at_zero : (old new : List (Point TimeTrips)) → TakesIn trip_rules (settings_out trip_rules t q tags i (map at_zero labels)) old new
+      → TakesIn trip_rules (settings_out trip_rules t q tags i labels) old new
+  sets_out_at_zero old new takes =
+      takes_as trip_rules (settings_out trip_rules t q tags i (map at_zero labels)) (settings_out trip_rules t q tags i labels) old new
       (λ way may.
-      let l = alike.first way.label may.is_label in
+      let l = from_map at_zero labels way.label may.is_label in
       record {
-        there = record { start = way.start; label = l.of };
-        is_open = by_other others way l.of l.there labels may;
+        there = record { start = way.start; label = l.0 };
+        is_open = by_other way l.0 labels (map at_zero labels) l.1 may;
         departs = refl;
-        worth = ap (λ v. started rules way.start (rules.ride v)) (sym l.worth);
-        fits = λ tag h x e. h x (ap tags.earlier.aboard (sym l.tagged) ∙ e);
+        worth = ap (λ (p : Point TimeTrips). started trip_rules way.start (trip_rules.ride p.value)) (sym l.2);
+        fits = λ tag h x e. h x (ap (λ (p : Point TimeTrips). tags.earlier.aboard p.tag) (sym l.2) ∙ e);
       })
-      (λ way may.
-      let l = alike.second way.label may.is_label in
-      subst (λ v. Covers rules new ((settings_out rules t q tags i others).departure way) (started rules way.start (rules.ride v))) l.worth
-      (takes.covered (record { start = way.start; label = l.of }) (by_other labels way l.of l.there others may)))
+      (λ way may. takes.covered (record { start = way.start; label = at_zero way.label })
+      (by_other way (at_zero way.label) (map at_zero labels) labels (into_map at_zero labels way.label may.is_label) may))
       takes
 
 -- labels and points are counted as before
@@ -232,9 +174,13 @@ module _ {O : Type 0} (t : TimetableValue) (sources : List ℕ → ℕ → List 
   went_on old new from to set_outs sets_out boards =
       goes_on trip_rules t sources kept q hop (value_by_trips old) (value_by_trips new) from to set_outs
       (λ index exits steps before all first_grows then_grows.
-      sets_out_alike trip_rules t (from_to (spelling_of t.footpaths before) (spelling_of t.footpaths all)) hop.place (asked_from sources q index)
-      (label_points (labels_by_trips old hop.connection.trip)) ((value_by_trips old).labels hop.connection.trip) (labels_alike old hop.connection.trip)
-      (kept from index).found (kept to index).found (sets_out index exits steps before all first_grows then_grows))
+      let tags = from_to (spelling_of t.footpaths before) (spelling_of t.footpaths all) in
+      let asked = asked_from sources q index in
+      let trip = hop.connection.trip in
+      sets_out_at_zero t tags hop.place asked ((value_by_trips old).labels trip) (kept from index).found (kept to index).found
+      (subst (λ ls. TakesIn trip_rules (settings_out trip_rules t asked tags hop.place ls) (kept from index).found (kept to index).found)
+      (read_at_zero (labels_at old.lanes.trips trip) (points_beyond old.beyond.labels.items trip))
+      (sets_out index exits steps before all first_grows then_grows)))
       boards.takes
 
 -- the label of one more point
@@ -349,8 +295,9 @@ can_renew stops trips older values kept are admitted excludes = record {
 pub labels_admitted : (stops trips : ℕ) (values : List TimeTrips) (kept : ByTrips) → AreByTrips stops trips values kept → (trip : ℕ)
     → (p : Point TimeTrips) → Contains (label_points (labels_by_trips kept trip)) p → Admits trip_rules p.value
 labels_admitted stops trips values kept are trip p is =
-    let of = (labels_alike kept trip).first p is in
-    subst (Admits trip_rules) of.worth ((admits_kept stops trips values kept are).labels trip of.of of.there)
+    let of = from_map at_zero ((value_by_trips kept).labels trip) p
+    (subst (λ ls. Contains ls p) (read_at_zero (labels_at kept.lanes.trips trip) (points_beyond kept.beyond.labels.items trip)) is) in
+    subst (λ (x : Point TimeTrips). Admits trip_rules x.value) of.2 ((admits_kept stops trips values kept are).labels trip of.0 of.1)
 
 -- at first nothing is kept
 pub nothing_kept : (stops trips : ℕ) (kept : ByTrips) → AreStopLanes kept.lanes.stops → stops_of kept.lanes.stops ≡ stops

@@ -37,9 +37,8 @@ impl InLanes {
     ghost use Rattle.std.specs.Prelude.{◌≡◌, true, IfOk, OnOk};
     ghost use Rattle.profile_scan.specs.SetQuery.{question};
     ghost use Rattle.profile_scan.specs.InLanes.{CanBoardLanes, CanBoardLanesEach, CanLeaveLanes};
-    ghost use Rattle.profile_scan.specs.InLanes.{CanBoardHop, LaneBoards, LaneTakes};
-    ghost use Rattle.profile_scan.specs.InLanes.{changes_but_eight, changes_in_lanes};
-    ghost use Rattle.profile_scan.specs.InLanes.{value_of};
+    ghost use Rattle.profile_scan.specs.InLanes.{CanBoardHop, LaneBoards, LaneTakes, changes_in_lanes};
+    ghost use Rattle.profile_scan.specs.InLanes.{changes_but_eight, value_of};
     ghost use Rattle.profile_scan.specs.KeptParts.{boards_after, boards_after_each, boards_all, takes_endings};
     ghost use Rattle.lanes.specs.Lanes.{trip_rules};
     ghost use Rattle.lanes.specs.StopLanes.{IsFrontFrom, stops_of};

@@ -51,7 +51,7 @@ returns-in_ok-append c =
     label_stands (question c.args.asked.now.query) c.args.hop.now old c.requires.can c.fill.new.self
     (filled (goal.at.returns-in_ok-append c).After-insert_at) c.args.value c.in_ok-tag.tag c.args.step c.requires.admitted
     (c.in_ok-tag.ensures.0 ∙ ap (λ n. 8 * n) (c.len.ensures ∙ old.lanes.exits.ok.0))
-    (record { labels = c.insert_at.new.bags; points = c.fill.new.self.points }) c.append.new.items c.in_ok-stands.stands refl c.in_ok-stands.ensures
+    (record { labels = c.insert_at.new.bags; points = c.fill.new.self.points }) c.in_ok-stands.stands refl c.in_ok-stands.ensures c.append.new.items
     c.in_ok-append.ensures.added
 
 pub returns-else-stands : goal.returns-else-stands
@@ -60,5 +60,4 @@ returns-else-stands c =
     label_falls (question c.args.asked.now.query) c.args.hop.now old c.requires.can c.fill.new.self
     (filled (goal.at.returns-else-stands c).After-insert_at) c.args.value c.in_ok-tag.tag c.args.step c.requires.admitted
     (c.in_ok-tag.ensures.0 ∙ ap (λ n. 8 * n) (c.len.ensures ∙ old.lanes.exits.ok.0))
-    (record { labels = c.insert_at.new.bags; points = c.fill.new.self.points }) old.lanes.exits c.in_ok-stands.stands refl c.in_ok-stands.ensures
-    c.if-stands.false refl
+    (record { labels = c.insert_at.new.bags; points = c.fill.new.self.points }) c.in_ok-stands.stands refl c.in_ok-stands.ensures c.if-stands.false
