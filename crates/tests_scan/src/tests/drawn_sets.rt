@@ -176,7 +176,7 @@ fn answer_of<C: ShowsFigures + Scanned>(
 }
 
 /// Asserts that one scan for each target gives what an answer tells.
-fn assert_as_by_targets<C: ShowsFigures>(
+fn assert_as_by_targets<C: ShowsFigures + Scanned>(
     rt: &impl Abort,
     alloc: Global,
     image: &Verified,
@@ -194,7 +194,7 @@ fn assert_as_by_targets<C: ShowsFigures>(
 }
 
 /// The answer to a question by one scan for each target, if it can be asked.
-fn answer_by_each_target<C: ShowsFigures>(
+fn answer_by_each_target<C: ShowsFigures + Scanned>(
     alloc: Global,
     image: &Verified,
     criterion: &C,
