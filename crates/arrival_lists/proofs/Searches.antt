@@ -5,7 +5,8 @@ use Rattle.std.proofs.lemmas.Bool.{cases_lt}
 use Rattle.std.proofs.lemmas.List.{map-append}
 use Rattle.std.proofs.lemmas.List.Elements.{Contains-append_left, Contains-append_cases, Contains-push}
 use Rattle.std.proofs.lemmas.Option.{slice_get_within, same_Some}
-use Rattle.reasoning.proofs.ListLemmas.{not_in_nil, contains_first, contains_rest, contains_cases, contains_only, contains_at, slice_get-append, slice_get-front, slice_get-middle, at_contains}
+use Rattle.reasoning.proofs.ListLemmas.{not_in_nil, contains_first, contains_rest, contains_cases, contains_only, contains_at}
+use Rattle.reasoning.proofs.ListLemmas.{slice_get-append, slice_get-front, slice_get-middle, at_contains}
 use Rattle.bags.specs.declared.point.Point.{Point}
 use Rattle.arrival_lists.specs.Lists.{AreAllPassed, AreEntries, AreSorted, IsBestFrom, IsFirstOf, IsLate, Precedes}
 use Rattle.arrival_lists.specs.Lists.{as_point, entries_of, list_points, never, point_of, points_from}
