@@ -449,7 +449,8 @@ module _ (hop : Hop ℕ) (walk_index : ℕ) (walk : Footpath) (ride : RiddenLabe
               takes_but arrival_rules (λ _. ⊥) (Boardings stop spell) ((value_by_arrival old).bag stop) ((value_by_arrival after).bag stop)
               (subst (λ hs. TakesIn arrival_rules (Boardings stop spell) ((value_by_arrival old).bag stop) (list_points lists (slice_index hs stop))) heads_are
               (boarded_at (λ (_ : ℕ). arrival_rules) 0 0 refl (ridden_point ride ∷ []) walks (ride ∷ []) (alone ride) (list_points old.lists)
-              (list_points lists) heads (length (entries_of old.lists)) (heads_below old can.are) same (steps_of lists) walk number hop.place hop.connection.dep first.head f.head
+              (list_points lists) heads (length (entries_of old.lists)) (heads_below old can.are) same (steps_of lists) walk number hop.place hop.connection.dep
+              first.head f.head
               (omega (arith, long, stop_in)) fits (subst (λ n. slice_get walks n ≡ Some walk) (sym number_is) at)
               (sym (head_at old.firsts.items walk.from first there))
               (takes_ridden (steps_of lists) (hop.connection.dep - walk.secs) hop.place number walk.secs ride (list_points old.lists first.head)
