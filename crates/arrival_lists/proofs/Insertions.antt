@@ -33,6 +33,7 @@ empty_alone lists e is departs arrives tag =
       times = λ m x at. let in_range = slice_get_within (entries_of lists) (suc m) x at in absurd (omega (arith, in_range, long));
     } in
     record {
+      alone = long;
       sound = sound;
       empty = none_at_end (entries_of lists) sound;
       first = record {
@@ -112,6 +113,21 @@ module _ (old : ArrivalLists) (first : FirstPoint) (has : HasFirst old first) (d
       let d = ap (λ (f : FirstPoint). f.departure) has.is.is in
       let t = ap (λ (f : FirstPoint). f.time) has.is.is in
       taken_already first.head has.is.entry has.is.at (λ p h. h) (omega (arith, late, d)) (omega (arith, soon, t))
+
+  -- a point of the list that departs no earlier arrives no earlier than the first late entry
+  pub not_reached : (m : ℕ) (e : Entry) → slice_get (entries_of old) m ≡ Some e
+      → ((p : Point ℕ) → Contains (list_points old first.head) p → departure ≤ p.departure → Contains (points_from (entries_of old) m) p)
+      → time < e.time → Reaches (list_points old first.head) departure time → ⊥
+  not_reached m e at all news r =
+      let least = (low (entries_of old) has.sound m e at r.0 (all r.0 r.1 r.2)).1 in
+      let soon = r.3 in
+      omega (arith, least, soon, news)
+
+  -- the same of the first
+  pub news_by_first : time < first.time → Reaches (list_points old first.head) departure time → ⊥
+  news_by_first news r =
+      let t = ap (λ (f : FirstPoint). f.time) has.is.is in
+      not_reached first.head has.is.entry has.is.at (λ p h late. h) (omega (arith, news, t)) r
 
   -- the list begins later: the point may be put before it
   pub may_ahead : departure ≤ first.departure → time < first.time → MayPut old (point_before departure time step first.head (length (entries_of old)))

@@ -8,7 +8,7 @@ use Rattle.std.proofs.lemmas.Option.{slice_get_within, same_Some}
 use Rattle.reasoning.proofs.ListLemmas.{not_in_nil, contains_first, contains_rest, contains_cases, contains_only, contains_at}
 use Rattle.reasoning.proofs.ListLemmas.{slice_get-append, slice_get-front, slice_get-middle, at_contains}
 use Rattle.bags.specs.declared.point.Point.{Point}
-use Rattle.arrival_lists.specs.Lists.{AreAllPassed, AreEntries, AreSorted, IsBestFrom, IsFirstOf, IsLate, Precedes}
+use Rattle.arrival_lists.specs.Lists.{AreAllPassed, AreEntries, AreSorted, IsBestFrom, IsFirstFrom, IsFirstOf, IsLate, Precedes}
 use Rattle.arrival_lists.specs.Lists.{as_point, entries_of, list_points, never, point_of, points_from}
 use Rattle.arrival_lists.specs.declared.arrival_lists.ArrivalLists.{ArrivalLists}
 use Rattle.reasoning.specs.Lists.{Extends}
@@ -71,19 +71,26 @@ best_of entries are head time m late e at = record {
   least = λ p h then. (low entries are m e at p (late.all p h then)).1;
 }
 
--- if the list begins late, its first point is
-pub best_first : (entries : List Entry) → AreEntries entries → (time : ℕ) (first : FirstPoint) (e : Entry) → slice_get entries first.head ≡ Some e
-    → first ≡ record { time = e.time; departure = e.departure; tag = e.tag; head = first.head } → time ≤ first.departure
-    → IsBestFrom (points_from entries first.head) time first
-best_first entries are time first e at is late =
-    let departs = ap (λ (f : FirstPoint). f.departure) is in
-    subst (IsBestFrom (points_from entries first.head) time) (sym is)
-    (best_of entries are first.head time first.head (record {
-      within = slice_get_within entries first.head e at;
-      late = λ f there. subst (λ (x : Entry). time ≤ x.departure) (same_Some e f (sym at ∙ there)) (omega (arith, late, departs));
-      only = λ p h. h;
-      all = λ p h then. h;
-    }) e at)
+pub best_from : (lists : ArrivalLists) → AreEntries (entries_of lists) → (head time : ℕ) (first : FirstPoint) → IsFirstFrom lists head time first
+    → IsBestFrom (list_points lists head) time first
+best_from lists are head time first from =
+    subst (IsBestFrom (list_points lists head) time) (sym from.is_first.is)
+    (best_of (entries_of lists) are head time first.head from.late from.is_first.entry from.is_first.at)
+
+-- if a list begins late, its first point is that
+pub late_first : (lists : ArrivalLists) (time : ℕ) (first : FirstPoint) → IsFirstOf lists first.head first → time ≤ first.departure
+    → IsFirstFrom lists first.head time first
+late_first lists time first is late =
+    let departs = ap (λ (f : FirstPoint). f.departure) is.is in
+    record {
+      is_first = is;
+      late = record {
+        within = slice_get_within (entries_of lists) first.head is.entry is.at;
+        late = λ f there. subst (λ (x : Entry). time ≤ x.departure) (same_Some is.entry f (sym is.at ∙ there)) (omega (arith, late, departs));
+        only = λ p h. h;
+        all = λ p h then. h;
+      };
+    }
 
 -- a list's first point arrives no later than any
 pub first_least : (lists : ArrivalLists) → AreEntries (entries_of lists) → (first : FirstPoint) → IsFirstOf lists first.head first

@@ -75,6 +75,7 @@ pub record HasFirst (lists : ArrivalLists) (first : FirstPoint) : Type 0 where
 
 -- there is only the empty list
 pub record IsEmptyAlone (lists : ArrivalLists) : Type 0 where
+  pub alone : length (entries_of lists) ≡ 1
   pub sound : AreEntries (entries_of lists)
   pub empty : list_points lists 0 ≡ []
   pub first : IsFirstOf lists 0 (record { time = never; departure = never; tag = 0; head = 0 })
@@ -93,6 +94,11 @@ pub record IsLate (entries : List Entry) (head time m : ℕ) : Type 0 where
   pub late : (e : Entry) → slice_get entries m ≡ Some e → time ≤ e.departure
   pub only : (p : Point ℕ) → Contains (points_from entries m) p → Contains (points_from entries head) p
   pub all : (p : Point ℕ) → Contains (points_from entries head) p → time ≤ p.departure → Contains (points_from entries m) p
+
+-- the first point of the list of all that depart at a time or later
+pub record IsFirstFrom (lists : ArrivalLists) (head time : ℕ) (first : FirstPoint) : Type 0 where
+  pub is_first : IsFirstOf lists first.head first
+  pub late : IsLate (entries_of lists) head time first.head
 
 -- a list has a point that departs no earlier and arrives no later
 abbrev pub Reaches : List (Point ℕ) → ℕ → ℕ → Type 0

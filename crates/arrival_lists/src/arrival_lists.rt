@@ -18,11 +18,11 @@ pub struct ArrivalLists {
 }
 
 impl ArrivalLists {
-    ghost use Rattle.std.specs.Prelude.{◌≡◌, IfOk, OnOk, MatchResult, length, slice_get};
+    ghost use Rattle.std.specs.Prelude.{◌≡◌, IfOk, OnOk, MatchResult, Ok, length, slice_get};
     ghost use Rattle.criteria.specs.Laws.{IsTime};
-    ghost use Rattle.arrival_lists.specs.Lists.{AreAllPassed, AreMoreLists, HasFirst, HasList, HasTaken, IsBestFrom};
+    ghost use Rattle.arrival_lists.specs.Lists.{AreAllPassed, AreMoreLists, HasFirst, HasList, HasTaken, IsFirstFrom};
     ghost use Rattle.arrival_lists.specs.Lists.{IsEmptyAlone, IsFirstOf, IsJoined, IsLate, IsPut, MayJoin, MayPut};
-    ghost use Rattle.arrival_lists.specs.Lists.{entries_of, list_points, point_before, steps_of};
+    ghost use Rattle.arrival_lists.specs.Lists.{Reaches, entries_of, list_points, point_before, steps_of};
 
     /// Makes the empty list, and no other, with room for what a scan of `expected` connections mostly adds.
     pub fn new(alloc: Global, expected: usize) -> Result<Self, AllocError>
@@ -57,12 +57,12 @@ impl ArrivalLists {
         }
     }
 
-    /// Of the points of a list that depart at a time or later, the one that arrives first, as the first of a list that
-    /// has them all; `first` is the list's first point. Mostly that one departs late enough.
+    /// Of the points of a list that depart at a time or later, the one that arrives first, as the first of the list of
+    /// them all; `first` is the list's first point. Mostly that one departs late enough.
     #[inline(always)]
     pub fn best_from(&self, first: FirstPoint, time: u32) -> FirstPoint
         requires { HasFirst self.now first }
-        ensures { IsBestFrom (list_points self.now first.head) time result }
+        ensures { IsFirstFrom self.now first.head time result }
     {
         if first.departure >= time {
             return first;
@@ -74,7 +74,7 @@ impl ArrivalLists {
     #[inline(never)]
     fn later_from(&self, head: u32, time: u32) -> FirstPoint
         requires { HasList self.now head }
-        ensures { IsBestFrom (list_points self.now head) time result }
+        ensures { IsFirstFrom self.now head time result }
     {
         let index = self.late(head, time);
         self.first_at(index)
@@ -108,9 +108,9 @@ impl ArrivalLists {
         }
     }
 
-    /// Takes a point into a list, given the list's first point, unless a point of the list departs no earlier and
-    /// arrives no later. Returns the first point of the list that has it. All lists stay as they were, also if memory
-    /// runs out; then there is no new one.
+    /// Takes a point into a list, given the list's first point. Returns the first point of the list that has it. All
+    /// lists stay as they were, also if memory runs out; then there is no new one. If a point of the list departs no
+    /// earlier and arrives no later, nothing is added, and no memory is needed.
     #[inline(always)]
     pub fn insert(
         &mut self,
@@ -123,6 +123,8 @@ impl ArrivalLists {
         requires time { IsTime time }
         ensures more { AreMoreLists self.old self.new }
         ensures taken { IfOk result (HasTaken departure time step self.old first.head self.new) }
+        ensures known { Reaches (list_points self.old first.head) departure time
+            → (result ≡ Ok first) × (self.new ≡ self.old) }
     {
         // In most insertions the list begins no earlier, and then no entry has to be passed.
         if first.departure < departure {
@@ -147,6 +149,8 @@ impl ArrivalLists {
         requires time { IsTime time }
         ensures more { AreMoreLists self.old self.new }
         ensures taken { IfOk result (HasTaken departure time step self.old first.head self.new) }
+        ensures known { Reaches (list_points self.old first.head) departure time
+            → (result ≡ Ok first) × (self.new ≡ self.old) }
     {
         let after = self.late(first.head, departure);
         let next = self.entries[after as usize];

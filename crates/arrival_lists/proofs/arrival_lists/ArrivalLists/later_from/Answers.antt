@@ -1,11 +1,17 @@
-use Rattle.std.proofs.Common.{sym, subst}
-use Rattle.arrival_lists.specs.Lists.{IsBestFrom, points_from}
-use Rattle.arrival_lists.proofs.Searches.{best_of}
+use Rattle.std.proofs.Common.{◌∙◌, ap, sym, subst, slice_get}
+use Rattle.arrival_lists.specs.Lists.{IsLate}
+use Rattle.arrival_lists.specs.declared.entry.FirstPoint.{FirstPoint}
 use Rattle.arrival_lists.proofs.arrival_lists.ArrivalLists.later_from.Goals as goal
 
 pub returns : goal.returns
 returns c =
-    let entries = c.args.self.now.entries.items in
     let first = c.first_at.ensures in
-    subst (IsBestFrom (points_from entries c.args.head) c.args.time) (sym first.is)
-    (best_of entries c.requires.sound c.args.head c.args.time c.late-index.result c.late-index.ensures first.entry first.at)
+    let head_is = ap (λ (f : FirstPoint). f.head) first.is in
+    record {
+      is_first = record {
+        entry = first.entry;
+        at = ap (slice_get c.args.self.now.entries.items) head_is ∙ first.at;
+        is = first.is ∙ sym (ap (λ n. record { time = first.entry.time; departure = first.entry.departure; tag = first.entry.tag; head = n }) head_is);
+      };
+      late = subst (IsLate c.args.self.now.entries.items c.args.head c.args.time) (sym head_is) c.late-index.ensures;
+    }
