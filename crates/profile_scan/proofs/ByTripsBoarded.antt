@@ -252,7 +252,8 @@ module _ (hop : Hop TimeTrips) (walk_index : ℕ) (walk : Footpath) (old : ByTri
     labels_first = stays_so can.has (bags_none trip_rules (λ stop tags way opened. let none = opened.0.1 in absurd (omega (arith, none))))
 
     pub labels_next : (n : ℕ) (label : Point TimeTrips) (mid new : ByTrips) → slice_get Labels n ≡ Some label → BoardsSome hop walk boarding old n mid
-        → BoardsBeyond (stops_of mid.lanes.stops) (trips_of mid.lanes.trips) hop (boards_label hop walk boarding label) mid new → BoardsSome hop walk boarding old (n + 1) new
+        → BoardsBeyond (stops_of mid.lanes.stops) (trips_of mid.lanes.trips) hop (boards_label hop walk boarding label) mid new
+        → BoardsSome hop walk boarding old (n + 1) new
     labels_next n label mid new at =
         boards_then (bags_then trip_rules (λ walks are. (are, are)) (λ stop tags.
         each_more trip_rules Labels (boarding_of walk boarding stop tags) (λ l. Excused l.value) n label at

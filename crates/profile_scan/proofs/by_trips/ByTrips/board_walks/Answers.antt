@@ -22,4 +22,5 @@ returns g c =
     let over = c.loop-walk_index-test.false in
     let within = c.loop-walk_index.auto.walk_index-end c.requires.walks.order in
     let at_end : c.loop-walk_index.walk_index ≡ c.args.walks.end = omega arith in
-    subst (λ (n : ℕ). BoardsTo (g.S.ConnSource.timetable c.args.source.now) c.args.hop.now c.args.walks.start n c.args.self.now c.loop-walk_index.self) at_end c.loop-walk_index.invariant
+    subst (λ (n : ℕ). BoardsTo (g.S.ConnSource.timetable c.args.source.now) c.args.hop.now c.args.walks.start n c.args.self.now c.loop-walk_index.self)
+    at_end c.loop-walk_index.invariant
