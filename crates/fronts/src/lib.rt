@@ -1,4 +1,5 @@
-//! Fronts: lists of entries in one vector, each with the front of the points that depart at its time or later.
+//! Fronts: lists of entries in one vector, each with the front of the points that depart at its time or later; and the
+//! labels of trips.
 //!
 //! Entries and items are only pushed, never changed, so the index of an entry names the same list for ever. Entry 0
 //! ends each list.

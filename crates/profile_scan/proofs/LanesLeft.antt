@@ -86,8 +86,8 @@ none_missed hop points old new taken = record {
   stops = taken.stops;
   takes = labels_as trip_rules (λ tags. excused_as trip_rules (λ p. Excludes trip_rules hop.bound.now p.value ⊎ ⊥)
       (λ p. Excludes trip_rules hop.bound.now p.value) (changes_from tags hop.place hop.connection.arr points)
-      (label_points (labels_at old.trips hop.connection.trip)) (label_points (labels_at new.trips hop.connection.trip))
-      (λ way opened was. sure was)) taken.takes;
+      (label_points (labels_at old.trips hop.connection.trip)) (label_points (labels_at new.trips hop.connection.trip)) (λ way opened was. sure was))
+      taken.takes;
 }
 
 module _ (q : SetQueryValue) (hop : Hop TimeTrips) (old : InLanes) (can : CanLeaveLanes q hop old) (trips : TripLanes) (exits : Vec LaneExit) where

@@ -37,8 +37,7 @@ module _ {V : Type 0} (rules : Rules V) where
 
   -- the first of two lists takes an offer in
   pub front_takes : {A : Type 0} {Excused : A → Type 0} {offer : Offer A V} {old new : List (Point V)} (rest : List (Point V))
-      → TakesInBut rules Excused offer old new
-      → TakesInBut rules Excused offer (old ++ rest) (new ++ rest)
+      → TakesInBut rules Excused offer old new → TakesInBut rules Excused offer (old ++ rest) (new ++ rest)
   front_takes {offer = offer} {old = old} {new = new} rest takes = record {
     only = λ p h. elim (Contains-append_cases new rest p h) [
       | inl is ↦ elim (takes.only p is) [ inl was ↦ inl (Contains-append_left old rest p was) | inr o ↦ inr o ]
@@ -56,8 +55,7 @@ module _ {V : Type 0} (rules : Rules V) where
 
   -- the second does
   pub rear_takes : {A : Type 0} {Excused : A → Type 0} {offer : Offer A V} (first : List (Point V)) {old new : List (Point V)}
-      → TakesInBut rules Excused offer old new
-      → TakesInBut rules Excused offer (first ++ old) (first ++ new)
+      → TakesInBut rules Excused offer old new → TakesInBut rules Excused offer (first ++ old) (first ++ new)
   rear_takes {offer = offer} first {old = old} {new = new} takes = record {
     only = λ p h. elim (Contains-append_cases first new p h) [
       | inl is ↦ inl (Contains-append_left first old p is)

@@ -6,12 +6,11 @@
 ghost use Rattle.std.specs.Prelude.{◌≡◌, ◌≤◌, ◌⊎◌, ℕ, Contains, if◌then◌else◌, nat_lt};
 
 use crate::hop::{Hop, ScanQuery};
-use crate::riding::number_of;
 use crate::scan_records::Exit;
 use crate::trips::end_of;
 use arrival_lists::{ArrivalLists, FirstPoint, NEVER};
 use criteria::Arrival;
-use fronts::{Label, RiddenLabel, Step, append};
+use fronts::{Label, RiddenLabel, Step, append, index_of};
 use sources::ConnSource;
 use std::alloc::AllocError;
 use std::ops::Range;
@@ -69,7 +68,7 @@ impl ByArrival {
         if time >= self.labels[trip as usize].value {
             return Ok(());
         }
-        let tag = number_of(self.exits.len())?;
+        let tag = index_of(self.exits.len())?;
         append(&mut self.exits, exit)?;
         self.labels[trip as usize] = Label { value: time, tag };
         Ok(())
@@ -158,7 +157,7 @@ impl ByArrival {
         if covered {
             return Ok(());
         }
-        let number = number_of(walk_index)?;
+        let number = index_of(walk_index)?;
         let step = Step {
             first: hop.place,
             label: ride.label,

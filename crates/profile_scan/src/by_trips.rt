@@ -8,10 +8,9 @@ ghost use Rattle.profile_scan.specs.ByTrips.{IsInsertedAt, points_beyond};
 use crate::bound::any_no_worse;
 use crate::hop::{Hop, ScanQuery};
 use crate::in_lanes::{InLanes, LaneExit, first_tag};
-use crate::riding::number_of;
 use bags::{Bag, Point};
 use criteria::{ArrivalTrips, Criterion, TimeTrips};
-use fronts::{Boarding, append};
+use fronts::{Boarding, append, index_of};
 use sources::ConnSource;
 use std::alloc::{AllocError, Global};
 use std::ops::Range;
@@ -232,7 +231,7 @@ impl ByTrips {
         if any_no_worse(&asked.criterion, hop.bound, &ridden) {
             return Ok(());
         }
-        let step = number_of(point.tag)?;
+        let step = index_of(point.tag)?;
         self.offer_label(asked, hop, point.value, step)
     }
 
@@ -323,7 +322,7 @@ impl ByTrips {
         if walk.secs > dep {
             return Ok(());
         }
-        let number = number_of(walk_index)?;
+        let number = index_of(walk_index)?;
         let boarding = Boarding {
             departure: dep - walk.secs,
             first: hop.place,
@@ -365,7 +364,7 @@ impl ByTrips {
         {
             return Ok(());
         }
-        let number = number_of(label.tag)?;
+        let number = index_of(label.tag)?;
         let tag = self.lanes.stops.next_tag()?;
         let stands = insert_at(
             &mut self.beyond.points,

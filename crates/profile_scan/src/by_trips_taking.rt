@@ -13,11 +13,10 @@ use crate::final_walks::{FinalWalk, final_walk_of};
 use crate::hop::{Hop, ScanQuery};
 use crate::in_lanes::{InLanes, LaneExit};
 use crate::keeping::Keeping;
-use crate::riding::number_of;
 use crate::scan_records::Exit;
 use bags::Bag;
 use criteria::{ArrivalTrips, Criterion, TimeTrips};
-use fronts::{Label, Step};
+use fronts::{Label, Step, index_of};
 use lanes::{StopLanes, TripLanes, Words};
 use sources::ConnSource;
 use std::alloc::{AllocError, Global};
@@ -287,7 +286,7 @@ fn add_points(bag: &Bag<ArrivalTrips>, labels: &mut Vec<Label<TimeTrips>>) -> Re
 {
     for index in 0..bag.len() {
         let point = bag.point(index);
-        let tag = number_of(point.tag)?;
+        let tag = index_of(point.tag)?;
         labels.push(Label {
             value: point.value,
             tag,

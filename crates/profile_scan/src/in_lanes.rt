@@ -3,10 +3,9 @@
 ghost use Rattle.std.specs.Prelude.{◌≡◌, ◌*◌, ◌+◌, ◌≤◌, IfOk};
 
 use crate::hop::{Hop, ScanQuery};
-use crate::riding::number_of;
 use crate::trips::end_of;
 use criteria::{ArrivalTrips, TimeTrips};
-use fronts::{Boarding, append};
+use fronts::{Boarding, append, index_of};
 use lanes::{StopLanes, Taken, TripLanes, Words};
 use sources::ConnSource;
 use std::alloc::AllocError;
@@ -161,7 +160,7 @@ impl InLanes {
         if walk.secs > dep {
             return Ok(());
         }
-        let number = number_of(walk_index)?;
+        let number = index_of(walk_index)?;
         let boarding = Boarding {
             departure: dep - walk.secs,
             first: hop.place,

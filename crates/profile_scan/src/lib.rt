@@ -36,7 +36,8 @@
 //! it names by `Scanned`. `InLists`, whose functions 1 and 3 name, serves any criterion. `ByArrival` is the form of
 //! arrival alone: a trip has one label, and no point of a stop's list arrives earlier than the list's first. So the
 //! first points of all stops are at hand (`FirstPoint`): `ByArrival::change` compares one with the trip's label and
-//! with the bound, and mostly reads nothing else, and so does `ByArrival::board` at each stop that it offers to.
+//! with the bound, and mostly reads nothing else; so does `ByArrival::board`, with the departure, at each stop that it
+//! offers to.
 //! `ByTrips` is the form of arrival and trips. There the *front* of a stop at a time, the points from then on that no
 //! other betters, is nine *lanes*: lane k has the earliest arrival with at most k trips. A trip has eight. So all
 //! values are compared at once: `InLanes::change` lowers a trip's lanes to those of the stop's front, and
@@ -67,8 +68,9 @@
 //! suffices. If the scan stopped at index i, the points found would be right for all journeys whose first connection is
 //! i or later; only `match_is_the_answer` needs the window's start.
 //!
-//! A tag is an index: of a label, into `Trips::exits`; of a stop's point, into the steps of `Stops::lists`; of a point
-//! found, into `Origin::set_outs`, and once it is in `Found`, into its nodes. An offer's tag is the vector's length
+//! A tag is an index: of a label, into `Trips::exits`; of a stop's point, into the steps of `Stops::lists` (by arrival,
+//! into the entries of `ByArrival::lists`); of a point found, into `Origin::set_outs`, and once it is in `Found`, into
+//! its nodes. An offer's tag is the vector's length
 //! before the offer, and the record is pushed only if the offer is accepted. In lanes a record stands for the eight
 //! values of an offer: a tag is eight times the record's index, and the lane. All these vectors only grow while a scan
 //! runs, so a tag keeps its meaning. `spelling_of` (specs/ScanRecords.antt) says what a tag spells; `journey_nodes`

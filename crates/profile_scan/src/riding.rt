@@ -10,19 +10,9 @@ ghost use Rattle.profile_scan.specs.Bound.{survivors, IsBehind, RidesLabel};
 use crate::bound::any_no_worse;
 use bags::Point;
 use criteria::Criterion;
-use fronts::{Label, RiddenLabel};
+use fronts::{Label, RiddenLabel, index_of};
 use std::alloc::AllocError;
 use timetable::Footpath;
-
-/// Returns a tag or an index as a number of 32 bits. Past 2^32 - 1 it fails, as if memory had run out.
-pub fn number_of(tag: usize) -> Result<u32, AllocError>
-    ensures { IfOk result (λ number. number ≡ tag) }
-{
-    if tag > u32::MAX as usize {
-        return Err(AllocError);
-    }
-    Ok(tag as u32)
-}
 
 /// A value with a start, or a last footpath, before it.
 pub fn started<C: Criterion>(criterion: &C, walk: Option<Footpath>, value: &C::V) -> C::V
@@ -92,7 +82,7 @@ fn ride_label<C: Criterion>(
     if any_no_worse(criterion, bound, &value) {
         return Ok(count);
     }
-    let number = number_of(label.tag)?;
+    let number = index_of(label.tag)?;
     let ride = RiddenLabel {
         value,
         label: number,

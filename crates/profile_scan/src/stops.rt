@@ -1,9 +1,9 @@
 //! What a scan keeps for each stop: a list of points. Boarding a connection adds to it.
 
 use crate::hop::{Hop, ScanQuery};
-use crate::riding::{number_of, ride_labels};
+use crate::riding::ride_labels;
 use criteria::Criterion;
-use fronts::{Boarding, FrontLists, Label, RiddenLabel};
+use fronts::{Boarding, FrontLists, Label, RiddenLabel, index_of};
 use sources::ConnSource;
 use std::alloc::AllocError;
 use std::ops::Range;
@@ -50,7 +50,7 @@ impl<C: Criterion> Stops<C> {
         if walk.secs > dep {
             return Ok(());
         }
-        let number = number_of(walk_index)?;
+        let number = index_of(walk_index)?;
         let head = self.head(walk.from);
         let boarding = Boarding {
             departure: dep - walk.secs,

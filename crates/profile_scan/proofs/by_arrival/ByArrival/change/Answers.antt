@@ -1,6 +1,7 @@
 use Rattle.std.proofs.Common.{◌≡◌, Some, length, refl, slice_get, arith}
 use Rattle.std.proofs.lemmas.Option.{slice_get_read}
 use Rattle.std.proofs.lemmas.Result.{on_ok_weaker}
+use Rattle.arrival_lists.proofs.Searches.{best_from}
 use Rattle.profile_scan.proofs.ByArrivalLemmas.{all_excluded, changed_by, no_news}
 use Rattle.profile_scan.proofs.by_arrival.ByArrival.change.Goals.{After-index-label}
 use Rattle.profile_scan.proofs.by_arrival.ByArrival.change.Goals as goal
@@ -35,12 +36,15 @@ pub returns-then-best-self : goal.returns-then-best-self
 returns-then-best-self c =
     let can = c.requires.1 in
     all_excluded c.args.hop.now c.args.self.now can.are can.excludes c.index-first.result.now
-    (first_at (goal.at.returns-then-best-self c).After-index-label) c.best_from-best.result c.best_from-best.ensures (omega (arith, c.if-best-self.true))
+    (first_at (goal.at.returns-then-best-self c).After-index-label) c.best_from-best.result
+    (best_from c.args.self.now.lists c.requires.1.are.sound c.index-first.result.now.head c.args.hop.now.connection.arr c.best_from-best.result
+    c.best_from-best.ensures) (omega (arith, c.if-best-self.true))
 
 pub offer-requires-clause-time : goal.offer-requires-clause-time
 offer-requires-clause-time c =
     let limit = c.requires.1.are.limit in
-    (c.best_from-best.ensures.made_of (omega (arith, limit, c.if-best-self.false))).2
+    ((best_from c.args.self.now.lists c.requires.1.are.sound c.index-first.result.now.head c.args.hop.now.connection.arr c.best_from-best.result
+    c.best_from-best.ensures).made_of (omega (arith, limit, c.if-best-self.false))).2
 
 pub returns : goal.returns
 returns c =
@@ -48,5 +52,7 @@ returns c =
     let limit = can.are.limit in
     on_ok_weaker c.offer.result
     (changed_by c.args.hop.now c.args.self.now can.are can.excludes c.index-first.result.now (first_at (goal.at.returns c).After-index-label)
-    c.best_from-best.result c.best_from-best.ensures (omega (arith, limit, c.if-best-self.false)) c.offer.new.self)
+    c.best_from-best.result
+    (best_from c.args.self.now.lists c.requires.1.are.sound c.index-first.result.now.head c.args.hop.now.connection.arr c.best_from-best.result
+    c.best_from-best.ensures) (omega (arith, limit, c.if-best-self.false)) c.offer.new.self)
     c.offer.ensures
