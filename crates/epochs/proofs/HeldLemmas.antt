@@ -2,7 +2,7 @@
 use Rattle.std.proofs.Common.{◌≡◌, ℕ, List, ◌∷◌, [], Some, ap, sym, ◌∙◌, inl, inr}
 use Rattle.image_layout.specs.Image.{ImageValue}
 use Rattle.epochs.specs.WorkerSeats.{WorkerSeatValue}
-use Rattle.epochs.specs.Pins.{Pins}
+use Rattle.epochs.specs.Pins.{PinsCurrent}
 use Rattle.epochs.specs.History.{TableValue, image_of}
 use Rattle.epochs.specs.TableLaws.{HoldsPublished, TableCall}
 use Rattle.shelf_steps.proofs.Loads.{image_of-append}
@@ -10,7 +10,7 @@ use Rattle.shelf_steps.proofs.Loads.{image_of-append}
 same_images : (before after : List ImageValue) (seat : WorkerSeatValue) → after ≡ before → HoldsPublished before seat → HoldsPublished after seat
 same_images before after seat same h version image held = ap (λ l. image_of l version) same ∙ h version image held
 
-pub pins_hold_published : (a b : TableValue) (seat after : WorkerSeatValue) → Pins a seat b after → HoldsPublished b.images after
+pub pins_hold_published : (a b : TableValue) (seat after : WorkerSeatValue) → PinsCurrent a seat b after → HoldsPublished b.images after
 pins_hold_published a b seat after h version image held =
     let both : Some (a.state.current, h.held.0) ≡ Some (version, image) = sym h.held.2 ∙ held in
     let pair : (a.state.current, h.held.0) ≡ (version, image) = cc in

@@ -119,22 +119,15 @@ module _ {I : Type 0} (room : ℕ) where
       → (0 < total ended_at (slice_set views k w) → waiting_in items_then ≡ []) → IsQueue room items_then (slice_set views k w)
   step views k v w items items_then at h few once last keeps out puts loading takes closes none_out none_waits =
       let t = totals views k v w at in
-      let t_keepers = t.keepers in
-      let t_out = t.out in
-      let t_putters = t.putters in
-      let t_loading = t.loading in
-      let t_takers = t.takers in
-      let t_closings = t.closings in
-      let t_ended = t.ended in
       record {
         few = few;
         once = once;
         last = last;
-        keeper = omega (arith, h.keeper, t_keepers, keeps);
-        putting_are = omega (arith, h.putting_are, t_out, t_putters, out, puts);
-        taking_are = omega (arith, h.taking_are, t_loading, t_takers, loading, takes);
-        closings_are = omega (arith, h.closings_are, t_closings, t_ended, closes);
-        none_putting = λ any. let none = none_out any in omega (arith, none, t_out, out);
+        keeper = omega (arith, h.keeper, t.keepers, keeps);
+        putting_are = omega (arith, h.putting_are, t.out, t.putters, out, puts);
+        taking_are = omega (arith, h.taking_are, t.loading, t.takers, loading, takes);
+        closings_are = omega (arith, h.closings_are, t.closings, t.ended, closes);
+        none_putting = λ any. let none = none_out any in omega (arith, none, t.out, out);
         none_waits = none_waits;
       }
 
@@ -147,13 +140,11 @@ module _ {I : Type 0} (room : ℕ) where
   put_step views k v w item items at h small fresh puts takes keeps out putters loading takers closings ends =
       let longer = length_push items (Message.Item item) in
       let t = totals views k v w at in
-      let t_closings = t.closings in
-      let t_ended = t.ended in
       let same_closings = closes_same items item in
       step views k v w items (items ++ Message.Item item ∷ []) at h (omega (arith, longer, small))
       (once_put views k v w at item items puts takes h.once) (item_last items item (omega (arith, h.closings_are, fresh)) h.last)
       keeps out putters loading takers (omega (arith, closings, ends, same_closings))
-      (λ any. absurd (omega (arith, any, t_closings, closings, fresh))) (λ any. absurd (omega (arith, any, t_ended, ends, h.closings_are, fresh)))
+      (λ any. absurd (omega (arith, any, t.closings, closings, fresh))) (λ any. absurd (omega (arith, any, t.ended, ends, h.closings_are, fresh)))
 
   -- an end puts an item
   puts : (k : ℕ) (items : List I) (tries : ℕ) (item : I)
@@ -179,26 +170,23 @@ module _ {I : Type 0} (room : ℕ) where
   kept_by_taking k items ended (Message.Item item) arrivals views h at =
       let v = EndView.Taking items ended in
       let w = EndView.Taking (items ++ item ∷ []) ended in
-      let few = h.few in
       let t = totals views k v w at in
-      let t_closings = t.closings in
-      let t_ended = t.ended in (
+      (
         w,
-        step views k v w (Message.Item item ∷ arrivals) arrivals at h (omega (arith, few)) (once_taken views k v w at item arrivals refl refl h.once)
-            h.last refl refl refl refl refl (omega arith) (λ any. h.none_putting (omega (arith, any, t_closings)))
-            (λ any. absurd (waits item (waiting_in arrivals) (h.none_waits (omega (arith, any, t_ended))))),
+        step views k v w (Message.Item item ∷ arrivals) arrivals at h (omega (arith, h.few)) (once_taken views k v w at item arrivals refl refl h.once)
+            h.last refl refl refl refl refl (omega arith) (λ any. h.none_putting (omega (arith, any, t.closings)))
+            (λ any. absurd (waits item (waiting_in arrivals) (h.none_waits (omega (arith, any, t.ended))))),
         refl,
       )
   kept_by_taking k items ended Message.Closing arrivals views h at =
       let v = EndView.Taking items ended in
       let w = EndView.Taking items (ended + 1) in
-      let few = h.few in
       let t = totals views k v w at in
-      let t_closings = t.closings in (
+      (
         w,
-        step views k v w (Message.Closing ∷ arrivals) arrivals at h (omega (arith, few))
+        step views k v w (Message.Closing ∷ arrivals) arrivals at h (omega (arith, h.few))
             (once_still views k v w at (Message.Closing ∷ arrivals) arrivals refl refl refl h.once)
-            (nothing_last arrivals h.last) refl refl refl refl refl (omega arith) (λ any. h.none_putting (omega (arith, any, t_closings)))
+            (nothing_last arrivals h.last) refl refl refl refl refl (omega arith) (λ any. h.none_putting (omega (arith, any, t.closings)))
             (λ any. h.last),
         refl,
       )
@@ -212,13 +200,12 @@ module _ {I : Type 0} (room : ℕ) where
       let out = at_keeper putting_at views k view keeper_counts_putters at h.keeper in
       let longer = length_push arrivals Message.Closing in
       let t = totals views k v w at in
-      let t_ended = t.ended in
       let more_closings = closes_more arrivals in (
         w,
         step views k v w arrivals (arrivals ++ Message.Closing ∷ []) at h (omega (arith, longer, small))
             (once_still views k v w at arrivals (arrivals ++ Message.Closing ∷ []) refl refl (waits_same arrivals) h.once)
             (closing_last arrivals h.last) refl refl refl refl refl (omega (arith, more_closings)) (λ any. omega (arith, out, none))
-            (λ any. waits_same arrivals ∙ h.none_waits (omega (arith, any, t_ended))),
+            (λ any. waits_same arrivals ∙ h.none_waits (omega (arith, any, t.ended))),
         refl,
       )
 
@@ -232,13 +219,6 @@ module _ {I : Type 0} (room : ℕ) where
   split views k v w u items at h puts takes none_put none_taken keep ends loaders close ended stays =
       let now = slice_set views k w in
       let t = totals views k v w at in
-      let t_keepers = t.keepers in
-      let t_out = t.out in
-      let t_putters = t.putters in
-      let t_loading = t.loading in
-      let t_takers = t.takers in
-      let t_closings = t.closings in
-      let t_ended = t.ended in
       let keepers_also = counted keeps now u in
       let out_also = counted putting_at now u in
       let putters_also = counted puts_there now u in
@@ -250,16 +230,16 @@ module _ {I : Type 0} (room : ℕ) where
         few = h.few;
         once = once_split now u items none_put none_taken (once_still views k v w at items items puts takes refl h.once);
         last = h.last;
-        keeper = omega (arith, h.keeper, keep, t_keepers, keepers_also);
-        putting_are = omega (arith, h.putting_are, ends, t_out, t_putters, out_also, putters_also);
-        taking_are = omega (arith, h.taking_are, loaders, t_loading, t_takers, loading_also, takers_also);
-        closings_are = omega (arith, h.closings_are, close, ended, t_closings, t_ended, closings_also, ended_also);
+        keeper = omega (arith, h.keeper, keep, t.keepers, keepers_also);
+        putting_are = omega (arith, h.putting_are, ends, t.out, t.putters, out_also, putters_also);
+        taking_are = omega (arith, h.taking_are, loaders, t.loading, t.takers, loading_also, takers_also);
+        closings_are = omega (arith, h.closings_are, close, ended, t.closings, t.ended, closings_also, ended_also);
         none_putting = λ any.
-            let were : 0 < total closings_at views = omega (arith, any, close, t_closings, closings_also) in
+            let were : 0 < total closings_at views = omega (arith, any, close, t.closings, closings_also) in
             let none = h.none_putting were in
             let same = stays were in
-            omega (arith, none, same, t_out, out_also);
-        none_waits = λ any. h.none_waits (omega (arith, any, ended, t_ended, ended_also));
+            omega (arith, none, same, t.out, out_also);
+        none_waits = λ any. h.none_waits (omega (arith, any, ended, t.ended, ended_also));
       }
 
   tries_more : (k : ℕ) (items : List I) (tries : ℕ)
@@ -296,32 +276,18 @@ module _ {I : Type 0} (room : ℕ) where
       → IsQueue room items (slice_set (slice_set views k both) other EndView.Rests)
   comes_back views k other v both w items at apart there h put taken keep putting putters taking takers closings ended =
       let t = totals views k v both at in
-      let t_keepers = t.keepers in
-      let t_out = t.out in
-      let t_putters = t.putters in
-      let t_loading = t.loading in
-      let t_takers = t.takers in
-      let t_closings = t.closings in
-      let t_ended = t.ended in
       let s = totals (slice_set views k both) other w EndView.Rests there in
-      let s_keepers = s.keepers in
-      let s_out = s.out in
-      let s_putters = s.putters in
-      let s_loading = s.loading in
-      let s_takers = s.takers in
-      let s_closings = s.closings in
-      let s_ended = s.ended in
       record {
         few = h.few;
         once = once_back views k other v both w items at apart there put taken h.once;
         last = h.last;
-        keeper = omega (arith, h.keeper, keep, t_keepers, s_keepers);
-        putting_are = omega (arith, h.putting_are, putting, putters, t_out, t_putters, s_out, s_putters);
-        taking_are = omega (arith, h.taking_are, taking, takers, t_loading, t_takers, s_loading, s_takers);
-        closings_are = omega (arith, h.closings_are, closings, ended, t_closings, t_ended, s_closings, s_ended);
+        keeper = omega (arith, h.keeper, keep, t.keepers, s.keepers);
+        putting_are = omega (arith, h.putting_are, putting, putters, t.out, t.putters, s.out, s.putters);
+        taking_are = omega (arith, h.taking_are, taking, takers, t.loading, t.takers, s.loading, s.takers);
+        closings_are = omega (arith, h.closings_are, closings, ended, t.closings, t.ended, s.closings, s.ended);
         none_putting = λ any.
-            let none = h.none_putting (omega (arith, any, closings, t_closings, s_closings)) in omega (arith, none, putting, t_out, s_out);
-        none_waits = λ any. h.none_waits (omega (arith, any, ended, t_ended, s_ended));
+            let none = h.none_putting (omega (arith, any, closings, t.closings, s.closings)) in omega (arith, none, putting, t.out, s.out);
+        none_waits = λ any. h.none_waits (omega (arith, any, ended, t.ended, s.ended));
       }
 
   pub putter_comes_back : (k : ℕ) (view : KeeperView I) (other : ℕ) (items : List I) (tries : ℕ)
@@ -333,11 +299,9 @@ module _ {I : Type 0} (room : ℕ) where
       let both = EndView.Keeping (record view { putting = view.putting - 1; put = view.put ++ items }) in
       let out = at_keeper putting_at views k view keeper_counts_putters at h.keeper in
       let t = totals views k v both at in
-      let t_putters = t.putters in
       let s = totals (slice_set views k both) other w EndView.Rests there in
-      let s_putters = s.putters in
       comes_back views k other v both w arrivals at apart there h refl (sym (append-nil view.taken)) refl
-      (omega (arith, h.putting_are, out, t_putters, s_putters)) refl (omega arith) refl (omega arith) (omega arith)
+      (omega (arith, h.putting_are, out, t.putters, s.putters)) refl (omega arith) refl (omega arith) (omega arith)
 
   pub taker_comes_back : (k : ℕ) (view : KeeperView I) (other : ℕ) (items : List I) (ended : ℕ)
       → Merges {T = Message I} (IsQueue room) k (EndView.Keeping view) other (EndView.Taking items ended)
@@ -348,11 +312,9 @@ module _ {I : Type 0} (room : ℕ) where
       let both = EndView.Keeping (record view { taking = view.taking - 1; taken = view.taken ++ items; ended = view.ended + ended }) in
       let out = at_keeper taking_at views k view keeper_counts_takers at h.keeper in
       let t = totals views k v both at in
-      let t_takers = t.takers in
       let s = totals (slice_set views k both) other w EndView.Rests there in
-      let s_takers = s.takers in
       comes_back views k other v both w arrivals at apart there h (sym (append-nil view.put)) refl refl
-      (omega arith) refl (omega (arith, h.taking_are, out, t_takers, s_takers)) refl (omega arith) refl
+      (omega arith) refl (omega (arith, h.taking_are, out, t.takers, s.takers)) refl (omega arith) refl
 
   -- all are back
   pub learns : (k : ℕ) (view : KeeperView I) → Learns {T = Message I} (IsQueue room) k (EndView.Keeping view) (λ items. KnowsAllTaken (EndView.Keeping view))
@@ -363,12 +325,9 @@ module _ {I : Type 0} (room : ℕ) where
       let out = at_keeper putting_at views k view keeper_counts_putters at h.keeper in
       let loading = at_keeper taking_at views k view keeper_counts_takers at h.keeper in
       let t = totals views k v EndView.Rests at in
-      let t_putters = t.putters in
-      let t_takers = t.takers in
-      let t_ended = t.ended in
-      let put = none_put others keepers (omega (arith, t_putters, h.putting_are, out, no_putter)) in
-      let taken = none_taken others keepers (omega (arith, t_takers, h.taking_are, loading, no_taker)) in
-      let none = h.none_waits (omega (arith, t_ended, closed)) in
+      let put = none_put others keepers (omega (arith, t.putters, h.putting_are, out, no_putter)) in
+      let taken = none_taken others keepers (omega (arith, t.takers, h.taking_are, loading, no_taker)) in
+      let none = h.none_waits (omega (arith, t.ended, closed)) in
       let all_put : IsPermutation (items_by put_at views) view.put =
       subst (λ list. IsPermutation (items_by put_at views) list) (ap (λ list. view.put ++ list) put ∙ append-nil view.put)
       (gone put_at views k v at refl) in

@@ -3,9 +3,8 @@
 
 ghost use Rattle.std.specs.Prelude.{◌≡◌, ◌<◌, Some, IfOk, IfErr, IfSome};
 ghost use Rattle.std.specs.Arc.{arc_value};
-ghost use Rattle.shelves.specs.ShelfSeats.{PinsSeat, ReleasesSeat, JoinsSeat, ShowsWhatItKnows};
-ghost use Rattle.shelves.specs.ShelfLoads.{CollectsShelves, PublishesImage, RefusesImage};
-ghost use Rattle.shelves.specs.ShelfWords.{shelf_loader, shelf_seats};
+ghost use Rattle.shelves.specs.ShelfSeats.{PinsSeat, ReleasesSeat, JoinsSeat, ShowsWhatItKnows, shelf_seats};
+ghost use Rattle.shelves.specs.ShelfLoads.{CollectsShelves, PublishesImage, RefusesImage, shelf_loader};
 ghost use Rattle.shelves.specs.declared.faults.PublishFault.{PublishFault};
 
 use crate::collected::Collected;
