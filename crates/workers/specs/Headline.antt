@@ -45,15 +45,15 @@ pub record SeatsAreReadyAt {K F : Type 0} (name : TableId) (input : ServerInput 
   pub ready : SeatsAreReady shelf_seats shelf_loader input
 
 module _ {C R W K T S L N F D : Type 0} where
-  -- no further client comes, and what held of their source holds still; and the seats are of the same shelves
+  -- no further client comes, and what held of their source holds still; and the workers' seats and the loader's may still be used at the shelves
   pub record IsLeft (seats : SeatWords T S N) (loader : LoaderWords T L) (source : SourceWords K C) (input : ServerInput K T S L F)
       (left : ServingOutcome R W K S L N D) : Type 0 where
     pub clients : IsExhausted source input.clients left.clients
     pub fit : All (seats.fits input.shelves) left.seats.items
     pub loader_fits : loader.fits input.shelves left.loader
 
-  -- each client who came meanwhile was dealt to exactly one worker and had one session at its seat; what these sessions ordered went by this queue, under the
-  -- names of these feeds
+  -- each client who came meanwhile was dealt to exactly one worker and had one session at its seat; what these sessions ordered went by the loader's queue,
+  -- under the names of these feeds
   abbrev pub AllServed : SessionWords C R W T S N → SourceWords K C → FeedWords F D → ServerInput K T S L F → ServingOutcome R W K S L N D → Type 0
   AllServed words source feeds input left = AreServedSince words (source.came input.clients) (source.came left.clients)
       (worker_starts input.seats (route_to (feeds.named input.feeds) left.loader_orders.queue)) (work_of left.served left.seats.items left.worker_orders)
@@ -65,23 +65,25 @@ KnowOneHistory loader seat =
     (table : Shelved) (i j : ℕ) (r : KeepsRule table) → get_elem? table.views i ≡ some seat.view → get_elem? table.views j ≡ some loader.view
     → Grows (known_of seat.view) (known_in_full r.history) × Grows (known_of loader.view) (known_in_full r.history)
 
--- while a seat of these shelves shows that it holds a version, that version is left alone, in any table that keeps the rule: `shelves` only narrows the
--- seats. This binds every body: whatever workers and the loader do, a table of shelves changes by steps of its seats alone, and each step keeps the
--- rule; so the law is about whatever a run of these shelves can come to, and there is no way to free what it leaves alone
+-- while a seat of these shelves shows that it holds a version, that version is left alone, in any table that keeps the rule. This binds every body:
+-- whatever workers and the loader do, a table of shelves changes by steps of its seats alone, and each step keeps the rule; so the law is about
+-- whatever a run of these shelves can come to, and nothing frees what it leaves alone
 abbrev pub PinnedAreLeftAloneAt : TableId → Type 0
 PinnedAreLeftAloneAt shelves = (seat : ShelfSeatValue) → seat.table ≡ shelves → PinnedIsLeftAlone seat
 
--- as `IsLeft`, at shelves without a lock; and the histories by which the sessions' profiles are exact and that of what the loader published are one
+-- as `IsLeft`, at shelves without a lock; and the histories by which the sessions' profiles are exact, and that of what the loader published, are
+-- beginnings of one
 abbrev pub IsLeftAt : {C R W K F D : Type 0} → SourceWords K C → ServerInput K TableId ShelfSeatValue ShelfLoaderValue F
     → ServingOutcome R W K ShelfSeatValue ShelfLoaderValue NoticeValue D → Type 0
 IsLeftAt source input left = IsLeft shelf_seats shelf_loader source input left × All (KnowOneHistory left.loader) left.seats.items
 
--- nothing is said of sessions: no workers were there, and the clients' source is as it was; or workers were lost, and no further client comes
+-- a fault, which says nothing of sessions: not all threads were started, and the clients' source is as it was; or workers or the loader were lost, and
+-- no further client comes
 abbrev pub IsUnserved : {C K : Type 0} → SourceWords K C → K → WorkersFault K → Type 0
 IsUnserved source before (WorkersFault.NotStarted clients) = clients ≡ before
 IsUnserved source before (WorkersFault.Lost clients) = IsExhausted source before clients
 
--- the loader took exactly the orders that the sessions put, each once, and carried out each
+-- the loader took exactly the orders that the sessions put, each once, and carried out each in turn
 pub record AllLoaded {R W K T S L N F D : Type 0} (words : LoadWords F D T L N) (input : ServerInput K T S L F) (left : ServingOutcome R W K S L N D)
     : Type 0 where
   pub taken : AreAllTaken left.worker_orders left.loader_orders
