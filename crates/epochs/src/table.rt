@@ -11,10 +11,10 @@ ghost use Rattle.version_core.specs.Rest.{RestStays};
 ghost use Rattle.version_core.specs.declared.state.Worker.{Worker};
 ghost use Rattle.shelves.specs.Seats.{ShowsPin, ShowsRelease, ShowsPublish, ShowsRefusal, ShowsCollection};
 ghost use Rattle.epochs.specs.History.{IsHistory, LeadsTo, HeldHaveImages, TableValue};
-ghost use Rattle.epochs.specs.Pins.{HoldsAt, SeatAgrees, PinsCurrent, RefusesPin, ReleasesHeld, RefusesRelease, IsOffer};
-ghost use Rattle.epochs.specs.Pins.{IsCurrent, IsLookAndTake, IsDrop};
-ghost use Rattle.epochs.specs.Publishing.{TriesShelf, TriesClosing, SomeIsFree, MakesRoom, PublishesNext, RefusesPublish};
-ghost use Rattle.epochs.specs.Publishing.{StaysCurrent};
+ghost use Rattle.epochs.specs.Pins.{HoldsAt, SeatAgrees, PinsCurrent, RefusesPin, ReleasesHeld, RefusesRelease};
+ghost use Rattle.epochs.specs.Pins.{IsCurrent, IsDrop, IsLookAndTake, IsOffer};
+ghost use Rattle.epochs.specs.Publishing.{TriesShelf, TriesClosing, SomeIsFree, MakesRoom, PublishesNext};
+ghost use Rattle.epochs.specs.Publishing.{RefusesPublish, StaysCurrent};
 ghost use Rattle.shelves.specs.declared.faults.PublishFault.{PublishFault};
 
 use crate::seats::{LoaderSeat, WorkerSeat};

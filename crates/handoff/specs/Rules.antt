@@ -170,8 +170,7 @@ module _ {I : Type 0} (room : ℕ) where
   kept_by_taking k items ended (Message.Item item) arrivals views h at =
       let v = EndView.Taking items ended in
       let w = EndView.Taking (items ++ item ∷ []) ended in
-      let t = totals views k v w at in
-      (
+      let t = totals views k v w at in (
         w,
         step views k v w (Message.Item item ∷ arrivals) arrivals at h (omega (arith, h.few)) (once_taken views k v w at item arrivals refl refl h.once)
             h.last refl refl refl refl refl (omega arith) (λ any. h.none_putting (omega (arith, any, t.closings)))
@@ -181,8 +180,7 @@ module _ {I : Type 0} (room : ℕ) where
   kept_by_taking k items ended Message.Closing arrivals views h at =
       let v = EndView.Taking items ended in
       let w = EndView.Taking items (ended + 1) in
-      let t = totals views k v w at in
-      (
+      let t = totals views k v w at in (
         w,
         step views k v w (Message.Closing ∷ arrivals) arrivals at h (omega (arith, h.few))
             (once_still views k v w at (Message.Closing ∷ arrivals) arrivals refl refl refl h.once)
