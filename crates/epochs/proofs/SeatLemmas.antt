@@ -107,7 +107,8 @@ publishes_leave_seats a b seat image version h fits =
     ∙ (ap (λ (x : State). x.seen) second.2 ∙ ap (λ (x : State). x.seen) first.3)) in
     fits_still a.state b.state seat (ap (λ l. slice_get l seat.number) workers) (ap (λ l. slice_get l seat.number) seen) fits
 
-pub collects_leave_seats : (a b : TableValue) (seat : WorkerSeatValue) (found : Collected) → TriesClosing a found b → SeatAgrees a.state seat → SeatAgrees b.state seat
+pub collects_leave_seats : (a b : TableValue) (seat : WorkerSeatValue) (found : Collected) → TriesClosing a found b → SeatAgrees a.state seat
+    → SeatAgrees b.state seat
 collects_leave_seats a b seat found h fits =
     fits_still a.state b.state seat (ap (λ (x : State). slice_get x.workers seat.number) h.state)
     (ap (λ (x : State). slice_get x.seen seat.number) h.state) fits

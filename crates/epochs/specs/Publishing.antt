@@ -85,7 +85,8 @@ pub record AreAllInUse (s : State) (counts : List ℕ) : Type 0 where
 abbrev pub RefusesPublish : TableValue → PublishFault → TableValue → Type 0
 RefusesPublish a PublishFault.VersionsSpent b = (newest a.state ≡ most_versions) × (b ≡ a)
 RefusesPublish a (PublishFault.ShelvesFull counts) b =
-    (newest a.state < most_versions) × (¬ (SomeIsFree a.state)) × ((found : Collected) × TriesClosing a found b × (counts ≡ found.busy)) × AreAllInUse a.state counts
+    (newest a.state < most_versions) × (¬ (SomeIsFree a.state)) × ((found : Collected) × TriesClosing a found b × (counts ≡ found.busy))
+    × AreAllInUse a.state counts
 RefusesPublish a PublishFault.OutOfMemory b = (newest a.state < most_versions) × MakesRoom a b × SomeIsFree b.state
 
 -- the current version, its shelf and all images are as they were

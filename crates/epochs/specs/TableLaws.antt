@@ -27,7 +27,8 @@ PublishesLeaveSeats = (a b : TableValue) (seat : WorkerSeatValue) (image : Image
     → PublishesNext a image version b → SeatAgrees a.state seat → SeatAgrees b.state seat
 
 abbrev pub CollectsLeaveSeats : Type 0
-CollectsLeaveSeats = (a b : TableValue) (seat : WorkerSeatValue) (found : Collected) → TriesClosing a found b → SeatAgrees a.state seat → SeatAgrees b.state seat
+CollectsLeaveSeats = (a b : TableValue) (seat : WorkerSeatValue) (found : Collected) → TriesClosing a found b → SeatAgrees a.state seat
+    → SeatAgrees b.state seat
 
 -- what the seat holds is the image that was published as that version
 abbrev pub HoldsPublished : List ImageValue → WorkerSeatValue → Type 0

@@ -23,8 +23,8 @@ loader_goes_same words shelves s fits = record {
   learns = learns_nothing TellsLoaded _ _ _ (grows_same (words.known s));
 }
 
-pub loader_goes_on : {T L : Type 0} (words : LoaderWords T L) (shelves : T) (a m b : L) → LoaderFitsAndLearns words shelves a m → LoaderFitsAndLearns words shelves m b
-    → LoaderFitsAndLearns words shelves a b
+pub loader_goes_on : {T L : Type 0} (words : LoaderWords T L) (shelves : T) (a m b : L) → LoaderFitsAndLearns words shelves a m
+    → LoaderFitsAndLearns words shelves m b → LoaderFitsAndLearns words shelves a b
 loader_goes_on words shelves a m b p q = record { fits = q.fits; learns = learns_both TellsLoaded published_later _ _ _ _ _ _ p.learns q.learns }
 
 -- a publish and the collection behind it

@@ -173,8 +173,8 @@ worker_next c d e v v' f more none known kept shows last passed edition = record
 }
 
 -- what the loader knows after a step of its own, which gives no notice
-pub loader_next : (c d : EventHistory) (e : Event) (l l' : LoaderView) → LoaderFits c l → d.events ≡ c.events ++ e ∷ [] → note_of e ≡ 0 → l'.known ≡ known_in_full d
-    → l'.notes ≡ l.notes → length d.images ≡ newest d.state
+pub loader_next : (c d : EventHistory) (e : Event) (l l' : LoaderView) → LoaderFits c l → d.events ≡ c.events ++ e ∷ [] → note_of e ≡ 0
+    → l'.known ≡ known_in_full d → l'.notes ≡ l.notes → length d.images ≡ newest d.state
     → l'.current ≡ d.state.current → l'.current_shelf ≡ d.state.current_shelf → l'.shelves ≡ d.state.shelves → LoaderFits d l'
 loader_next c d e l l' f more none known notes as_many current current_shelf shelves = record {
   shows = record {

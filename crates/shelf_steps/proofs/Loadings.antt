@@ -31,7 +31,8 @@ front_of (x ∷ xs) = x.1
 block_front : (f g : ℕ → Option Edition) (k : ℕ) → down_from f (16 * k) 16 [] ≡ down_from g (16 * k) 16 [] → f (16 * k + 15) ≡ g (16 * k + 15)
 block_front f g k e = ap front_of e
 
-one_image : (version version' : ℕ) (image image' : ImageValue) (x : Option Edition) → IsFilledWith version image x → IsFilledWith version' image' x → image' ≡ image
+one_image : (version version' : ℕ) (image image' : ImageValue) (x : Option Edition) → IsFilledWith version image x
+    → IsFilledWith version' image' x → image' ≡ image
 one_image version version' image image' x a b = let z : Some a.0 ≡ Some b.0 = sym a.1 ∙ b.1 in let same : a.0 ≡ b.0 =
     cc in sym b.3
     ∙ (ap (λ (e : Edition). arc_value e.image) (sym same) ∙ a.3)

@@ -14,7 +14,8 @@ use Rattle.shelves.proofs.GrowthLemmas.{one_image_each, published_stay}
 begun : (k : KnownHistory) (a : Option ℕ) (c : EventHistory) → IsKnownBeginning k a c → Grows k (known_in_full c)
 begun k a c begins = record { events = (begins.events.0, begins.events.1); replies = begins.replies; images = begins.images }
 
-fits_grow : (table : Shelved) (r : KeepsRule table) (i : ℕ) (u : View) → SeatFits r.history r.loader r.seats.owner i u → Grows (known_of u) (known_in_full r.history)
+fits_grow : (table : Shelved) (r : KeepsRule table) (i : ℕ) (u : View) → SeatFits r.history r.loader r.seats.owner i u
+    → Grows (known_of u) (known_in_full r.history)
 fits_grow table r i (View.Loading l) fits =
     subst (λ loader. Grows loader.known (known_in_full r.history)) (sym fits.1) (begun r.loader.known _ r.history r.seats.loads.known)
 fits_grow table r i (View.Working v) fits = begun v.known _ r.history fits.2.known
