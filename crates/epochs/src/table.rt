@@ -10,7 +10,7 @@ ghost use Rattle.version_core.specs.Laws.{LooksAndTakesHold, DropsLetGo, RunsGro
 ghost use Rattle.version_core.specs.Rest.{RestStays};
 ghost use Rattle.version_core.specs.declared.state.Worker.{Worker};
 ghost use Rattle.shelves.specs.Seats.{ShowsPin, ShowsRelease, ShowsPublish, ShowsRefusal, ShowsCollection};
-ghost use Rattle.epochs.specs.History.{IsHistory, LeadsTo, HeldHaveImages, TableValue};
+ghost use Rattle.epochs.specs.History.{IsHistory, HeldHaveImages, TableValue};
 ghost use Rattle.epochs.specs.Pins.{HoldsAt, SeatAgrees, PinsCurrent, RefusesPin, ReleasesHeld, RefusesRelease};
 ghost use Rattle.epochs.specs.Pins.{IsCurrent, IsDrop, IsLookAndTake, IsOffer};
 ghost use Rattle.epochs.specs.Publishing.{TriesShelf, TriesClosing, SomeIsFree, MakesRoom, PublishesNext};
@@ -78,7 +78,6 @@ impl VersionTable {
     /// The events lead from the start to the state.
     pub fn history(&self)
         ensures history { IsHistory self.now.state self.now.events self.now.images }
-        ensures leads { LeadsTo self.now.state self.now.events self.now.images }
         ensures kept { KeepsInvariants self.now.state }
         ensures held { HeldHaveImages self.now.state self.now.images }
     {

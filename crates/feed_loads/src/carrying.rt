@@ -7,7 +7,7 @@ ghost use Rattle.feed_loads.specs.Carrying.{Handles, IsLoadOf, load_input_of, lo
 ghost use Rattle.feed_loads.specs.Drawing.{AreLoadedBy, AreUnread};
 ghost use Rattle.feed_loads.specs.Learned.{LoaderFitsAndLearns};
 ghost use Rattle.feed_loads.specs.Lines.{outcome_line};
-ghost use Rattle.feed_loads.specs.Loading.{load_answer};
+ghost use Rattle.feed_loads.specs.Loading.{load_answer, outcome_alone};
 ghost use Rattle.feed_loads.specs.Posts.{IsLoaderDone, loader_post_of};
 ghost use Rattle.feed_loads.specs.Words.{loads_of, outcomes_of};
 
@@ -164,9 +164,12 @@ impl<'a, R: Wait, N: Drop, T: Versions<Notice = N> + Loads, F: Feeds> LoadContex
     }
 }
 
+// The outcome without its notice, as it is reported.
 fn loaded_or_refusal<N>(
     outcome: &Result<(LoadedVersion, Option<N>), LoadRefusal>,
-) -> Result<LoadedVersion, LoadRefusal> {
+) -> Result<LoadedVersion, LoadRefusal>
+    ensures { result ≡ outcome_alone outcome.now }
+{
     match outcome {
         Ok((loaded, _)) => Ok(*loaded),
         Err(refusal) => Err(*refusal),

@@ -31,8 +31,8 @@ impl<'a, N: Drop, T: Versions<Notice = N>, G> SessionServer<'a, T, G> {
         }
     }
 
-    /// Orders the feed and waits for its version. The seat joins the notice of that version before the client is
-    /// reported of it, so that no later pin by this seat gives an older one.
+    /// Orders the feed and waits for its version. The seat joins the notice of that version before the client gets
+    /// its reply, so that no later pin by this seat gives an older one.
     #[tactic(auto, using(crate::proofs::LearnLemmas::goes_on_same))]
     pub(crate) fn load_feed<O: Orders<Notice = N>>(
         &self,
