@@ -72,10 +72,9 @@ pub pins_leave_others : (a b : TableValue) (seat after other : WorkerSeatValue) 
     → other.number ≢ seat.number → SeatAgrees a.state other → SeatAgrees b.state other
 pins_leave_others a b seat after other h apart fits =
     let s = a.state in let w = seat.number in let n = other.number in
-    let mid = h.run.0 in let look = h.run.1.3 in
-    let last = h.run.2.0 in let take = h.run.2.1 in
-    let is : b.state ≡ last = h.run.2.2 in
-    let gone = take.3 in
+    let run = h.taken.run in let mid = run.0 in let look = run.1.3 in
+    let is : b.state ≡ run.2.0 = run.2.2 in
+    let gone = run.2.1.3 in
     fits_still s b.state other
     (ap (λ (x : State). slice_get x.workers n) (is ∙ gone)
     ∙ (slice_get-set_other mid.workers w n _ apart
@@ -87,8 +86,8 @@ pub releases_leave_others : (a b : TableValue) (seat after other : WorkerSeatVal
     → other.number ≢ seat.number → SeatAgrees a.state other → SeatAgrees b.state other
 releases_leave_others a b seat after other h apart fits =
     let s = a.state in let n = other.number in
-    let drop = h.run.1 in
-    let is : b.state ≡ h.run.0 = h.run.2 in
+    let drop = h.dropped.run.1 in
+    let is : b.state ≡ h.dropped.run.0 = h.dropped.run.2 in
     fits_still s b.state other
     (ap (λ (x : State). slice_get x.workers n) (is ∙ drop.2) ∙ slice_get-set_other s.workers seat.number n _ apart)
     (ap (λ (x : State). slice_get x.seen n) (is ∙ drop.2))
