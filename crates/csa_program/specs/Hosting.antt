@@ -9,7 +9,7 @@ use Rattle.image_layout.specs.Image.{ImageValue}
 use Rattle.session.specs.declared.reply_form.ReplyForm.{ReplyForm}
 use Rattle.shelf_steps.specs.Handed.{handed}
 use Rattle.shelf_steps.specs.declared.views.View.{View}
-use Rattle.workers.specs.Headline.{IsRunAt, server_input_of}
+use Rattle.workers.specs.Headline.{IsServerRunAt, server_input_of}
 use Rattle.client_queue.specs.Dealing.{SourceWords}
 use Rattle.feed_loads.specs.Words.{LoadWords}
 use Rattle.workers.specs.Words.{SessionWords}
@@ -59,7 +59,7 @@ module _ {C R W K F D : Type 0} (words : ReplyForm → SessionWords C R W TableI
     pub not_failed_at_first : has_failed clients ≡ false
     pub rules_at_first : keeps request clients
     pub asked : are_feeds request zone_bytes feeds
-    pub run : IsRunAt (words (form_asked request)) source loads (server_input_of clients table seats (first_loader table image) feeds) ran
+    pub run : IsServerRunAt (words (form_asked request)) source loads (server_input_of clients table seats (first_loader table image) feeds) ran
     pub many : AreAsMany request.sessions (length ran.served) is_deaf
     pub deaf : is_deaf ≡ has_failed ran.clients
     pub counted : ends ≡ counts_of ran.served

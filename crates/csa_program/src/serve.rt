@@ -7,10 +7,10 @@ ghost use Rattle.std.specs.Prelude.{slice_get, Some, string_bytes, Bool, IfOk, I
 ghost use Rattle.std.specs.Io.KnownBytes.{Appends};
 ghost use Rattle.command_requests.specs.declared.ends.SessionCounts.{SessionCounts};
 ghost use Rattle.command_requests.specs.declared.statuses.TheConstants.{ACCEPTED, INPUT_OUTPUT, OUT_OF_MEMORY};
-ghost use Rattle.shelves.specs.ShelfSeats.{SeatsHanded};
-ghost use Rattle.workers.specs.Headline.{AreReadyAt, IsRunAt, server_input_of};
+ghost use Rattle.shelves.specs.ShelfSeats.{SeatsHanded, shelf_seats};
+ghost use Rattle.workers.specs.Headline.{SeatsAreReadyAt, IsServerRunAt, server_input_of};
 ghost use Rattle.workers.specs.Sessions.{MayClose};
-ghost use Rattle.shelves.specs.ShelfWords.{shelf_loader, shelf_seats};
+ghost use Rattle.shelves.specs.ShelfLoads.{shelf_loader};
 ghost use Rattle.feed_loads.specs.Words.{loads_of, outcomes_of};
 ghost use Rattle.workers.specs.Words.{sessions_of};
 ghost use Rattle.csa_program.specs.Acceptor.{AreCountedOff};
@@ -480,7 +480,7 @@ fn serve_accepted<
     requires some { 1 ≤ length made.2.items }
     requires few { length made.2.items ≤ 16 }
     requires none_came { acceptor.came ≡ [] }
-    ensures { IfOk result (λ end. IsRunTo (IsRunAt (sessions_of (form_asked folders.now.setup.now.request.now)
+    ensures { IfOk result (λ end. IsRunTo (IsServerRunAt (sessions_of (form_asked folders.now.setup.now.request.now)
         ⟦<Visitor<'d, L> as Client>⟧.words ⟦<Requests<TcpStream, ClientSession<'d, L>> as ReadStream>⟧.words
         ⟦<TcpStream as WriteStream>⟧.words shelf_seats) ⟦<Acceptor<'d, L> as Clients<Visitor<'d, L>>>⟧.words
         (loads_of ⟦<Folders<'f, H> as Feeds>⟧.words
@@ -522,13 +522,13 @@ fn serve_all<
     >,
     WorkersFault<K>,
 >
-    requires ready { AreReadyAt B.table (server_input_of clients made.0 made.2.items made.1 folders.now) }
+    requires ready { SeatsAreReadyAt B.table (server_input_of clients made.0 made.2.items made.1 folders.now) }
     requires new { SeatsHanded made.0 (length made.2.items) made.2.items }
     requires closes { MayClose (sessions_of form C.words C.Reader.words C.Writer.words shelf_seats)
         made.2.items }
     ensures many { IfOk result (λ run_result. K.words.came clients ≡ [] → length run_result.served ≡ length
         (K.words.came run_result.clients)) }
-    ensures run { IfOk result (IsRunAt (sessions_of form C.words C.Reader.words C.Writer.words shelf_seats)
+    ensures run { IfOk result (IsServerRunAt (sessions_of form C.words C.Reader.words C.Writer.words shelf_seats)
         K.words (loads_of ⟦<Folders<'f, H> as Feeds>⟧.words
         (outcomes_of ⟦<FolderFiles<'f, H> as FeedFiles>⟧.words shelf_loader shelf_seats.version))
         (server_input_of clients made.0 made.2.items made.1 folders.now)) }

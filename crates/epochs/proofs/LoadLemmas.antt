@@ -18,7 +18,7 @@ use Rattle.version_core.specs.Laws.{RunsGrowByRuns}
 use Rattle.version_core.proofs.Lists.{slice_get-set}
 use Rattle.shelf_steps.specs.declared.edition.Edition.{Edition}
 use Rattle.epochs.specs.History.{IsHistory, AreShelved, StandsOn, IsEdition, HeldHaveImages, image_of}
-use Rattle.epochs.specs.Publishing.{Publishes}
+use Rattle.epochs.specs.Publishing.{PublishesNext}
 use Rattle.shelf_steps.proofs.Loads.{got_snoc, image_of-append, image_last}
 
 image_there : (images : List ImageValue) (v : ℕ) → 0 < v → v ≤ length images → (image : ImageValue) × (image_of images v ≡ Some image)
@@ -166,7 +166,7 @@ load_kept s t e v k second third before events editions images now new laws kept
 pub load_publishes : (s t : State) (e v k : ℕ) (second third : Reply) (before events : List Event)
     (images now : List ImageValue) (image : ImageValue) → LoadsRest → KeepsInvariants s → IsHistory s before images
     → LoadFacts s t e v k second third before events images now image → ((j : ℕ) → j < k → ¬ (IsFree s j)) → e ≡ s.current
-    → Publishes (record { state = s; events = before; images = images }) image v (record { state = t; events = events; images = now })
+    → PublishesNext (record { state = s; events = before; images = images }) image v (record { state = t; events = events; images = now })
 load_publishes s t e v k second third before events images now image law kept h fact least number =
     let steps = fact.steps in let run = three_run s t e v k second third steps in
     let rest = law s t e v k second third kept h.rest run in

@@ -19,14 +19,14 @@ use Rattle.version_core.proofs.Lists.{slice_get-set}
 use Rattle.shelf_steps.specs.declared.edition.Edition.{Edition}
 use Rattle.shelves.specs.declared.collected.Collected.{Collected}
 use Rattle.epochs.specs.History.{TableValue, AreShelved, StandsOn}
-use Rattle.epochs.specs.Publishing.{TriesShelf, Collects, tries, try_at, is_freed, busy_count, after_try, HasFree, AreFull}
+use Rattle.epochs.specs.Publishing.{TriesShelf, TriesClosing, tries, try_at, is_freed, busy_count, shelf_after_try, SomeIsFree, AreAllInUse}
 
 -- a try at a closing shelf: what it finds there, and what is there afterwards, follow from the count
 tries_closing : (s t : State) (k v count : ℕ) (freed : Bool) (busy : ℕ) (reply : Reply) (before events : List Event) (images : List ImageValue)
     → IsClosing s k v → get_or s.counts k 0 ≡ count → t ≡ record s { shelves = t.shelves }
     → ((j : ℕ) → j ≢ k → slice_get t.shelves j ≡ slice_get s.shelves j)
     → (freed ≡ is_freed (Shelf.Closing v) count) × (busy ≡ busy_count (Shelf.Closing v) count)
-    × (slice_get t.shelves k ≡ Some (after_try (Shelf.Closing v) count))
+    × (slice_get t.shelves k ≡ Some (shelf_after_try (Shelf.Closing v) count))
     → CollectStep s k reply t → events ≡ before ++ Event.Collect k ∷ []
     → TriesShelf (record { state = s; events = before; images = images }) k freed busy (record { state = t; events = events; images = images })
 tries_closing s t k v count freed busy reply before events images closing counted same others found step more =
@@ -41,9 +41,9 @@ tries_closing s t k v count freed busy reply before events images closing counte
           let both : Some (Shelf.Closing v) ≡ Some shelf = sym closing ∙ here in
           let one : Shelf.Closing v ≡ shelf = cc in
           subst (λ (x : Shelf). (freed ≡ is_freed x (get_or s.counts k 0)) × (busy ≡ busy_count x (get_or s.counts k 0))
-          × (slice_get t.shelves k ≡ Some (after_try x (get_or s.counts k 0)))) one
+          × (slice_get t.shelves k ≡ Some (shelf_after_try x (get_or s.counts k 0)))) one
           (subst (λ n. (freed ≡ is_freed (Shelf.Closing v) n) × (busy ≡ busy_count (Shelf.Closing v) n)
-          × (slice_get t.shelves k ≡ Some (after_try (Shelf.Closing v) n))) (sym counted) found);
+          × (slice_get t.shelves k ≡ Some (shelf_after_try (Shelf.Closing v) n))) (sym counted) found);
     }
 
 -- with no worker there it is freed
@@ -100,7 +100,7 @@ pub record CollectsBelow (n : ℕ) (a : TableValue) (freed : List Bool) (busy : 
   pub each : (k : ℕ) (shelf : Shelf) → slice_get a.state.shelves k ≡ Some shelf → k < n
       → (slice_get freed k ≡ Some (is_freed shelf (get_or a.state.counts k 0)))
       × (slice_get busy k ≡ Some (busy_count shelf (get_or a.state.counts k 0)))
-      × (slice_get b.state.shelves k ≡ Some (after_try shelf (get_or a.state.counts k 0)))
+      × (slice_get b.state.shelves k ≡ Some (shelf_after_try shelf (get_or a.state.counts k 0)))
 
 join_runs : (s t u : State) (first second : List Event) → RunsJoin → IsRun s first t → IsRun t second u → IsRun s (first ++ second) u
 join_runs s t u first second law a b = record { replies = a.replies ++ b.replies; run = law s t u first second a.replies b.replies a.run b.run }
@@ -137,7 +137,7 @@ one_more n a m b freed busy f c law small h t =
             ap (λ i. slice_get (set busy n c) i) e
                 ∙ (slice_get-set_same busy n c (omega arith)
                 ∙ (ap (λ (x : ℕ). Some x) found.1 ∙ ap (λ i. Some (busy_count shelf i)) at_count)),
-            ap (λ i. slice_get b.state.shelves i) e ∙ (found.2 ∙ ap (λ i. Some (after_try shelf i)) at_count),
+            ap (λ i. slice_get b.state.shelves i) e ∙ (found.2 ∙ ap (λ i. Some (shelf_after_try shelf i)) at_count),
           ))
           (λ other.
           let before = h.each k shelf here (omega arith) in (
@@ -155,7 +155,7 @@ one_more_tried n a m b freed busy f c law small h t =
     subst (λ i. CollectsBelow i a (set freed n f) (set busy n c) b) e (one_more n a m b freed busy f c law small h t)
 
 pub all_tried : (n : ℕ) (a : TableValue) (found : Collected) (b : TableValue) → KeepsInvariants a.state → 8 ≤ n
-    → CollectsBelow n a found.freed found.busy b → Collects a found b
+    → CollectsBelow n a found.freed found.busy b → TriesClosing a found b
 all_tried n a found b kept done h =
     let most = h.most in
     let eight : n ≡ 8 = omega arith in
@@ -170,15 +170,15 @@ all_tried n a found b kept done h =
 nothing_waits : (s : State) → IsAtRest s → (k v : ℕ) → ¬ (IsUnpublished s k v)
 nothing_waits s rest k v new = let e = rest.one_open k v new.0 in let l = new.1 in omega arith
 
-left_busy : (count : ℕ) (v : ℕ) (b : TableValue) (k : ℕ) → ¬ (HasFree b.state)
-    → slice_get b.state.shelves k ≡ Some (after_try (Shelf.Closing v) count) → 0 < count
+left_busy : (count : ℕ) (v : ℕ) (b : TableValue) (k : ℕ) → ¬ (SomeIsFree b.state)
+    → slice_get b.state.shelves k ≡ Some (shelf_after_try (Shelf.Closing v) count) → 0 < count
 left_busy zero v b k none here = absurd (none (k, here))
 left_busy (suc n) v b k none here = omega arith
 
 -- where no shelf is free after all tries, workers are at each but the current one
 pub full_after : (a : TableValue) (found : Collected) (b : TableValue) → RestIsFull → KeepsInvariants a.state → IsAtRest a.state
-    → newest a.state < most_versions → ¬ (HasFree a.state) → ¬ (HasFree b.state) → Collects a found b
-    → AreFull a.state found.busy
+    → newest a.state < most_versions → ¬ (SomeIsFree a.state) → ¬ (SomeIsFree b.state) → TriesClosing a found b
+    → AreAllInUse a.state found.busy
 full_after a found b law kept rest left none still h = record {
   current =
       let f = h.each a.state.current_shelf (Shelf.Open a.state.current) kept.shelves.current_open in

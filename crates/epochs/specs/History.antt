@@ -28,12 +28,6 @@ pub record IsHistory (state : State) (events : List Event) (images : List ImageV
   pub as_many : length images ≡ newest state
   pub numbered : (i edition : ℕ) → slice_get state.editions i ≡ Some edition → edition ≡ i
 
--- the same of a state at any moment
-pub record LeadsTo (state : State) (events : List Event) (images : List ImageValue) : Type 0 where
-  pub run : IsRun start events state
-  pub as_many : length images ≡ newest state
-  pub numbered : (i edition : ℕ) → slice_get state.editions i ≡ Some edition → edition ≡ i
-
 -- each version that a worker holds has an image
 abbrev pub HeldHaveImages : State → List ImageValue → Type 0
 HeldHaveImages s images = (w k v : ℕ) → Holds s w k v → (image : ImageValue) × (image_of images v ≡ Some image)

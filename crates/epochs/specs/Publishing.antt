@@ -30,9 +30,9 @@ abbrev pub busy_count : Shelf → ℕ → ℕ
 busy_count (Shelf.Closing v) count = count
 busy_count _ _ = 0
 
-abbrev pub after_try : Shelf → ℕ → Shelf
-after_try (Shelf.Closing v) zero = Shelf.Free
-after_try shelf _ = shelf
+abbrev pub shelf_after_try : Shelf → ℕ → Shelf
+shelf_after_try (Shelf.Closing v) zero = Shelf.Free
+shelf_after_try shelf _ = shelf
 
 -- a try at the shelf, if it is closing, and what it found
 pub record TriesShelf (a : TableValue) (k : ℕ) (freed : Bool) (busy : ℕ) (b : TableValue) : Type 0 where
@@ -44,10 +44,10 @@ pub record TriesShelf (a : TableValue) (k : ℕ) (freed : Bool) (busy : ℕ) (b 
   pub found : (shelf : Shelf) → slice_get a.state.shelves k ≡ Some shelf
       → (freed ≡ is_freed shelf (slice_index a.state.counts k))
       × (busy ≡ busy_count shelf (slice_index a.state.counts k))
-      × (slice_get b.state.shelves k ≡ Some (after_try shelf (slice_index a.state.counts k)))
+      × (slice_get b.state.shelves k ≡ Some (shelf_after_try shelf (slice_index a.state.counts k)))
 
 -- a try at each closing shelf, and what they found
-pub record Collects (a : TableValue) (found : Collected) (b : TableValue) : Type 0 where
+pub record TriesClosing (a : TableValue) (found : Collected) (b : TableValue) : Type 0 where
   pub run : IsRun a.state (tries a.state.shelves 8) b.state
   pub events : b.events ≡ a.events ++ tries a.state.shelves 8
   pub images : b.images ≡ a.images
@@ -55,17 +55,17 @@ pub record Collects (a : TableValue) (found : Collected) (b : TableValue) : Type
   pub each : (k : ℕ) (shelf : Shelf) → slice_get a.state.shelves k ≡ Some shelf
       → (slice_get found.freed k ≡ Some (is_freed shelf (slice_index a.state.counts k)))
       × (slice_get found.busy k ≡ Some (busy_count shelf (slice_index a.state.counts k)))
-      × (slice_get b.state.shelves k ≡ Some (after_try shelf (slice_index a.state.counts k)))
+      × (slice_get b.state.shelves k ≡ Some (shelf_after_try shelf (slice_index a.state.counts k)))
 
-abbrev pub HasFree : State → Type 0
-HasFree s = (k : ℕ) × IsFree s k
+abbrev pub SomeIsFree : State → Type 0
+SomeIsFree s = (k : ℕ) × IsFree s k
 
 -- if no shelf is free, shelves are collected; otherwise nothing changes
 abbrev pub MakesRoom : TableValue → TableValue → Type 0
-MakesRoom a b = (HasFree a.state × (b ≡ a)) ⊎ ((¬ (HasFree a.state)) × ((found : Collected) × Collects a found b))
+MakesRoom a b = (SomeIsFree a.state × (b ≡ a)) ⊎ ((¬ (SomeIsFree a.state)) × ((found : Collected) × TriesClosing a found b))
 
 -- the image becomes the next version, which is current, and the shelf of the version before is closing
-pub record Publishes (a : TableValue) (image : ImageValue) (version : ℕ) (b : TableValue) : Type 0 where
+pub record PublishesNext (a : TableValue) (image : ImageValue) (version : ℕ) (b : TableValue) : Type 0 where
   pub shelf : ℕ
   pub free : IsFree a.state shelf
   pub least : (j : ℕ) → j < shelf → ¬ (IsFree a.state j)
@@ -77,7 +77,7 @@ pub record Publishes (a : TableValue) (image : ImageValue) (version : ℕ) (b : 
   pub current : b.state.current ≡ version
 
 -- the counts are above 0 for each shelf but the current one, and 0 for that
-pub record AreFull (s : State) (counts : List ℕ) : Type 0 where
+pub record AreAllInUse (s : State) (counts : List ℕ) : Type 0 where
   pub current : slice_index counts s.current_shelf ≡ 0
   pub others : (k : ℕ) → k < 8 → k ≢ s.current_shelf → 0 < slice_index counts k
 
@@ -85,8 +85,9 @@ pub record AreFull (s : State) (counts : List ℕ) : Type 0 where
 abbrev pub RefusesPublish : TableValue → PublishFault → TableValue → Type 0
 RefusesPublish a PublishFault.VersionsSpent b = (newest a.state ≡ most_versions) × (b ≡ a)
 RefusesPublish a (PublishFault.ShelvesFull counts) b =
-    (newest a.state < most_versions) × (¬ (HasFree a.state)) × ((found : Collected) × Collects a found b × (counts ≡ found.busy)) × AreFull a.state counts
-RefusesPublish a PublishFault.OutOfMemory b = (newest a.state < most_versions) × MakesRoom a b × HasFree b.state
+    (newest a.state < most_versions) × (¬ (SomeIsFree a.state)) × ((found : Collected) × TriesClosing a found b × (counts ≡ found.busy))
+    × AreAllInUse a.state counts
+RefusesPublish a PublishFault.OutOfMemory b = (newest a.state < most_versions) × MakesRoom a b × SomeIsFree b.state
 
 -- the current version, its shelf and all images are as they were
 pub record StaysCurrent (a b : TableValue) : Type 0 where

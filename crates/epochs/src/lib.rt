@@ -9,8 +9,8 @@ mod table;
 pub use locked::LockedShelves;
 pub use seats::{LoaderSeat, WorkerSeat};
 pub use shelves::{
-    Branded, Collected, Edition, HasTable, LoaderAnswer, Loads, ManySeats, NamedLoader,
-    NamedNotice, NamedSeat, NamedShelves, Notice, OneSeat, PinFault, PublishFault, SeatAnswer,
-    ShelfLoader, ShelfSeat, Shelves, ShelvesName, SoloShelves, Versions,
+    Branded, Collected, Edition, HasTable, LoaderAnswer, Loads, NamedLoader, NamedNotice,
+    NamedSeat, NamedShelves, Notice, PinFault, PublishFault, SeatAnswer, ShelfLoader, ShelfSeat,
+    Shelves, ShelvesName, Versions,
 };
 pub use table::VersionTable;

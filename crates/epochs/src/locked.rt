@@ -5,7 +5,7 @@ ghost use Rattle.std.specs.Arc.{arc_value};
 ghost use Rattle.std.specs.Sync.Mutex.{mutex_guard_value};
 ghost use Rattle.shelves.specs.Seats.{ShowsPin, ShowsRelease, ShowsPublish, ShowsRefusal, ShowsCollection};
 ghost use Rattle.epochs.specs.WorkerSeats.{idle_seats};
-ghost use Rattle.epochs.specs.Publishing.{Collects};
+ghost use Rattle.epochs.specs.Publishing.{TriesClosing};
 ghost use Rattle.epochs.specs.Locked.{HasHistory, UnderLock, PinsAt, ReleasesAt, PublishesAt, IsNew};
 ghost use Rattle.shelves.specs.declared.faults.PublishFault.{PublishFault};
 
@@ -161,7 +161,7 @@ impl LockedShelves {
     /// Tries each closing shelf, and frees it if no worker is there.
     pub fn collect<R: Wait>(&self, rt: &R, loader: &mut LoaderSeat) -> Collected
         ensures loader { ShowsCollection loader.old result loader.new }
-        ensures table { UnderLock (λ a b. Collects a result b) }
+        ensures table { UnderLock (λ a b. TriesClosing a result b) }
     {
         let mut table = with_history(self.table.lock(rt));
         let found = table.collect(loader);

@@ -10,11 +10,11 @@ ghost use Rattle.version_core.specs.Laws.{LooksAndTakesHold, DropsLetGo, RunsGro
 ghost use Rattle.version_core.specs.Rest.{RestStays};
 ghost use Rattle.version_core.specs.declared.state.Worker.{Worker};
 ghost use Rattle.shelves.specs.Seats.{ShowsPin, ShowsRelease, ShowsPublish, ShowsRefusal, ShowsCollection};
-ghost use Rattle.epochs.specs.History.{IsHistory, LeadsTo, HeldHaveImages, TableValue};
-ghost use Rattle.epochs.specs.Pins.{HoldsAt, SeatFits, Pins, RefusesPin, Releases, RefusesRelease, IsOffer};
-ghost use Rattle.epochs.specs.Pins.{IsCurrent, IsLookAndTake, IsDrop};
-ghost use Rattle.epochs.specs.Publishing.{TriesShelf, Collects, HasFree, MakesRoom, Publishes, RefusesPublish};
-ghost use Rattle.epochs.specs.Publishing.{StaysCurrent};
+ghost use Rattle.epochs.specs.History.{IsHistory, HeldHaveImages, TableValue};
+ghost use Rattle.epochs.specs.Pins.{HoldsAt, SeatAgrees, PinsCurrent, RefusesPin, ReleasesHeld, RefusesRelease};
+ghost use Rattle.epochs.specs.Pins.{IsCurrent, IsDrop, IsLookAndTake, IsOffer};
+ghost use Rattle.epochs.specs.Publishing.{TriesShelf, TriesClosing, SomeIsFree, MakesRoom, PublishesNext};
+ghost use Rattle.epochs.specs.Publishing.{RefusesPublish, StaysCurrent};
 ghost use Rattle.shelves.specs.declared.faults.PublishFault.{PublishFault};
 
 use crate::seats::{LoaderSeat, WorkerSeat};
@@ -78,7 +78,6 @@ impl VersionTable {
     /// The events lead from the start to the state.
     pub fn history(&self)
         ensures history { IsHistory self.now.state self.now.events self.now.images }
-        ensures leads { LeadsTo self.now.state self.now.events self.now.images }
         ensures kept { KeepsInvariants self.now.state }
         ensures held { HeldHaveImages self.now.state self.now.images }
     {
@@ -91,7 +90,7 @@ impl VersionTable {
     pub fn pin(&mut self, seat: &mut WorkerSeat) -> Result<(), PinFault>
         ensures seat { ShowsPin seat.old.shown result seat.new.shown }
         ensures number { seat.new.number ≡ seat.old.number }
-        ensures pinned { OnOk result (Pins self.old seat.old self.new seat.new) }
+        ensures pinned { OnOk result (PinsCurrent self.old seat.old self.new seat.new) }
         ensures known { OnOk result (HoldsAt self.new seat.new.number seat.new.shown.held) }
         ensures refused { IfErr result (RefusesPin self.old.state seat.old) }
         ensures same { OnErr result ((self.new ≡ self.old) × (seat.new.worker ≡ seat.old.worker)) }
@@ -129,7 +128,7 @@ impl VersionTable {
 
     // Whether the seat and the core say the same of the seat's worker.
     fn fits(&self, seat: &WorkerSeat) -> bool
-        ensures { MatchBool result (SeatFits self.now.state seat.now) (¬ (SeatFits self.now.state seat.now)) }
+        ensures { MatchBool result (SeatAgrees self.now.state seat.now) (¬ (SeatAgrees self.now.state seat.now)) }
     {
         let number = seat.number();
         self.core.worker(number) == Some(seat.worker())
@@ -180,7 +179,7 @@ impl VersionTable {
     pub fn release(&mut self, seat: &mut WorkerSeat) -> Result<(), PinFault>
         ensures seat { ShowsRelease seat.old.shown result seat.new.shown }
         ensures number { seat.new.number ≡ seat.old.number }
-        ensures released { OnOk result (Releases self.old seat.old self.new seat.new) }
+        ensures released { OnOk result (ReleasesHeld self.old seat.old self.new seat.new) }
         ensures refused { IfErr result (RefusesRelease self.old.state seat.old) }
         ensures same { OnErr result (self.new ≡ self.old) }
         ensures idle { seat.new.worker ≡ Worker.Idle }
@@ -212,7 +211,7 @@ impl VersionTable {
 
     /// Tries each closing shelf, and frees it if no worker is there.
     pub fn collect(&mut self, loader: &mut LoaderSeat) -> Collected
-        ensures collected { Collects self.old result self.new }
+        ensures collected { TriesClosing self.old result self.new }
         ensures loader { ShowsCollection loader.old result loader.new }
     {
         self.history();
@@ -222,7 +221,7 @@ impl VersionTable {
     }
 
     fn try_shelves(&mut self) -> Collected
-        ensures { Collects self.old result self.new }
+        ensures { TriesClosing self.old result self.new }
     {
         runs_in_parts();
         self.history();
@@ -288,7 +287,7 @@ impl VersionTable {
         image: Arc<Verified, Global>,
     ) -> Result<u64, (Arc<Verified, Global>, PublishFault)>
         ensures published { IfOk result (λ v. (room : TableValue) × MakesRoom self.old room
-            × Publishes room (arc_value image) v self.new) }
+            × PublishesNext room (arc_value image) v self.new) }
         ensures refused { IfErr result (λ e. RefusesPublish self.old e.1 self.new) }
         ensures back { IfErr result (λ e. e.0 ≡ image) }
         ensures same { OnErr result (StaysCurrent self.old self.new) }
@@ -318,7 +317,7 @@ impl VersionTable {
         image: Arc<Verified, Global>,
     ) -> Result<u64, (Arc<Verified, Global>, PublishFault)>
         ensures published { IfOk result (λ v. (room : TableValue) × MakesRoom self.old room
-            × Publishes room (arc_value image) v self.new) }
+            × PublishesNext room (arc_value image) v self.new) }
         ensures refused { IfErr result (λ e. RefusesPublish self.old e.1 self.new) }
         ensures back { IfErr result (λ e. e.0 ≡ image) }
     {
@@ -344,7 +343,7 @@ impl VersionTable {
     // how many workers are at each closing one.
     fn make_room(&mut self) -> Result<(), [u8; 8]>
         requires { newest self.old.state < most_versions }
-        ensures room { OnOk result (MakesRoom self.old self.new × HasFree self.new.state) }
+        ensures room { OnOk result (MakesRoom self.old self.new × SomeIsFree self.new.state) }
         ensures full { IfErr result (λ counts. RefusesPublish self.old (PublishFault.ShelvesFull counts) self.new) }
     {
         at_rest();
@@ -361,7 +360,7 @@ impl VersionTable {
     }
 
     fn has_free(&self) -> bool
-        ensures { MatchBool result (HasFree self.now.state) (¬ (HasFree self.now.state)) }
+        ensures { MatchBool result (SomeIsFree self.now.state) (¬ (SomeIsFree self.now.state)) }
     {
         match self.core.free_shelf() {
             Some(_) => true,
@@ -373,9 +372,9 @@ impl VersionTable {
         &mut self,
         image: Arc<Verified, Global>,
     ) -> Result<u64, (Arc<Verified, Global>, PublishFault)>
-        requires room { HasFree self.old.state }
+        requires room { SomeIsFree self.old.state }
         requires left { newest self.old.state < most_versions }
-        ensures published { IfOk result (λ v. Publishes self.old (arc_value image) v self.new) }
+        ensures published { IfOk result (λ v. PublishesNext self.old (arc_value image) v self.new) }
         ensures refused { IfErr result (λ e. (e.0 ≡ image) × (e.1 ≡ PublishFault.OutOfMemory) × (self.new ≡ self.old)) }
     {
         runs_in_parts();

@@ -9,7 +9,7 @@ use Rattle.shelves.specs.declared.collected.Collected.{Collected}
 use Rattle.shelves.specs.declared.faults.PublishFault.{PublishFault}
 use Rattle.shelves.specs.declared.answers.LoaderAnswer.{LoaderAnswer}
 use Rattle.shelves.proofs.GrowthLemmas.{grows_same, learns_both, learns_nothing, learns_one, published_stay}
-use Rattle.feed_loads.specs.Learned.{LoaderGoesOn, TellsLoaded}
+use Rattle.feed_loads.specs.Learned.{LoaderFitsAndLearns, TellsLoaded}
 
 -- what was published stays so
 published_later : (k later : KnownHistory) (answer : LoaderAnswer) → Grows k later → TellsLoaded k answer → TellsLoaded later answer
@@ -17,14 +17,14 @@ published_later k later (LoaderAnswer.Published version image) grows is = publis
 published_later k later answer grows is = tt
 
 -- nothing was done, and one call behind the other
-pub loader_goes_same : {T L : Type 0} (words : LoaderWords T L) (shelves : T) (s : L) → words.fits shelves s → LoaderGoesOn words shelves s s
+pub loader_goes_same : {T L : Type 0} (words : LoaderWords T L) (shelves : T) (s : L) → words.fits shelves s → LoaderFitsAndLearns words shelves s s
 loader_goes_same words shelves s fits = record {
   fits = fits;
   learns = learns_nothing TellsLoaded _ _ _ (grows_same (words.known s));
 }
 
-pub loader_goes_on : {T L : Type 0} (words : LoaderWords T L) (shelves : T) (a m b : L) → LoaderGoesOn words shelves a m → LoaderGoesOn words shelves m b
-    → LoaderGoesOn words shelves a b
+pub loader_goes_on : {T L : Type 0} (words : LoaderWords T L) (shelves : T) (a m b : L) → LoaderFitsAndLearns words shelves a m
+    → LoaderFitsAndLearns words shelves m b → LoaderFitsAndLearns words shelves a b
 loader_goes_on words shelves a m b p q = record { fits = q.fits; learns = learns_both TellsLoaded published_later _ _ _ _ _ _ p.learns q.learns }
 
 -- a publish and the collection behind it

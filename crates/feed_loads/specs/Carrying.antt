@@ -69,6 +69,7 @@ module _ {F D T L N : Type 0} (load_input : LoadInput F D T L N) where
     pub same : b ≡ a
     pub answer_is : load.answer ≡ LoadAnswer.Refused (order_fault_number OrderFault.UnknownFeed)
 
+  -- the feed was loaded from the files that were drawn, or there is no such feed
   abbrev pub IsLoadOf : LoadValue D N → L → L → Type 0
   IsLoadOf load a b = MatchOption load.files (IsOfNoFeed load a b) (λ drawn. IsLoad load drawn a b)
 

@@ -14,6 +14,6 @@ abbrev pub LoaderLearns : {T L : Type 0} → LoaderWords T L → L → L → Typ
 LoaderLearns words a b = LearnsBy TellsLoaded (words.known a) (words.answers a) (words.known b) (words.answers b)
 
 -- what every call leaves of the loader's seat: it may still be used at these shelves, and it learned so
-pub record LoaderGoesOn {T L : Type 0} (words : LoaderWords T L) (shelves : T) (a b : L) : Type 0 where
+pub record LoaderFitsAndLearns {T L : Type 0} (words : LoaderWords T L) (shelves : T) (a b : L) : Type 0 where
   pub fits : words.fits shelves b
   pub learns : LoaderLearns words a b

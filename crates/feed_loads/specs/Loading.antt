@@ -104,13 +104,18 @@ pub record IsLoadOutcome {D T L N : Type 0} (words : OutcomeWords D T L N) (plan
   pub comes : ComesOf words plan a outcome b
   pub files : FilesGoOn words.files a.files outcome b.files
 
+-- what is reported of a load: its outcome without the notice
+abbrev pub outcome_alone : {N : Type 0} → Result (LoadedVersion × Option N) LoadRefusal → Result LoadedVersion LoadRefusal
+outcome_alone (Ok loaded) = Ok loaded.0
+outcome_alone (Err refusal) = Err refusal
+
 -- the number under which a refusal is reported
 abbrev pub load_refusal_number : LoadRefusal → ℕ
 load_refusal_number (LoadRefusal.Load fault) = fault_number fault
 load_refusal_number (LoadRefusal.Publish fault) = publish_fault_number fault
 
--- what the worker that waits for a load is answered. A version always comes with a notice (`IsLoadOutcome`), so `Unnoticed` is never answered: the type of
--- `publish` has that case
+-- what the worker that waits for a load is answered. A version always comes with a notice (`ComesOf`), so `Unnoticed` is never answered: the type of `publish`
+-- has that case
 abbrev pub notice_answer : {N : Type 0} → Option N → LoadAnswer N
 notice_answer (Some notice) = LoadAnswer.Published notice
 notice_answer None = LoadAnswer.Unnoticed

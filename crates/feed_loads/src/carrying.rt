@@ -5,9 +5,9 @@ ghost use Rattle.std.specs.Io.KnownBytes.{Appends};
 ghost use Rattle.feed_loader.specs.declared.plan.Plan.{Plan};
 ghost use Rattle.feed_loads.specs.Carrying.{Handles, IsLoadOf, load_input_of, load_value, loads_value};
 ghost use Rattle.feed_loads.specs.Drawing.{AreLoadedBy, AreUnread};
-ghost use Rattle.feed_loads.specs.Learned.{LoaderGoesOn};
+ghost use Rattle.feed_loads.specs.Learned.{LoaderFitsAndLearns};
 ghost use Rattle.feed_loads.specs.Lines.{outcome_line};
-ghost use Rattle.feed_loads.specs.Loading.{load_answer};
+ghost use Rattle.feed_loads.specs.Loading.{load_answer, outcome_alone};
 ghost use Rattle.feed_loads.specs.Posts.{IsLoaderDone, loader_post_of};
 ghost use Rattle.feed_loads.specs.Words.{loads_of, outcomes_of};
 
@@ -86,7 +86,7 @@ impl<'a, R: Wait, N: Drop, T: Versions<Notice = N> + Loads, F: Feeds> LoadContex
         errors: &mut E,
     )
         requires { T.Loads.words.fits self.now.shelves.now seat.old }
-        ensures seat { LoaderGoesOn T.Loads.words self.now.shelves.now seat.old seat.new }
+        ensures seat { LoaderFitsAndLearns T.Loads.words self.now.shelves.now seat.old seat.new }
         ensures carried { Handles (load_input_of (loads_of F.words
             (outcomes_of
             F.Files.words
@@ -110,7 +110,7 @@ impl<'a, R: Wait, N: Drop, T: Versions<Notice = N> + Loads, F: Feeds> LoadContex
         errors: &mut E,
     ) -> (LoadAnswer<N>, Option<DrawnFiles<F::Files, N>>)
         requires { T.Loads.words.fits self.now.shelves.now seat.old }
-        ensures seat { LoaderGoesOn T.Loads.words self.now.shelves.now seat.old seat.new }
+        ensures seat { LoaderFitsAndLearns T.Loads.words self.now.shelves.now seat.old seat.new }
         ensures load { IsLoadOf (load_input_of (loads_of F.words
             (outcomes_of
             F.Files.words
@@ -150,7 +150,7 @@ impl<'a, R: Wait, N: Drop, T: Versions<Notice = N> + Loads, F: Feeds> LoadContex
     ) -> Result<(LoadedVersion, Option<N>), LoadRefusal>
         requires loads { T.Loads.words.fits self.now.shelves.now seat.old }
         requires unread { AreUnread F.Files.words files.old }
-        ensures seat { LoaderGoesOn T.Loads.words self.now.shelves.now seat.old seat.new }
+        ensures seat { LoaderFitsAndLearns T.Loads.words self.now.shelves.now seat.old seat.new }
         ensures load { (plan : Plan) × F.words.is_plan self.now.feeds.now plan
             × AreLoadedBy (outcomes_of
             F.Files.words
@@ -164,9 +164,12 @@ impl<'a, R: Wait, N: Drop, T: Versions<Notice = N> + Loads, F: Feeds> LoadContex
     }
 }
 
+// The outcome without its notice, as it is reported.
 fn loaded_or_refusal<N>(
     outcome: &Result<(LoadedVersion, Option<N>), LoadRefusal>,
-) -> Result<LoadedVersion, LoadRefusal> {
+) -> Result<LoadedVersion, LoadRefusal>
+    ensures { result ≡ outcome_alone outcome.now }
+{
     match outcome {
         Ok((loaded, _)) => Ok(*loaded),
         Err(refusal) => Err(*refusal),

@@ -4,7 +4,7 @@ ghost use Rattle.std.specs.Prelude.{◌≡◌, IfOk, MatchOption, MatchResult};
 ghost use Rattle.std.specs.Arc.{arc_value};
 ghost use Rattle.feed_files.specs.Reads.{SomeWereRead};
 ghost use Rattle.shelves.specs.Seats.{ShowsRefusal};
-ghost use Rattle.feed_loads.specs.Learned.{LoaderGoesOn};
+ghost use Rattle.feed_loads.specs.Learned.{LoaderFitsAndLearns};
 ghost use Rattle.feed_loads.specs.Loading.{FilesGoOn, HasDays, IsEarly, IsLoadOutcome, IsMadeOf};
 ghost use Rattle.feed_loads.specs.Loading.{PublishesAndCollects};
 ghost use Rattle.feed_loads.specs.Loading.{IsRefusalOf, load_state};
@@ -36,7 +36,7 @@ pub fn load_one<F: FeedFiles, N, T: Versions<Notice = N> + Loads>(
 ) -> Result<(LoadedVersion, Option<N>), LoadRefusal>
     requires loads { T.Loads.words.fits shelves.now loader.old }
     requires days { HasDays plan.now }
-    ensures seat { LoaderGoesOn T.Loads.words shelves.now loader.old loader.new }
+    ensures seat { LoaderFitsAndLearns T.Loads.words shelves.now loader.old loader.new }
     ensures outcome { IsLoadOutcome (outcomes_of F.words
         T.Loads.words T.Versions.words.version)
         plan.now (load_state files.old loader.old) result (load_state files.new loader.new) }
@@ -80,7 +80,7 @@ fn publish_image<N, T: Versions<Notice = N> + Loads>(
     image: Arc<Verified, Global>,
 ) -> Result<(u64, Option<N>), PublishFault>
     requires { T.Loads.words.fits shelves.now loader.old }
-    ensures seat { LoaderGoesOn T.Loads.words shelves.now loader.old loader.new }
+    ensures seat { LoaderFitsAndLearns T.Loads.words shelves.now loader.old loader.new }
     ensures published { MatchResult result
         (λ loaded. PublishesAndCollects (T.Loads.words.answers loader.old) (arc_value image) loaded.0
         (T.Loads.words.answers loader.new))

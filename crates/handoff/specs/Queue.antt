@@ -167,10 +167,10 @@ module _ {I : Type 0} (rule : QueueRule I) where
   abbrev pub IsKeptByTaking : Type 0
   IsKeptByTaking = (pass : ℕ) (items : List I) (ended : ℕ) → Pops rule pass (EndView.Taking items ended) (IsOneMore (EndView.Taking items ended))
 
-  -- the rule holds of these arrivals and of what some ends know, one of which knows this
-  abbrev pub IsHeldBeside : EndView I → List (Message I) → Type 0
-  IsHeldBeside side arrivals = (views : List (EndView I)) × (pass : ℕ) × rule arrivals views × (get_elem? views pass ≡ some side)
+-- a rule of what a channel holds and of what its ends know holds of these arrivals and of what some ends know, one of which knows this
+abbrev pub IsHeldBeside : {A V : Type 0} → (List A → List V → Type 0) → V → List A → Type 0
+IsHeldBeside {A} {V} rule side arrivals = (views : List V) × (pass : ℕ) × rule arrivals views × (get_elem? views pass ≡ some side)
 
-  -- at one moment the queue held so many, and one of its ends knew this: the rule held then
-  abbrev pub Held : ℕ → EndView I → Type 0
-  Held count side = Moment count (IsHeldBeside side)
+-- at one moment a channel held so many, and one of its ends knew this: the rule held then
+abbrev pub Held : {A V : Type 0} → (List A → List V → Type 0) → ℕ → V → Type 0
+Held rule count side = Moment count (IsHeldBeside rule side)

@@ -22,27 +22,6 @@ is_none zero m then any = refl
 is_none (suc n) m then any = let no_end = then (omega arith) in absurd (omega (arith, no_end, any))
 
 module _ {I : Type 0} where
-  -- how the totals change if one end knows `w` in place of `v`
-  record Totals (views : List (EndView I)) (k : ℕ) (v w : EndView I) : Type 0 where
-    keepers : total keeps (slice_set views k w) + keeps v ≡ total keeps views + keeps w
-    out : total putting_at (slice_set views k w) + putting_at v ≡ total putting_at views + putting_at w
-    putters : total puts_there (slice_set views k w) + puts_there v ≡ total puts_there views + puts_there w
-    loading : total taking_at (slice_set views k w) + taking_at v ≡ total taking_at views + taking_at w
-    takers : total takes_there (slice_set views k w) + takes_there v ≡ total takes_there views + takes_there w
-    closings : total closings_at (slice_set views k w) + closings_at v ≡ total closings_at views + closings_at w
-    ended : total ended_at (slice_set views k w) + ended_at v ≡ total ended_at views + ended_at w
-
-  totals : (views : List (EndView I)) (k : ℕ) (v w : EndView I) → get_elem? views k ≡ some v → Totals views k v w
-  totals views k v w at = record {
-    keepers = changed keeps views k v w at;
-    out = changed putting_at views k v w at;
-    putters = changed puts_there views k v w at;
-    loading = changed taking_at views k v w at;
-    takers = changed takes_there views k v w at;
-    closings = changed closings_at views k v w at;
-    ended = changed ended_at views k v w at;
-  }
-
   -- a step of one end changes what this end knows, and nothing else in the list of what each end knows
   module _ (views : List (EndView I)) (k : ℕ) (v w : EndView I) (at : get_elem? views k ≡ some v) where
     -- nothing is put or taken
@@ -117,24 +96,17 @@ module _ {I : Type 0} (room : ℕ) where
       → closings_at w + (ended_at v + closings_in items) ≡ closings_at v + (ended_at w + closings_in items_then)
       → (0 < total closings_at (slice_set views k w) → total putting_at views ≡ 0)
       → (0 < total ended_at (slice_set views k w) → waiting_in items_then ≡ []) → IsQueue room items_then (slice_set views k w)
-  step views k v w items items_then at h few once last keeps out puts loading takes closes none_out none_waits =
-      let t = totals views k v w at in
-      let t_keepers = t.keepers in
-      let t_out = t.out in
-      let t_putters = t.putters in
-      let t_loading = t.loading in
-      let t_takers = t.takers in
-      let t_closings = t.closings in
-      let t_ended = t.ended in
+  step views k v w items items_then at h few once last keep out puts loading takes closes none_out none_waits =
+      let t = changed views k v w at in
       record {
         few = few;
         once = once;
         last = last;
-        keeper = omega (arith, h.keeper, t_keepers, keeps);
-        putting_are = omega (arith, h.putting_are, t_out, t_putters, out, puts);
-        taking_are = omega (arith, h.taking_are, t_loading, t_takers, loading, takes);
-        closings_are = omega (arith, h.closings_are, t_closings, t_ended, closes);
-        none_putting = λ any. let none = none_out any in omega (arith, none, t_out, out);
+        keeper = omega (arith, h.keeper, t keeps, keep);
+        putting_are = omega (arith, h.putting_are, t putting_at, t puts_there, out, puts);
+        taking_are = omega (arith, h.taking_are, t taking_at, t takes_there, loading, takes);
+        closings_are = omega (arith, h.closings_are, t closings_at, t ended_at, closes);
+        none_putting = λ any. let none = none_out any in omega (arith, none, t putting_at, out);
         none_waits = none_waits;
       }
 
@@ -146,14 +118,12 @@ module _ {I : Type 0} (room : ℕ) where
       → closings_at w ≡ closings_at v → ended_at w ≡ ended_at v → IsQueue room (items ++ Message.Item item ∷ []) (slice_set views k w)
   put_step views k v w item items at h small fresh puts takes keeps out putters loading takers closings ends =
       let longer = length_push items (Message.Item item) in
-      let t = totals views k v w at in
-      let t_closings = t.closings in
-      let t_ended = t.ended in
+      let t = changed views k v w at in
       let same_closings = closes_same items item in
       step views k v w items (items ++ Message.Item item ∷ []) at h (omega (arith, longer, small))
       (once_put views k v w at item items puts takes h.once) (item_last items item (omega (arith, h.closings_are, fresh)) h.last)
       keeps out putters loading takers (omega (arith, closings, ends, same_closings))
-      (λ any. absurd (omega (arith, any, t_closings, closings, fresh))) (λ any. absurd (omega (arith, any, t_ended, ends, h.closings_are, fresh)))
+      (λ any. absurd (omega (arith, any, t closings_at, closings, fresh))) (λ any. absurd (omega (arith, any, t ended_at, ends, h.closings_are, fresh)))
 
   -- an end puts an item
   puts : (k : ℕ) (items : List I) (tries : ℕ) (item : I)
@@ -161,7 +131,7 @@ module _ {I : Type 0} (room : ℕ) where
   puts k items tries item arrivals views small h at =
       let v = EndView.Putting items tries in
       let w = EndView.Putting (items ++ item ∷ []) tries in
-      let ends = changed puts_there views k v EndView.Rests at in
+      let ends = changed views k v EndView.Rests at puts_there in
       let fresh = is_none (total closings_at views) (total putting_at views) h.none_putting (omega (arith, ends, h.putting_are)) in
       (w, put_step views k v w item arrivals at h small fresh refl refl refl refl refl refl refl refl refl, refl)
 
@@ -179,26 +149,21 @@ module _ {I : Type 0} (room : ℕ) where
   kept_by_taking k items ended (Message.Item item) arrivals views h at =
       let v = EndView.Taking items ended in
       let w = EndView.Taking (items ++ item ∷ []) ended in
-      let few = h.few in
-      let t = totals views k v w at in
-      let t_closings = t.closings in
-      let t_ended = t.ended in (
+      let t = changed views k v w at in (
         w,
-        step views k v w (Message.Item item ∷ arrivals) arrivals at h (omega (arith, few)) (once_taken views k v w at item arrivals refl refl h.once)
-            h.last refl refl refl refl refl (omega arith) (λ any. h.none_putting (omega (arith, any, t_closings)))
-            (λ any. absurd (waits item (waiting_in arrivals) (h.none_waits (omega (arith, any, t_ended))))),
+        step views k v w (Message.Item item ∷ arrivals) arrivals at h (omega (arith, h.few)) (once_taken views k v w at item arrivals refl refl h.once)
+            h.last refl refl refl refl refl (omega arith) (λ any. h.none_putting (omega (arith, any, t closings_at)))
+            (λ any. absurd (waits item (waiting_in arrivals) (h.none_waits (omega (arith, any, t ended_at))))),
         refl,
       )
   kept_by_taking k items ended Message.Closing arrivals views h at =
       let v = EndView.Taking items ended in
       let w = EndView.Taking items (ended + 1) in
-      let few = h.few in
-      let t = totals views k v w at in
-      let t_closings = t.closings in (
+      let t = changed views k v w at in (
         w,
-        step views k v w (Message.Closing ∷ arrivals) arrivals at h (omega (arith, few))
+        step views k v w (Message.Closing ∷ arrivals) arrivals at h (omega (arith, h.few))
             (once_still views k v w at (Message.Closing ∷ arrivals) arrivals refl refl refl h.once)
-            (nothing_last arrivals h.last) refl refl refl refl refl (omega arith) (λ any. h.none_putting (omega (arith, any, t_closings)))
+            (nothing_last arrivals h.last) refl refl refl refl refl (omega arith) (λ any. h.none_putting (omega (arith, any, t closings_at)))
             (λ any. h.last),
         refl,
       )
@@ -211,14 +176,13 @@ module _ {I : Type 0} (room : ℕ) where
       let w = EndView.Keeping (record view { closings = view.closings + 1 }) in
       let out = at_keeper putting_at views k view keeper_counts_putters at h.keeper in
       let longer = length_push arrivals Message.Closing in
-      let t = totals views k v w at in
-      let t_ended = t.ended in
+      let t = changed views k v w at in
       let more_closings = closes_more arrivals in (
         w,
         step views k v w arrivals (arrivals ++ Message.Closing ∷ []) at h (omega (arith, longer, small))
             (once_still views k v w at arrivals (arrivals ++ Message.Closing ∷ []) refl refl (waits_same arrivals) h.once)
             (closing_last arrivals h.last) refl refl refl refl refl (omega (arith, more_closings)) (λ any. omega (arith, out, none))
-            (λ any. waits_same arrivals ∙ h.none_waits (omega (arith, any, t_ended))),
+            (λ any. waits_same arrivals ∙ h.none_waits (omega (arith, any, t ended_at))),
         refl,
       )
 
@@ -231,14 +195,7 @@ module _ {I : Type 0} (room : ℕ) where
       → (0 < total closings_at views → putting_at w + putting_at u ≡ putting_at v) → IsQueue room items (slice_set views k w ++ u ∷ [])
   split views k v w u items at h puts takes none_put none_taken keep ends loaders close ended stays =
       let now = slice_set views k w in
-      let t = totals views k v w at in
-      let t_keepers = t.keepers in
-      let t_out = t.out in
-      let t_putters = t.putters in
-      let t_loading = t.loading in
-      let t_takers = t.takers in
-      let t_closings = t.closings in
-      let t_ended = t.ended in
+      let t = changed views k v w at in
       let keepers_also = counted keeps now u in
       let out_also = counted putting_at now u in
       let putters_also = counted puts_there now u in
@@ -250,16 +207,16 @@ module _ {I : Type 0} (room : ℕ) where
         few = h.few;
         once = once_split now u items none_put none_taken (once_still views k v w at items items puts takes refl h.once);
         last = h.last;
-        keeper = omega (arith, h.keeper, keep, t_keepers, keepers_also);
-        putting_are = omega (arith, h.putting_are, ends, t_out, t_putters, out_also, putters_also);
-        taking_are = omega (arith, h.taking_are, loaders, t_loading, t_takers, loading_also, takers_also);
-        closings_are = omega (arith, h.closings_are, close, ended, t_closings, t_ended, closings_also, ended_also);
+        keeper = omega (arith, h.keeper, keep, t keeps, keepers_also);
+        putting_are = omega (arith, h.putting_are, ends, t putting_at, t puts_there, out_also, putters_also);
+        taking_are = omega (arith, h.taking_are, loaders, t taking_at, t takes_there, loading_also, takers_also);
+        closings_are = omega (arith, h.closings_are, close, ended, t closings_at, t ended_at, closings_also, ended_also);
         none_putting = λ any.
-            let were : 0 < total closings_at views = omega (arith, any, close, t_closings, closings_also) in
+            let were : 0 < total closings_at views = omega (arith, any, close, t closings_at, closings_also) in
             let none = h.none_putting were in
             let same = stays were in
-            omega (arith, none, same, t_out, out_also);
-        none_waits = λ any. h.none_waits (omega (arith, any, ended, t_ended, ended_also));
+            omega (arith, none, same, t putting_at, out_also);
+        none_waits = λ any. h.none_waits (omega (arith, any, ended, t ended_at, ended_also));
       }
 
   tries_more : (k : ℕ) (items : List I) (tries : ℕ)
@@ -295,33 +252,19 @@ module _ {I : Type 0} (room : ℕ) where
       → closings_at both ≡ closings_at v + closings_at w → ended_at both ≡ ended_at v + ended_at w
       → IsQueue room items (slice_set (slice_set views k both) other EndView.Rests)
   comes_back views k other v both w items at apart there h put taken keep putting putters taking takers closings ended =
-      let t = totals views k v both at in
-      let t_keepers = t.keepers in
-      let t_out = t.out in
-      let t_putters = t.putters in
-      let t_loading = t.loading in
-      let t_takers = t.takers in
-      let t_closings = t.closings in
-      let t_ended = t.ended in
-      let s = totals (slice_set views k both) other w EndView.Rests there in
-      let s_keepers = s.keepers in
-      let s_out = s.out in
-      let s_putters = s.putters in
-      let s_loading = s.loading in
-      let s_takers = s.takers in
-      let s_closings = s.closings in
-      let s_ended = s.ended in
+      let t = changed views k v both at in
+      let s = changed (slice_set views k both) other w EndView.Rests there in
       record {
         few = h.few;
         once = once_back views k other v both w items at apart there put taken h.once;
         last = h.last;
-        keeper = omega (arith, h.keeper, keep, t_keepers, s_keepers);
-        putting_are = omega (arith, h.putting_are, putting, putters, t_out, t_putters, s_out, s_putters);
-        taking_are = omega (arith, h.taking_are, taking, takers, t_loading, t_takers, s_loading, s_takers);
-        closings_are = omega (arith, h.closings_are, closings, ended, t_closings, t_ended, s_closings, s_ended);
+        keeper = omega (arith, h.keeper, keep, t keeps, s keeps);
+        putting_are = omega (arith, h.putting_are, putting, putters, t putting_at, t puts_there, s putting_at, s puts_there);
+        taking_are = omega (arith, h.taking_are, taking, takers, t taking_at, t takes_there, s taking_at, s takes_there);
+        closings_are = omega (arith, h.closings_are, closings, ended, t closings_at, t ended_at, s closings_at, s ended_at);
         none_putting = λ any.
-            let none = h.none_putting (omega (arith, any, closings, t_closings, s_closings)) in omega (arith, none, putting, t_out, s_out);
-        none_waits = λ any. h.none_waits (omega (arith, any, ended, t_ended, s_ended));
+            let none = h.none_putting (omega (arith, any, closings, t closings_at, s closings_at)) in omega (arith, none, putting, t putting_at, s putting_at);
+        none_waits = λ any. h.none_waits (omega (arith, any, ended, t ended_at, s ended_at));
       }
 
   pub putter_comes_back : (k : ℕ) (view : KeeperView I) (other : ℕ) (items : List I) (tries : ℕ)
@@ -332,12 +275,10 @@ module _ {I : Type 0} (room : ℕ) where
       let w = EndView.Putting items tries in
       let both = EndView.Keeping (record view { putting = view.putting - 1; put = view.put ++ items }) in
       let out = at_keeper putting_at views k view keeper_counts_putters at h.keeper in
-      let t = totals views k v both at in
-      let t_putters = t.putters in
-      let s = totals (slice_set views k both) other w EndView.Rests there in
-      let s_putters = s.putters in
+      let t = changed views k v both at in
+      let s = changed (slice_set views k both) other w EndView.Rests there in
       comes_back views k other v both w arrivals at apart there h refl (sym (append-nil view.taken)) refl
-      (omega (arith, h.putting_are, out, t_putters, s_putters)) refl (omega arith) refl (omega arith) (omega arith)
+      (omega (arith, h.putting_are, out, t puts_there, s puts_there)) refl (omega arith) refl (omega arith) (omega arith)
 
   pub taker_comes_back : (k : ℕ) (view : KeeperView I) (other : ℕ) (items : List I) (ended : ℕ)
       → Merges {T = Message I} (IsQueue room) k (EndView.Keeping view) other (EndView.Taking items ended)
@@ -347,12 +288,10 @@ module _ {I : Type 0} (room : ℕ) where
       let w = EndView.Taking items ended in
       let both = EndView.Keeping (record view { taking = view.taking - 1; taken = view.taken ++ items; ended = view.ended + ended }) in
       let out = at_keeper taking_at views k view keeper_counts_takers at h.keeper in
-      let t = totals views k v both at in
-      let t_takers = t.takers in
-      let s = totals (slice_set views k both) other w EndView.Rests there in
-      let s_takers = s.takers in
+      let t = changed views k v both at in
+      let s = changed (slice_set views k both) other w EndView.Rests there in
       comes_back views k other v both w arrivals at apart there h (sym (append-nil view.put)) refl refl
-      (omega arith) refl (omega (arith, h.taking_are, out, t_takers, s_takers)) refl (omega arith) refl
+      (omega arith) refl (omega (arith, h.taking_are, out, t takes_there, s takes_there)) refl (omega arith) refl
 
   -- all are back
   pub learns : (k : ℕ) (view : KeeperView I) → Learns {T = Message I} (IsQueue room) k (EndView.Keeping view) (λ items. KnowsAllTaken (EndView.Keeping view))
@@ -362,13 +301,10 @@ module _ {I : Type 0} (room : ℕ) where
       let keepers = others_keep views k view at h.keeper in
       let out = at_keeper putting_at views k view keeper_counts_putters at h.keeper in
       let loading = at_keeper taking_at views k view keeper_counts_takers at h.keeper in
-      let t = totals views k v EndView.Rests at in
-      let t_putters = t.putters in
-      let t_takers = t.takers in
-      let t_ended = t.ended in
-      let put = none_put others keepers (omega (arith, t_putters, h.putting_are, out, no_putter)) in
-      let taken = none_taken others keepers (omega (arith, t_takers, h.taking_are, loading, no_taker)) in
-      let none = h.none_waits (omega (arith, t_ended, closed)) in
+      let t = changed views k v EndView.Rests at in
+      let put = none_put others keepers (omega (arith, t puts_there, h.putting_are, out, no_putter)) in
+      let taken = none_taken others keepers (omega (arith, t takes_there, h.taking_are, loading, no_taker)) in
+      let none = h.none_waits (omega (arith, t ended_at, closed)) in
       let all_put : IsPermutation (items_by put_at views) view.put =
       subst (λ list. IsPermutation (items_by put_at views) list) (ap (λ list. view.put ++ list) put ∙ append-nil view.put)
       (gone put_at views k v at refl) in

@@ -96,13 +96,13 @@ module _ {I : Type 0} where
         IsPermutation-append_right (part x) (items_by part (slice_set (slice_set rest i both) j EndView.Rests)) (items_by part rest)
         (merged rest i j v both w at (λ same. apart (ap suc same)) there bare is)
 
-  -- the number of one end changes, and the total by as much
-  pub changed : (part : EndView I → ℕ) (views : List (EndView I)) (k : ℕ) (v w : EndView I) → get_elem? views k ≡ some v
+  -- one end knows `w` in place of `v`: the total of any number changes by as much as that of this end
+  pub changed : (views : List (EndView I)) (k : ℕ) (v w : EndView I) → get_elem? views k ≡ some v → (part : EndView I → ℕ)
       → total part (slice_set views k w) + part v ≡ total part views + part w
   unfolding found_or
-  changed part [] k v w at = absurd (some-ne-none _ (sym at))
-  changed part (x ∷ rest) zero v w at = let here : part x ≡ part v = ap (λ found. part (found_or found x)) at in omega (arith, here)
-  changed part (x ∷ rest) (suc k) v w at = let more = changed part rest k v w at in omega (arith, more)
+  changed [] k v w at part = absurd (some-ne-none _ (sym at))
+  changed (x ∷ rest) zero v w at part = let here : part x ≡ part v = ap (λ found. part (found_or found x)) at in omega (arith, here)
+  changed (x ∷ rest) (suc k) v w at part = let more = changed rest k v w at part in omega (arith, more)
 
   -- one end is added, and its number to the total
   pub counted : (part : EndView I → ℕ) (views : List (EndView I)) (u : EndView I) → total part (views ++ u ∷ []) ≡ total part views + part u
@@ -123,14 +123,14 @@ module _ {I : Type 0} where
 
   pub others_keep : (views : List (EndView I)) (k : ℕ) (view : KeeperView I) → get_elem? views k ≡ some (EndView.Keeping view) → total keeps views ≡ 1
       → total keeps (slice_set views k EndView.Rests) ≡ 0
-  others_keep views k view at one = let all = changed keeps views k (EndView.Keeping view) EndView.Rests at in omega (arith, one, all)
+  others_keep views k view at one = let all = changed views k (EndView.Keeping view) EndView.Rests at keeps in omega (arith, one, all)
 
   pub at_keeper : (part : EndView I → ℕ) (views : List (EndView I)) (k : ℕ) (view : KeeperView I) → IsKeepers part
       → get_elem? views k ≡ some (EndView.Keeping view) → total keeps views ≡ 1 → total part views ≡ part (EndView.Keeping view)
   at_keeper part views k view only at one =
       let no_end = nowhere part (slice_set views k EndView.Rests) only (others_keep views k view at one) in
       let rests = only EndView.Rests refl in
-      let all = changed part views k (EndView.Keeping view) EndView.Rests at in
+      let all = changed views k (EndView.Keeping view) EndView.Rests at part in
       omega (arith, no_end, rests, all)
 
   pub keeper_counts_putters : IsKeepers putting_at

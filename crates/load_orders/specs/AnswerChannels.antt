@@ -1,9 +1,8 @@
 -- The answer channel from the loader to a worker that waits for a load.
 use Rattle.std.specs.Prelude.{◌≡◌, ◌++◌, ◌∷◌, ℕ, List, [], slice_get, Option, Some, None}
-use mathlib.Core.Option.{some}
-use lib.ListN.{get_elem?}
-use Rattle.crossbeam_channel.specs.Fifo.{Held, Pops}
+use Rattle.crossbeam_channel.specs.Fifo.{Pops}
 use Rattle.atomic_table.specs.Seated.{TableId}
+use Rattle.handoff.specs.Queue.{Held}
 use Rattle.load_orders.specs.declared.answer_channels.LoadAnswer.{LoadAnswer}
 use Rattle.load_orders.specs.declared.answer_channels.AnswerView.{AnswerView}
 
@@ -62,10 +61,6 @@ module _ {N : Type 0} (rule : List (LoadAnswer N) → List (AnswerView N) → Ty
   IsKeptByReceiving = (end : ℕ) (received : List (LoadAnswer N)) → Pops rule end (AnswerView.Receiving received)
       (IsOneAnswerMore (AnswerView.Receiving received))
 
-  -- the rule holds of these answers and of what some ends know, one of which knows this
-  abbrev pub IsHeldBeside : AnswerView N → List (LoadAnswer N) → Type 0
-  IsHeldBeside side items = (ends : List (AnswerView N)) × (end : ℕ) × rule items ends × (get_elem? ends end ≡ some side)
-
   -- at one moment no answer was in the channel, and one end hadn't received any: the rule held then
   abbrev pub WasEmpty : Type 0
-  WasEmpty = Held 0 (IsHeldBeside none_received)
+  WasEmpty = Held rule 0 none_received

@@ -44,7 +44,7 @@ abbrev pub dealings_of : {N : Type 0} → WorkerOrdersValue N → Dealings N
 dealings_of orders = dealings orders.names orders.end orders.received
 
 -- the first feed of this name
-pub record IsFirst (names : List (List ℕ)) (name : List ℕ) (index : ℕ) : Type 0 where
+pub record IsFirstFeed (names : List (List ℕ)) (name : List ℕ) (index : ℕ) : Type 0 where
   pub there : slice_get names index ≡ Some name
   pub first : (before : ℕ) → before < index → ¬ (slice_get names before ≡ Some name)
 
@@ -67,17 +67,17 @@ awaited_order index channel = record { feed = index; answer_channel = Some chann
 
 -- there is a feed of this name
 abbrev pub IsFeedName : List (List ℕ) → List ℕ → Type 0
-IsFeedName names name = (index : ℕ) × IsFirst names name index
+IsFeedName names name = (index : ℕ) × IsFirstFeed names name index
 
 -- an order of the first feed of this name is put
-abbrev pub IsPut : {N : Type 0} → List ℕ → Dealings N → Dealings N → Type 0
-IsPut name before after =
-    (index : ℕ) × IsFirst before.names name index × (after.end ≡ with_item before.end (order_of index)) × (after.received ≡ before.received)
+abbrev pub PutsOrder : {N : Type 0} → List ℕ → Dealings N → Dealings N → Type 0
+PutsOrder name before after =
+    (index : ℕ) × IsFirstFeed before.names name index × (after.end ≡ with_item before.end (order_of index)) × (after.received ≡ before.received)
 
 -- an order of the first feed of this name is put with an answer channel, and by the one receiving end of that channel this answer is received, or none
 abbrev pub Receives : {N : Type 0} → List ℕ → Option (LoadAnswer N) → Dealings N → Dealings N → Type 0
 Receives name answer before after =
-    (index : ℕ) × (channel : AnswerChannelId) × IsFirst before.names name index
+    (index : ℕ) × (channel : AnswerChannelId) × IsFirstFeed before.names name index
     × (after.end ≡ with_item before.end (awaited_order index channel)) × (after.received ≡ before.received ++ received_at channel answer ∷ [])
 
 -- the order is added to those that were asked for; the names and the queue stay the same
@@ -116,7 +116,7 @@ module _ {N : Type 0} (rule : QueueRule (Order N)) where
 
   -- what an order that nobody waits for did
   abbrev pub Puts : List ℕ → Result (Unit {0}) OrderFault → Dealings N → Dealings N → Type 0
-  Puts feed (Ok u) before after = IsPut feed before after
+  Puts feed (Ok u) before after = PutsOrder feed before after
   Puts feed (Err fault) before after = RefusesOrder feed fault before after
 
 -- what orders go by: the rule of their queue, and the version that a notice is of
@@ -149,11 +149,11 @@ module _ {N : Type 0} (words : OrderWords N) where
       Waits feed came (dealings_of before) (dealings_of after) × AddsOrder (waited_value feed (version_alone came)) before after
 
   -- each of these orders was asked for, one after the other
-  abbrev pub AreAsked : List OrderValue → WorkerOrdersValue N → WorkerOrdersValue N → Type 0
-  AreAsked [] before after = after ≡ before
-  AreAsked (order ∷ orders) before after = (between : WorkerOrdersValue N) × AsksOrder order before between × AreAsked orders between after
+  abbrev pub AsksOrders : List OrderValue → WorkerOrdersValue N → WorkerOrdersValue N → Type 0
+  AsksOrders [] before after = after ≡ before
+  AsksOrders (order ∷ orders) before after = (between : WorkerOrdersValue N) × AsksOrder order before between × AsksOrders orders between after
 
   -- each order that was asked for here did this, from the first on: so all that was put at the queue and received of it comes from these orders.
   -- How often the end had tried before is nothing that an order shows
   abbrev pub HasAsked : WorkerOrdersValue N → Type 0
-  HasAsked orders = (tries : ℕ) × AreAsked orders.asked (nothing_asked (route_of orders) tries) orders
+  HasAsked orders = (tries : ℕ) × AsksOrders orders.asked (nothing_asked (route_of orders) tries) orders

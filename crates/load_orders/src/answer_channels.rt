@@ -84,7 +84,7 @@ impl<N: Drop, P> Outcome<LoadAnswer<N>, AnswerView<N>> for ReceivesAnswer<P> {
 }
 
 impl<N: Drop, P: AnswerRule<N>> Lesson<LoadAnswer<N>, AnswerView<N>> for ReceivesAnswer<P> {
-    ghost use Rattle.load_orders.specs.AnswerChannels.{IsHeldBeside};
+    ghost use Rattle.handoff.specs.Queue.{IsHeldBeside};
 
     ghost fact = { IsHeldBeside P.Protocol.holds };
 }

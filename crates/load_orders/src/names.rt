@@ -1,12 +1,12 @@
 //! Names of feeds.
 
 ghost use Rattle.std.specs.Prelude.{◌≡◌, ◌<◌, ℕ, length, map, slice_get, string_bytes, Some, MatchBool, MatchOption};
-ghost use Rattle.load_orders.specs.Asking.{IsFirst, IsNoName};
+ghost use Rattle.load_orders.specs.Asking.{IsFirstFeed, IsNoName};
 
 /// The first index of the name.
 pub(crate) fn index_of(names: &[String], name: &str) -> Option<usize>
     ensures { MatchOption result (IsNoName (map string_bytes names.now) name.now)
-        (IsFirst (map string_bytes names.now) name.now) }
+        (IsFirstFeed (map string_bytes names.now) name.now) }
 {
     for index in 0..names.len() {
         if is_named(names, index, name) {

@@ -17,7 +17,7 @@ use Rattle.session.specs.Lines.{LineMeaning}
 use Rattle.session.specs.SeatSteps.{AnswerStep, Follows, SeatMove, answered, joined, answers_in}
 use Rattle.session.specs.Sessions.{AreExchanges, LastRelease, moves_of}
 use Rattle.session.specs.Exchanges.{Exchange, IsExchange, Meets, ProfileIsMet, SeatState, deed_of, seat_state}
-use Rattle.session.specs.Learning.{ExchangeIsFromPublished, ExchangesAreFromPublished, GoesOn, IsPublishedIfHeld, Learns, LearningTells}
+use Rattle.session.specs.Learning.{ExchangeIsFromPublished, ExchangesAreFromPublished, FitsAndLearns, IsPublishedIfHeld, Learns, LearningTells}
 use Rattle.session.specs.Learning.{PinIsPublished, ReplyIsFromPublished}
 use Rattle.session.proofs.SeatLemmas.{answers_grow, is_pinned, pin_refused, release_refused, steps}
 use Rattle.session.specs.Replies.{ReplyValue}
@@ -42,11 +42,11 @@ pub learns_on : (k : KnownHistory) (a : SeatValue) (l : KnownHistory) (m : SeatV
 learns_on k a l m n b p q = learns_both PinIsPublished published_later k l n a.answers m.answers b.answers p q
 
 -- a seat at which nothing was done, and calls one behind the other
-pub goes_on_same : {T S N : Type 0} (words : SeatWords T S N) (shelves : T) (s : S) → words.fits shelves s → GoesOn words shelves s s
+pub goes_on_same : {T S N : Type 0} (words : SeatWords T S N) (shelves : T) (s : S) → words.fits shelves s → FitsAndLearns words shelves s s
 goes_on_same words shelves s fits = record { fits = fits; number = refl; learns = learns_same (words.known s) (words.shown s) }
 
-pub goes_on : {T S N : Type 0} (words : SeatWords T S N) (shelves : T) (a m b : S) → GoesOn words shelves a m → GoesOn words shelves m b
-    → GoesOn words shelves a b
+pub goes_on : {T S N : Type 0} (words : SeatWords T S N) (shelves : T) (a m b : S) → FitsAndLearns words shelves a m → FitsAndLearns words shelves m b
+    → FitsAndLearns words shelves a b
 goes_on words shelves a m b p q =
     record {
       fits = q.fits;
@@ -86,7 +86,7 @@ pub ruleset pins = (learns_pinned, learns_unpinned)
 pub goes_once : {T S N : Type 0} (words : SeatWords T S N) (shelves : T) (a m b : S) (back : Result (Unit {0}) PinFault)
     → words.number m ≡ words.number a → Grows (words.known a) (words.known m) → HoldsAsKnown (words.known m) (words.number m) (words.shown m).held
     → ShowsPin (words.shown a) (Ok tt) (words.shown m) → words.fits shelves b → words.number b ≡ words.number m
-    → Grows (words.known m) (words.known b) → ShowsRelease (words.shown m) back (words.shown b) → GoesOn words shelves a b
+    → Grows (words.known m) (words.known b) → ShowsRelease (words.shown m) back (words.shown b) → FitsAndLearns words shelves a b
 goes_once words shelves a m b back number grows known pins fits number_then more releases = record {
   fits = fits;
   number = number_then ∙ number;

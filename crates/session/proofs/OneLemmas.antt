@@ -17,7 +17,7 @@ use Rattle.answer_replies.specs.Replying.{IsAnsweredBy, Subject, subject_of}
 use Rattle.answer_replies.specs.Valuing.{by_arrival}
 use Rattle.answer_replies.specs.OneStop.{IsAnsweredOneBy}
 use Rattle.session.specs.OneStop.{AnswersOne, IsTooLongOne, OneAsk, TellsOfOne}
-use Rattle.session.specs.Profiles.{AnswersQuery, IsTooLong, window_of}
+use Rattle.session.specs.Profiles.{AnswersQuery, IsTooLong, asked_window}
 use Rattle.session.specs.Replies.{ReplyValue}
 use Rattle.session.specs.declared.reply_form.ReplyForm.{ReplyForm}
 
@@ -63,24 +63,24 @@ first_of_one stops q QueryFault.BadWindow (sources, targets, apart, bad) =
     (sources q.source here, targets q.target there, (λ same. apart q.source here (subst (Contains (q.target ∷ [])) (sym same) there)), bad)
 
 module _ (form : ReplyForm) (image : ImageValue) (version : ℕ) (one : OneAsk) (reply : ReplyValue) where
-  asks_of_one : (b : SetQueryValue) → AsksBetween image.names one.ask.from one.ask.to (window_of one.ask) b
-      → IsOne image.names one.from one.to (window_of one.ask) b
-  asks_of_one b asks = one_question image.names one.from one.to one.ask.from one.ask.to (window_of one.ask) b one.from_one one.to_one asks
+  asks_of_one : (b : SetQueryValue) → AsksBetween image.names one.ask.from one.ask.to (asked_window one.ask) b
+      → IsOne image.names one.from one.to (asked_window one.ask) b
+  asks_of_one b asks = one_question image.names one.from one.to one.ask.from one.ask.to (asked_window one.ask) b one.from_one one.to_one asks
 
   unknown_one : (name : List ℕ) (names : List (List ℕ)) → names ≡ name ∷ [] → SomeUnknown image.names names → NamesNone image.names name
   unknown_one name names is (other, has, none) =
       subst (NamesNone image.names) (contains_only name other (subst (λ (xs : List (List ℕ)). Contains xs other) is has)) none
 
-  first_asked : (fault : QueryFault) (b : SetQueryValue) → AsksBetween image.names one.ask.from one.ask.to (window_of one.ask) b
+  first_asked : (fault : QueryFault) (b : SetQueryValue) → AsksBetween image.names one.ask.from one.ask.to (asked_window one.ask) b
       → IsFirstFault image.timetable.stops b fault
-      → (q : Query) × Asks image.names one.from one.to (window_of one.ask) q × IsFirstFaultOne image.timetable.stops q fault
+      → (q : Query) × Asks image.names one.from one.to (asked_window one.ask) q × IsFirstFaultOne image.timetable.stops q fault
   first_asked fault b asks first =
       let o = asks_of_one b asks in
       let first_then = subst (λ (x : SetQueryValue). IsFirstFault image.timetable.stops x fault) o.is first in
       (o.query, o.asked, first_of_one image.timetable.stops o.query fault first_then)
 
-  refused_one : (fault : QueryFault) → IsFaultBetween image one.ask.from one.ask.to (window_of one.ask) fault
-      → IsRefused image one.from one.to (window_of one.ask) fault
+  refused_one : (fault : QueryFault) → IsFaultBetween image one.ask.from one.ask.to (asked_window one.ask) fault
+      → IsRefused image one.from one.to (asked_window one.ask) fault
   refused_one QueryFault.UnknownStop (inl unknown) = inl (unknown_one one.from one.ask.from one.from_one unknown)
   refused_one QueryFault.UnknownStop (inr unknown) = inr (unknown_one one.to one.ask.to one.to_one unknown)
   refused_one QueryFault.SameStop (b, asks, first) = first_asked QueryFault.SameStop b asks first

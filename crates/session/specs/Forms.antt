@@ -8,6 +8,6 @@ abbrev pub bare : ReplyForm
 bare = record { points = Bare; longest = None; sets = false }
 
 -- a window of so many seconds is longer than windows may be
-abbrev pub IsLonger : Option ℕ → ℕ → Type 0
-IsLonger None span = ⊥
-IsLonger (Some longest) span = longest < span
+abbrev pub ExceedsLongest : Option ℕ → ℕ → Type 0
+ExceedsLongest None span = ⊥
+ExceedsLongest (Some longest) span = longest < span

@@ -30,7 +30,7 @@ abbrev pub Learns : KnownHistory → SeatValue → KnownHistory → SeatValue �
 Learns known a known_then b = LearnsBy PinIsPublished known a.answers known_then b.answers
 
 -- what every call leaves of a worker's seat: it may still be used at these shelves, it has the same worker's number, and it learned so
-pub record GoesOn {T S N : Type 0} (words : SeatWords T S N) (shelves : T) (a b : S) : Type 0 where
+pub record FitsAndLearns {T S N : Type 0} (words : SeatWords T S N) (shelves : T) (a b : S) : Type 0 where
   pub fits : words.fits shelves b
   pub number : words.number b ≡ words.number a
   pub learns : Learns (words.known a) (words.shown a) (words.known b) (words.shown b)

@@ -8,10 +8,10 @@ use Rattle.journeys.specs.Questions.{Asks, IsRefused}
 use Rattle.session_texts.specs.Requests.{AskValue}
 use Rattle.answer_replies.specs.OneStop.{IsAnsweredOneBy}
 use Rattle.answer_replies.specs.Replying.{subject_of}
-use Rattle.session.specs.Forms.{IsLonger}
+use Rattle.session.specs.Forms.{ExceedsLongest}
 use Rattle.session.specs.Lines.{query_fault_line}
 use Rattle.session.specs.Replies.{ReplyValue, plain}
-use Rattle.session.specs.Profiles.{AnswersQuery, IsNoQuery, IsTooLong, window_of}
+use Rattle.session.specs.Profiles.{AnswersQuery, IsNoQuery, IsTooLong, asked_window}
 use Rattle.session.specs.declared.reply_form.ReplyForm.{ReplyForm}
 
 -- a request from the stop of one name to that of one other
@@ -25,23 +25,23 @@ pub record OneAsk : Type 0 where
 -- the plain query between these stops is refused, and the reply says why
 pub record IsRefusedOne (image : ImageValue) (one : OneAsk) (reply : ReplyValue) : Type 0 where
   pub fault : QueryFault
-  pub refused : IsRefused image one.from one.to (window_of one.ask) fault
+  pub refused : IsRefused image one.from one.to (asked_window one.ask) fault
   pub reply_is : reply ≡ plain (query_fault_line fault)
 
 -- the plain query can be asked, but its window is longer than windows may be
 pub record IsTooLongOne (form : ReplyForm) (image : ImageValue) (one : OneAsk) (reply : ReplyValue) : Type 0 where
   pub query : Query
   pub can_be : IsAskable image.timetable.stops query
-  pub asked : Asks image.names one.from one.to (window_of one.ask) query
-  pub longer : IsLonger form.longest (one.ask.by - one.ask.after)
+  pub asked : Asks image.names one.from one.to (asked_window one.ask) query
+  pub longer : ExceedsLongest form.longest (one.ask.by - one.ask.after)
   pub reply_is : reply ≡ plain (query_fault_line QueryFault.BadWindow)
 
 -- the window isn't too long, and the reply answers the plain query
 pub record AnswersOne (form : ReplyForm) (image : ImageValue) (version : ℕ) (one : OneAsk) (reply : ReplyValue) : Type 0 where
   pub query : Query
   pub can_be : IsAskable image.timetable.stops query
-  pub asked : Asks image.names one.from one.to (window_of one.ask) query
-  pub short : ¬ (IsLonger form.longest (one.ask.by - one.ask.after))
+  pub asked : Asks image.names one.from one.to (asked_window one.ask) query
+  pub short : ¬ (ExceedsLongest form.longest (one.ask.by - one.ask.after))
   pub answered : IsAnsweredOneBy one.ask.criterion (subject_of form.points image version) query reply.text
 
 -- what the reply tells of the request between sets, it tells of the plain query

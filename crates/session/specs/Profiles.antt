@@ -8,26 +8,26 @@ use Rattle.station_answers.specs.Naming.{AsksBetween, IsFaultBetween}
 use Rattle.station_answers.specs.Reading.{window_between}
 use Rattle.session_texts.specs.Requests.{AskValue}
 use Rattle.answer_replies.specs.Replying.{IsAnsweredBy, subject_of}
-use Rattle.session.specs.Forms.{IsLonger}
+use Rattle.session.specs.Forms.{ExceedsLongest}
 use Rattle.session.specs.Lines.{memory_line, query_fault_line}
 use Rattle.session.specs.Replies.{ReplyValue, plain}
 use Rattle.session.specs.declared.reply_form.ReplyForm.{ReplyForm}
 
-abbrev pub window_of : AskValue → Window
-window_of ask = record { from = ask.after; until = ask.until; by = ask.by }
+abbrev pub asked_window : AskValue → Window
+asked_window ask = record { from = ask.after; until = ask.until; by = ask.by }
 
 -- the request is no query of this image, and the reply says why
 pub record IsNoQuery (image : ImageValue) (ask : AskValue) (reply : ReplyValue) : Type 0 where
   pub fault : QueryFault
-  pub refused : IsFaultBetween image ask.from ask.to (window_of ask) fault
+  pub refused : IsFaultBetween image ask.from ask.to (asked_window ask) fault
   pub reply_is : reply ≡ plain (query_fault_line fault)
 
 -- the request is a query of this image, but its window is longer than windows may be, and the reply says that it is none
 pub record IsTooLong (form : ReplyForm) (image : ImageValue) (ask : AskValue) (reply : ReplyValue) : Type 0 where
   pub query : SetQueryValue
   pub can_be : IsAskableBetween image.timetable.stops query
-  pub asked : AsksBetween image.names ask.from ask.to (window_of ask) query
-  pub longer : IsLonger form.longest (ask.by - ask.after)
+  pub asked : AsksBetween image.names ask.from ask.to (asked_window ask) query
+  pub longer : ExceedsLongest form.longest (ask.by - ask.after)
   pub reply_is : reply ≡ plain (query_fault_line QueryFault.BadWindow)
 
 -- the request is a query of this image, with a window that isn't too long, and the reply answers it: each connection of the window is read once, from
@@ -35,8 +35,8 @@ pub record IsTooLong (form : ReplyForm) (image : ImageValue) (ask : AskValue) (r
 pub record AnswersQuery (form : ReplyForm) (image : ImageValue) (version : ℕ) (ask : AskValue) (reply : ReplyValue) : Type 0 where
   pub query : SetQueryValue
   pub can_be : IsAskableBetween image.timetable.stops query
-  pub asked : AsksBetween image.names ask.from ask.to (window_of ask) query
-  pub short : ¬ (IsLonger form.longest (ask.by - ask.after))
+  pub asked : AsksBetween image.names ask.from ask.to (asked_window ask) query
+  pub short : ¬ (ExceedsLongest form.longest (ask.by - ask.after))
   pub answered : IsAnsweredBy ask.criterion (subject_of form.points image version) query reply.text
   pub reads : reply.read ≡ reverse (window_between image.timetable query)
 
@@ -49,8 +49,8 @@ pub record IsProfileReply (form : ReplyForm) (image : ImageValue) (version : ℕ
 pub record ReadsPart (form : ReplyForm) (image : ImageValue) (ask : AskValue) (read : List ℕ) : Type 0 where
   pub query : SetQueryValue
   pub can_be : IsAskableBetween image.timetable.stops query
-  pub asked : AsksBetween image.names ask.from ask.to (window_of ask) query
-  pub short : ¬ (IsLonger form.longest (ask.by - ask.after))
+  pub asked : AsksBetween image.names ask.from ask.to (asked_window ask) query
+  pub short : ¬ (ExceedsLongest form.longest (ask.by - ask.after))
   pub count : ℕ
   pub read_is : read ≡ take count (reverse (window_between image.timetable query))
 

@@ -2,7 +2,7 @@
 
 ghost use Rattle.std.specs.Prelude.{◌≡◌, ℕ, List};
 ghost use Rattle.lines.specs.Showing.{ShowsLine};
-ghost use Rattle.session.specs.Learning.{GoesOn};
+ghost use Rattle.session.specs.Learning.{FitsAndLearns};
 ghost use Rattle.session.specs.Replies.{reply_value};
 ghost use Rattle.session.specs.Exchanges.{AgreeOnNotices, Exchange, ExchangeLeadsTo, seat_state};
 
@@ -24,7 +24,7 @@ impl<'a, N: Drop, T: Versions<Notice = N>, G: Gate> SessionServer<'a, T, G> {
     ) -> SessionReply
         requires fits { T.words.fits self.now.shelves.now seat.old }
         requires notices { AgreeOnNotices O.notice_version T.words.version }
-        ensures seat { GoesOn T.words self.now.shelves.now seat.old seat.new }
+        ensures seat { FitsAndLearns T.words self.now.shelves.now seat.old seat.new }
         ensures route { O.route orders.new ≡ O.route orders.old }
         ensures exchange { (l : List ℕ) → ShowsLine line.entry l
             → (t : Exchange) × (t.line ≡ l) × (t.reply ≡ reply_value result) × ExchangeLeadsTo self.now.form

@@ -3,7 +3,7 @@
 ghost use Rattle.std.specs.Prelude.{◌≡◌, ◌++◌, ◌⊎◌, List, []};
 ghost use Rattle.shelves.specs.Seats.{ShowsJoin};
 ghost use Rattle.orders.specs.Ordering.{OrderValue};
-ghost use Rattle.session.specs.Learning.{GoesOn};
+ghost use Rattle.session.specs.Learning.{FitsAndLearns};
 ghost use Rattle.session.specs.Lines.{memory_line};
 ghost use Rattle.session.specs.Replies.{plain, reply_value};
 ghost use Rattle.session.specs.Exchanges.{AgreeOnNotices, Deed, IsLoaded, OrderIsMet};
@@ -31,8 +31,8 @@ impl<'a, N: Drop, T: Versions<Notice = N>, G> SessionServer<'a, T, G> {
         }
     }
 
-    /// Orders the feed and waits for its version. The seat joins the notice of that version before the client is
-    /// reported of it, so that no later pin by this seat gives an older one.
+    /// Orders the feed and waits for its version. The seat joins the notice of that version before the client gets
+    /// its reply, so that no later pin by this seat gives an older one.
     #[tactic(auto, using(crate::proofs::LearnLemmas::goes_on_same))]
     pub(crate) fn load_feed<O: Orders<Notice = N>>(
         &self,
@@ -42,7 +42,7 @@ impl<'a, N: Drop, T: Versions<Notice = N>, G> SessionServer<'a, T, G> {
     ) -> SessionReply
         requires fits { T.words.fits self.now.shelves.now seat.old }
         requires notices { AgreeOnNotices O.notice_version T.words.version }
-        ensures seat { GoesOn T.words self.now.shelves.now seat.old seat.new }
+        ensures seat { FitsAndLearns T.words self.now.shelves.now seat.old seat.new }
         ensures route { O.route orders.new ≡ O.route orders.old }
         ensures met { (d : Deed) × (d.reply ≡ reply_value result)
             × (O.asked orders.new ≡ O.asked orders.old ++ d.orders)
@@ -64,7 +64,7 @@ impl<'a, N: Drop, T: Versions<Notice = N>, G> SessionServer<'a, T, G> {
     #[tactic(auto, using(crate::proofs::LearnLemmas::learns_by_notice))]
     fn take_notice(&self, seat: &mut T::Seat, notice: N)
         requires { T.words.fits self.now.shelves.now seat.old }
-        ensures seat { GoesOn T.words self.now.shelves.now seat.old seat.new }
+        ensures seat { FitsAndLearns T.words self.now.shelves.now seat.old seat.new }
         ensures joined { ShowsJoin (T.words.shown seat.old) (T.words.version notice) (T.words.shown seat.new) }
     {
         self.shelves.join(seat, notice);

@@ -1,7 +1,7 @@
 //! Pins and releases that a request asks for.
 
 ghost use Rattle.session_texts.specs.Requests.{pin, release};
-ghost use Rattle.session.specs.Learning.{GoesOn};
+ghost use Rattle.session.specs.Learning.{FitsAndLearns};
 ghost use Rattle.session.specs.Lines.{asks};
 ghost use Rattle.session.specs.Replies.{reply_value};
 ghost use Rattle.session.specs.Exchanges.{IsMet, replied_to};
@@ -17,7 +17,7 @@ impl<'a, T: Versions, G> SessionServer<'a, T, G> {
     #[tactic(auto, using(crate::proofs::LearnLemmas::pins))]
     pub(crate) fn pin(&self, seat: &mut T::Seat) -> SessionReply
         requires { T.words.fits self.now.shelves.now seat.old }
-        ensures seat { GoesOn T.words self.now.shelves.now seat.old seat.new }
+        ensures seat { FitsAndLearns T.words self.now.shelves.now seat.old seat.new }
         ensures met { IsMet self.now.form (T.words.number seat.old) (T.words.shown seat.old)
             (replied_to (asks pin) (reply_value result)) (T.words.shown seat.new) }
     {
@@ -41,7 +41,7 @@ impl<'a, T: Versions, G> SessionServer<'a, T, G> {
     #[tactic(auto, using(crate::proofs::LearnLemmas::learns_by_release))]
     pub(crate) fn release(&self, seat: &mut T::Seat) -> SessionReply
         requires { T.words.fits self.now.shelves.now seat.old }
-        ensures seat { GoesOn T.words self.now.shelves.now seat.old seat.new }
+        ensures seat { FitsAndLearns T.words self.now.shelves.now seat.old seat.new }
         ensures met { IsMet self.now.form (T.words.number seat.old) (T.words.shown seat.old)
             (replied_to (asks release) (reply_value result)) (T.words.shown seat.new) }
     {

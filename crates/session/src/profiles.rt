@@ -5,10 +5,10 @@ ghost use Rattle.std.specs.Arc.{arc_value};
 ghost use Rattle.profile_scan.specs.SetQuery.{IsAskableBetween, question};
 ghost use Rattle.station_answers.specs.Naming.{AsksBetween, IsNoQuestion};
 ghost use Rattle.session_texts.specs.Requests.{ask_value, profile};
-ghost use Rattle.session.specs.Learning.{GoesOn};
+ghost use Rattle.session.specs.Learning.{FitsAndLearns};
 ghost use Rattle.session.specs.Lines.{asks};
 ghost use Rattle.session.specs.Replies.{reply_value};
-ghost use Rattle.session.specs.Profiles.{RepliesToProfile, window_of};
+ghost use Rattle.session.specs.Profiles.{RepliesToProfile, asked_window};
 ghost use Rattle.session.specs.Exchanges.{IsMet, replied_to};
 
 use crate::reply::SessionReply;
@@ -31,7 +31,7 @@ impl<'a, T: Versions, G: Gate> SessionServer<'a, T, G> {
     /// released after it.
     pub(crate) fn answer_profile(&self, seat: &mut T::Seat, ask: &Ask<'_>) -> SessionReply
         requires { T.words.fits self.now.shelves.now seat.old }
-        ensures seat { GoesOn T.words self.now.shelves.now seat.old seat.new }
+        ensures seat { FitsAndLearns T.words self.now.shelves.now seat.old seat.new }
         ensures met { IsMet self.now.form (T.words.number seat.old) (T.words.shown seat.old)
             (replied_to (asks (profile (ask_value ask.now))) (reply_value result)) (T.words.shown seat.new) }
     {
@@ -46,7 +46,7 @@ impl<'a, T: Versions, G: Gate> SessionServer<'a, T, G> {
     fn answer_once(&self, seat: &mut T::Seat, ask: &Ask<'_>) -> SessionReply
         requires fits { T.words.fits self.now.shelves.now seat.old }
         requires idle { (T.words.shown seat.old).held ≡ None }
-        ensures seat { GoesOn T.words self.now.shelves.now seat.old seat.new }
+        ensures seat { FitsAndLearns T.words self.now.shelves.now seat.old seat.new }
         ensures met { IsMet self.now.form (T.words.number seat.old) (T.words.shown seat.old)
             (replied_to (asks (profile (ask_value ask.now))) (reply_value result)) (T.words.shown seat.new) }
     {
@@ -101,9 +101,9 @@ fn answer_from<G: Gate>(
 fn question_of(alloc: Global, image: &Verified, ask: &Ask<'_>) -> Result<SetQuery, NoQuestion>
     ensures { MatchResult result
         (λ query. IsAskableBetween image.now.timetable.stops (question query)
-        × AsksBetween image.now.names (ask_value ask.now).from (ask_value ask.now).to (window_of (ask_value ask.now))
+        × AsksBetween image.now.names (ask_value ask.now).from (ask_value ask.now).to (asked_window (ask_value ask.now))
         (question query))
-        (IsNoQuestion image.now (ask_value ask.now).from (ask_value ask.now).to (window_of (ask_value ask.now))) }
+        (IsNoQuestion image.now (ask_value ask.now).from (ask_value ask.now).to (asked_window (ask_value ask.now))) }
 {
     let from: &[&str] = &ask.from;
     let to: &[&str] = &ask.to;

@@ -1,7 +1,7 @@
 //! In which form a session replies to profiles.
 
 ghost use Rattle.std.specs.Prelude.{◌≡◌, ◌↔◌, ◌-◌, IsTrue, None, false};
-ghost use Rattle.session.specs.Forms.{IsLonger};
+ghost use Rattle.session.specs.Forms.{ExceedsLongest};
 
 use answer_replies::PointForm;
 
@@ -32,7 +32,7 @@ impl ReplyForm {
 
     /// Whether a window from this earliest departure to this latest arrival is longer than windows may be.
     pub(crate) fn excludes(&self, after: u32, by: u32) -> bool
-        ensures { IsTrue result ↔ IsLonger self.now.longest (by - after) }
+        ensures { IsTrue result ↔ ExceedsLongest self.now.longest (by - after) }
     {
         match self.longest {
             Some(longest) => longest < by.saturating_sub(after),

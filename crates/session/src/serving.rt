@@ -6,7 +6,7 @@ ghost use Rattle.lines.specs.Showing.{ShowsLine};
 ghost use Rattle.lines.specs.Streams.{HasFailed, HasFlushed, inner_of};
 ghost use Rattle.shelves.specs.Seats.{SeatValue};
 ghost use Rattle.session.specs.Forms.{bare};
-ghost use Rattle.session.specs.Learning.{GoesOn, SeatAnswersFromPublished};
+ghost use Rattle.session.specs.Learning.{FitsAndLearns, SeatAnswersFromPublished};
 ghost use Rattle.session.specs.SeatSteps.{seat_reply};
 ghost use Rattle.session.specs.Sessions.{LastRelease, Serves, replies_of, serve_words, state_of};
 ghost use Rattle.session.specs.Exchanges.{AgreeOnNotices, Exchange, ExchangeLeadsTo, seat_state};
@@ -42,7 +42,7 @@ pub fn serve<
 ) -> Result<Ended, SessionFault>
     requires fits { T.words.fits shelves.now seat.old }
     requires notices { AgreeOnNotices O.notice_version T.words.version }
-    ensures seat { GoesOn T.words shelves.now seat.old seat.new }
+    ensures seat { FitsAndLearns T.words shelves.now seat.old seat.new }
     ensures route { O.route orders.new ≡ O.route orders.old }
     ensures profiles { SeatAnswersFromPublished (T.words.known seat.new) (T.words.shown seat.old)
         (T.words.shown seat.new) }
@@ -70,7 +70,7 @@ impl<'a, N: Drop, T: Versions<Notice = N>, G: Gate> SessionServer<'a, T, G> {
     ) -> Result<Ended, SessionFault>
         requires fits { T.words.fits self.now.shelves.now seat.old }
         requires notices { AgreeOnNotices O.notice_version T.words.version }
-        ensures seat { GoesOn T.words self.now.shelves.now seat.old seat.new }
+        ensures seat { FitsAndLearns T.words self.now.shelves.now seat.old seat.new }
         ensures route { O.route orders.new ≡ O.route orders.old }
         ensures profiles { SeatAnswersFromPublished (T.words.known seat.new) (T.words.shown seat.old)
             (T.words.shown seat.new) }
@@ -90,7 +90,7 @@ impl<'a, N: Drop, T: Versions<Notice = N>, G: Gate> SessionServer<'a, T, G> {
     // Gives back what the seat holds, if anything.
     fn release_last(&self, seat: &mut T::Seat)
         requires { T.words.fits self.now.shelves.now seat.old }
-        ensures seat { GoesOn T.words self.now.shelves.now seat.old seat.new }
+        ensures seat { FitsAndLearns T.words self.now.shelves.now seat.old seat.new }
         ensures released { (T.words.shown seat.new).held ≡ None }
         ensures last { LastRelease (T.words.number seat.old) (T.words.shown seat.old) (T.words.shown seat.new) }
     {
@@ -109,7 +109,7 @@ impl<'a, N: Drop, T: Versions<Notice = N>, G: Gate> SessionServer<'a, T, G> {
     ) -> Result<Ended, SessionFault>
         requires fits { T.words.fits self.now.shelves.now seat.old }
         requires notices { AgreeOnNotices O.notice_version T.words.version }
-        ensures seat { GoesOn T.words self.now.shelves.now seat.old seat.new }
+        ensures seat { FitsAndLearns T.words self.now.shelves.now seat.old seat.new }
         ensures route { O.route orders.new ≡ O.route orders.old }
         ensures session { Serves (serve_words self.now.form In.words Out.words) (T.words.number seat.old) result
             (state_of T.words.shown reader.old writer.old
@@ -156,7 +156,7 @@ impl<'a, N: Drop, T: Versions<Notice = N>, G: Gate> SessionServer<'a, T, G> {
     ) -> Result<(), WriteFailed>
         requires fits { T.words.fits self.now.shelves.now seat.old }
         requires notices { AgreeOnNotices O.notice_version T.words.version }
-        ensures seat { GoesOn T.words self.now.shelves.now seat.old seat.new }
+        ensures seat { FitsAndLearns T.words self.now.shelves.now seat.old seat.new }
         ensures route { O.route orders.new ≡ O.route orders.old }
         ensures calls { MatchResult result
             (λ _. HasFlushed Out.words writer.old writer.new)

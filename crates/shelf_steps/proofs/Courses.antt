@@ -18,7 +18,7 @@ use Rattle.shelf_steps.specs.declared.views.KnownHistory.{KnownHistory}
 use Rattle.shelf_steps.specs.declared.views.WorkerView.{WorkerView}
 use Rattle.shelf_steps.specs.declared.views.LoaderView.{LoaderView}
 use Rattle.version_core.specs.Shown.{WorkerShows}
-use Rattle.shelf_steps.specs.EventHistory.{EventHistory, LeadsToItsState, extended, all_of, IsKnownBeginning, Happened, image_of, IsEdition}
+use Rattle.shelf_steps.specs.EventHistory.{EventHistory, LeadsToItsState, extended, known_in_full, IsKnownBeginning, Happened, image_of, IsEdition}
 use Rattle.shelf_steps.specs.EventHistory.{note_of, notes_in, join_of, joined_by, HasDoneNothing, IsOfSixteen, AreOfSixteen}
 use Rattle.shelf_steps.specs.Seats.{HasEdition, WorkerFits, LoaderFits}
 
@@ -102,7 +102,7 @@ module _ (c : EventHistory) (e : Event) (r : Reply) (t : State) (images : List I
   }
 
   pub happened : (k : KnownHistory) → IsKnownBeginning k (actor e) c → LeadsToItsState (extended c e r t images) → IsPrefix c.images images
-      → Happened k e r (all_of (extended c e r t images))
+      → Happened k e r (known_in_full (extended c e r t images))
   happened k b g more = record {
     state = t;
     goes = g;
@@ -126,7 +126,7 @@ goes_same c e r t g stepped one same =
     goes_on c e r t c.images g stepped one (g.as_many ∙ sym (ap (λ (l : List ℕ). length l) same))
     (λ i edition at. g.numbered i edition (ap (λ (l : List ℕ). slice_get l i) (sym same) ∙ at))
 
-pub begins_all : (c : EventHistory) (a : Option ℕ) → IsKnownBeginning (all_of c) a c
+pub begins_all : (c : EventHistory) (a : Option ℕ) → IsKnownBeginning (known_in_full c) a c
 begins_all c a = record { events = ([], append-nil c.events, tt); replies = prefix_same c.replies; images = prefix_same c.images }
 
 pub image_later : (images more : List ImageValue) (v : ℕ) (x : ImageValue) → IsPrefix images more → image_of images v ≡ Some x → image_of more v ≡ Some x
@@ -159,7 +159,7 @@ other_fits c d u now seen up more known joined f = record {
 
 -- what a worker knows after a step of its own, which takes in no notice
 pub worker_next : (c d : EventHistory) (e : Event) (v v' : WorkerView) → WorkerFits c v → d.events ≡ c.events ++ e ∷ [] → join_of v.number e ≡ []
-    → v'.known ≡ all_of d → (v'.number ≡ v.number) × (v'.joined ≡ v.joined)
+    → v'.known ≡ known_in_full d → (v'.number ≡ v.number) × (v'.joined ≡ v.joined)
     → WorkerShows v'.number v'.now v'.seen d.state → (v'.last ≤ d.state.current) × (v'.last ≤ v'.seen)
     → (v'.passed ≡ true → v'.last < d.state.current) → HasEdition d.images v'.now v'.edition → WorkerFits d v'
 worker_next c d e v v' f more none known kept shows last passed edition = record {
@@ -173,8 +173,8 @@ worker_next c d e v v' f more none known kept shows last passed edition = record
 }
 
 -- what the loader knows after a step of its own, which gives no notice
-pub loader_next : (c d : EventHistory) (e : Event) (l l' : LoaderView) → LoaderFits c l → d.events ≡ c.events ++ e ∷ [] → note_of e ≡ 0 → l'.known ≡ all_of d
-    → l'.notes ≡ l.notes → length d.images ≡ newest d.state
+pub loader_next : (c d : EventHistory) (e : Event) (l l' : LoaderView) → LoaderFits c l → d.events ≡ c.events ++ e ∷ [] → note_of e ≡ 0
+    → l'.known ≡ known_in_full d → l'.notes ≡ l.notes → length d.images ≡ newest d.state
     → l'.current ≡ d.state.current → l'.current_shelf ≡ d.state.current_shelf → l'.shelves ≡ d.state.shelves → LoaderFits d l'
 loader_next c d e l l' f more none known notes as_many current current_shelf shelves = record {
   shows = record {

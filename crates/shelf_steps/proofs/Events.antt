@@ -11,7 +11,7 @@ use Rattle.shelf_steps.specs.declared.views.LoaderView.{LoaderView}
 use Rattle.shelf_steps.specs.declared.views.View.{View}
 use Rattle.shelf_steps.specs.Rule.{KeepsRule}
 use Rattle.shelf_steps.specs.Plays.{OfWorker, SeatAndSlots, Looks, Takes, TakesFound, TakesAs, Leaves}
-use Rattle.shelf_steps.specs.Plays.{CollectsFound, IsLate}
+use Rattle.shelf_steps.specs.Plays.{CollectsFound, ShowsLate}
 use Rattle.shelf_steps.specs.Plays.{looked_at, is_open, newest_of}
 use Rattle.shelf_steps.specs.Laws.{Shelved, IsLoader}
 use Rattle.shelf_steps.specs.Events.{IsEvent, IsWorkers, LooksAreEvents, TakesAreEvents, DropsAreEvents, OpensAreEvents}
@@ -93,12 +93,12 @@ abbrev Passed : ℕ → View → Type 0
 Passed version u = OfWorker u (λ v. (v.last ≡ version) × (v.passed ≡ true))
 
 late_found : (v : WorkerView) (c : List (ℕ × Option Edition)) (version k n : ℕ) (b : Bool) (m' : SeatAndSlots)
-    → TakesFound (v, c) (version, k) n b m' → IsLate k m'.0 → OfWorker m'.0 (λ x. (x.last ≡ v.last) × (x.passed ≡ true))
-late_found v c version k n true m' h late = absurd (let z = subst (λ (m : SeatAndSlots). IsLate k m.0) h.2 late in cc)
+    → TakesFound (v, c) (version, k) n b m' → ShowsLate k m'.0 → OfWorker m'.0 (λ x. (x.last ≡ v.last) × (x.passed ≡ true))
+late_found v c version k n true m' h late = absurd (let z = subst (λ (m : SeatAndSlots). ShowsLate k m.0) h.2 late in cc)
 late_found v c version k n false m' h late = subst (λ (m : SeatAndSlots). OfWorker m.0 (λ x. (x.last ≡ v.last) × (x.passed ≡ true))) (sym h.1) (refl, refl)
 
 late_so : (u : View) (c : List (ℕ × Option Edition)) (m1 m2 : SeatAndSlots) (n word : ℕ) → Looks (u, c) n m1 → Takes m1 word m2
-    → IsLate (n % 8) m2.0 → Passed (n / 8) m2.0
+    → ShowsLate (n % 8) m2.0 → Passed (n / 8) m2.0
 late_so (View.Working v) c m1 m2 n word look take late =
     let t : TakesFound (looked_at v n look.0, c) (n / 8, n % 8) word (is_open word (n / 8)) m2 =
     subst (λ (m : SeatAndSlots). Takes m word m2) look.1 take in

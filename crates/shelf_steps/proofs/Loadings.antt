@@ -15,9 +15,9 @@ use Rattle.shelf_steps.specs.declared.views.LoaderView.{LoaderView}
 use Rattle.shelf_steps.specs.declared.views.View.{View}
 use Rattle.shelf_steps.specs.EventHistory.{Happened}
 use Rattle.shelf_steps.specs.Slots.{down_from}
-use Rattle.shelf_steps.specs.Plays.{OfLoader, SeatAndSlots, newest_of, with_open, with_hand, HasImage, IsBlock}
+use Rattle.shelf_steps.specs.Plays.{OfLoader, SeatAndSlots, newest_of, with_open, with_hand, IsFilledWith, IsBlock}
 use Rattle.shelf_steps.specs.Plays.{AllHave, OpensOn, PublishesOn, ClosesOn, CollectsFound, CollectsOn, GathersOn}
-use Rattle.shelf_steps.specs.Plays.{MayOpenOn, MayPublish, MayClose}
+use Rattle.shelf_steps.specs.Plays.{MayOpenOn, MayPublish, MayCloseShelf}
 use Rattle.shelf_steps.specs.Loading.{MayLoad, Loads}
 
 abbrev IsReady : ℕ → ℕ → ℕ → View → Type 0
@@ -31,7 +31,8 @@ front_of (x ∷ xs) = x.1
 block_front : (f g : ℕ → Option Edition) (k : ℕ) → down_from f (16 * k) 16 [] ≡ down_from g (16 * k) 16 [] → f (16 * k + 15) ≡ g (16 * k + 15)
 block_front f g k e = ap front_of e
 
-one_image : (version version' : ℕ) (image image' : ImageValue) (x : Option Edition) → HasImage version image x → HasImage version' image' x → image' ≡ image
+one_image : (version version' : ℕ) (image image' : ImageValue) (x : Option Edition) → IsFilledWith version image x
+    → IsFilledWith version' image' x → image' ≡ image
 one_image version version' image image' x a b = let z : Some a.0 ≡ Some b.0 = sym a.1 ∙ b.1 in let same : a.0 ≡ b.0 =
     cc in sym b.3
     ∙ (ap (λ (e : Edition). arc_value e.image) (sym same) ∙ a.3)
@@ -66,7 +67,7 @@ module _ (shelf version former : ℕ) (l : LoaderView) (image : ImageValue) (f :
       let next : length g.0.images + 1 ≡ version = ap (λ n. n + 1) same_newest ∙ sym may.next in
       let is : f (16 * shelf + 15) ≡ h.1 (16 * shelf + 15) = block_front f h.1 shelf h.3 in
       let one : h.0 ≡ image = one_image version (length g.0.images + 1) image h.0 (h.1 (16 * shelf + 15))
-      (subst (λ (x : Option Edition). HasImage version image x) is
+      (subst (λ (x : Option Edition). IsFilledWith version image x) is
       (all (16 * shelf + 15) (omega arith) (omega arith))) (h.4 (16 * shelf + 15) (omega arith) (omega arith)) in (
         h.2,
         h.5 ∙ ap (λ n. (View.Loading (with_open (with_hand l (Some shelf) g.0) shelf n h.2), [])) next,
@@ -92,8 +93,8 @@ module _ (shelf version former : ℕ) (l : LoaderView) (image : ImageValue) (f :
     published_so : PublishesOn version shelf (View.Loading (with_open (with_hand l (Some shelf) g.0) shelf version (opened_so m3 o).0), []) m4
     published_so = subst (λ (m : SeatAndSlots). PublishesOn version shelf m m4) (opened_so m3 o).1 p
 
-    may_close_now : MayClose former m4.0
-    may_close_now = subst (λ (m : SeatAndSlots). MayClose former m.0) (sym published_so.1) (l.current, still_open, older)
+    may_close_now : MayCloseShelf former m4.0
+    may_close_now = subst (λ (m : SeatAndSlots). MayCloseShelf former m.0) (sym published_so.1) (l.current, still_open, older)
 
     loaded_so : (m5 : SeatAndSlots) → ClosesOn former m4 m5 → Loads shelf version image (View.Loading l) m5.0 × (m5.1 ≡ [])
     loaded_so m5 k =
@@ -125,7 +126,7 @@ module _ (shelf version former : ℕ) (l : LoaderView) (image : ImageValue) (f :
 abbrev pub LoadsOn : ℕ → ℕ → ℕ → View → ImageValue → SeatAndSlots → Type 0
 LoadsOn shelf version former u image m2 = (version ≤ most_versions → MayOpenOn shelf version m2.0 m2.1)
     × ((m3 : SeatAndSlots) → OpensOn shelf m2 m3 → MayPublish version shelf m3.0
-    × ((m4 : SeatAndSlots) → PublishesOn version shelf m3 m4 → MayClose former m4.0
+    × ((m4 : SeatAndSlots) → PublishesOn version shelf m3 m4 → MayCloseShelf former m4.0
     × ((m5 : SeatAndSlots) → ClosesOn former m4 m5 → Loads shelf version image u m5.0 × (m5.1 ≡ []))))
 
 pub loads_on : (shelf version former : ℕ) (u : View) (image : ImageValue) (f : ℕ → Option Edition) (c : List (ℕ × Option Edition))

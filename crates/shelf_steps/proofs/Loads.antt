@@ -27,14 +27,14 @@ use Rattle.shelf_steps.specs.declared.views.KnownHistory.{KnownHistory}
 use Rattle.shelf_steps.specs.declared.views.WorkerView.{WorkerView}
 use Rattle.shelf_steps.specs.declared.views.LoaderView.{LoaderView}
 use Rattle.shelf_steps.specs.declared.views.View.{View}
-use Rattle.shelf_steps.specs.EventHistory.{EventHistory, LeadsToItsState, IsLonger, extended, all_of, IsKnownBeginning, Happened, image_of}
+use Rattle.shelf_steps.specs.EventHistory.{EventHistory, LeadsToItsState, IsLonger, extended, known_in_full, IsKnownBeginning, Happened, image_of}
 use Rattle.version_core.specs.Shown.{WordsShow, shelf_word}
 use Rattle.shelf_steps.specs.Seats.{WorkerFits, LoaderFits}
 use Rattle.shelf_steps.specs.Slots.{SlotsFit, SlotFits, held_by, down_from, nothings}
 use Rattle.shelf_steps.specs.Rule.{KeepsRule}
 use Rattle.shelf_steps.specs.Plays.{SeatAndSlots, newest_of, with_open, with_current, with_closing, with_free}
 use Rattle.shelf_steps.specs.Plays.{with_hand, AllHave, IsLastEvent, Opens, Publishes, Closes, CollectsFound, Collects}
-use Rattle.shelf_steps.specs.Plays.{Gathers, PutsBack, MayOpenOn, MayPublish, MayClose, MayCollect, MayGather}
+use Rattle.shelf_steps.specs.Plays.{Gathers, PutsBack, MayOpenOn, MayPublish, MayCloseShelf, MayCollect, MayGather}
 use Rattle.shelf_steps.specs.Plays.{MayPutBack}
 use Rattle.shelf_steps.specs.Events.{known_of}
 use Rattle.shelf_steps.specs.Steps.{Adds, added, word_change, OpensAdd, PublishesAdd, ClosesAdd, CollectsAdd, GatheringsAdd, PuttingsAdd}
@@ -71,12 +71,12 @@ module _ (table : Table (Option Edition) View) (r : KeepsRule table) (id : ℕ) 
       (joined_same u.number r.history.events e (no_join u.number e not_nobodys)) f
 
   loader_ruled : (words' : List ℕ) (homes' : List (Maybe (Option Edition))) → Step r.history.state e reply t
-      → l'.known ≡ all_of (extended r.history e reply t images)
+      → l'.known ≡ known_in_full (extended r.history e reply t images)
       → LoaderFits (extended r.history e reply t images) l' → WordsShow words' t
       → SlotsFit homes' t.shelves t.workers images l'.hand
       → (after : KeepsRule record { words = words'; homes = homes'; views = set table.views id (View.Loading l') })
-      × IsLonger r.history e reply after.history × (l'.known ≡ all_of after.history)
-      × Happened l.known e reply (all_of (extended r.history e reply t images))
+      × IsLonger r.history e reply after.history × (l'.known ≡ known_in_full after.history)
+      × Happened l.known e reply (known_in_full (extended r.history e reply t images))
   loader_ruled words' homes' is_step known fits words slots = (
     record {
       history = extended r.history e reply t images;
@@ -164,7 +164,7 @@ opens_as slots id k version l image f many small free hand current next few all 
     let goes' : LeadsToItsState (extended r.history e reply t images) = goes_on r.history e reply t images r.goes is_step tt (omega arith)
     (λ i edition q. elim (got_snoc s.editions top edition i q) [ inl a ↦ r.goes.numbered i edition a | inr b ↦ sym b.1 ∙ (is_newest ∙ sym b.0) ]) in
     let d : EventHistory = extended r.history e reply t images in
-    let l' : LoaderView = with_open l k (top + 1) (all_of d) in
+    let l' : LoaderView = with_open l k (top + 1) (known_in_full d) in
     let eight = kept.shelves.eight in
     let counted = few_counted s k kept small in
     let found = r.words.each k Shelf.Free is_free in
@@ -211,7 +211,7 @@ opens_as slots id k version l image f many small free hand current next few all 
         (
           image,
           f,
-          all_of d,
+          known_in_full d,
           refl,
           subst (λ m. AllHave m image k f) next all,
           (λ i. (View.Loading l', given_rest f (16 * k) 16 [] i)),
@@ -251,12 +251,12 @@ module _ (table : Table (Option Edition) View) (r : KeepsRule table) (id : ℕ) 
   goes' = goes_same r.history e reply t r.goes is_step (loaders_event e whose) editions
 
   pub noted_ruled : (words' : List ℕ) (homes' : List (Maybe (Option Edition)))
-      → l'.known ≡ all_of (extended r.history e reply t r.history.images)
+      → l'.known ≡ known_in_full (extended r.history e reply t r.history.images)
       → LoaderFits (extended r.history e reply t r.history.images) l' → WordsShow words' t
       → SlotsFit homes' t.shelves t.workers r.history.images l'.hand
       → (after : KeepsRule record { words = words'; homes = homes'; views = set table.views id (View.Loading l') })
-      × IsLonger r.history e reply after.history × (l'.known ≡ all_of after.history)
-      × IsLastEvent l e reply (all_of (extended r.history e reply t r.history.images))
+      × IsLonger r.history e reply after.history × (l'.known ≡ known_in_full after.history)
+      × IsLastEvent l e reply (known_in_full (extended r.history e reply t r.history.images))
   noted_ruled words' homes' known fits words slots =
       let z = loader_ruled table r id l l' at as_many e reply t r.history.images whose goes'
       (prefix_same r.history.images) workers seen notices up words' homes' is_step known fits words slots in
@@ -272,7 +272,7 @@ publishes_add slots id k version l c small may table r full at fits =
     let e : Event = Event.Publish in let reply : Reply = Reply.Published version in
     let is_step : Step s e reply t = (k, (stands, later), refl) in
     let d : EventHistory = extended r.history e reply t r.history.images in
-    let l' : LoaderView = with_current l version k (all_of d) in
+    let l' : LoaderView = with_current l version k (known_in_full d) in
     let fits' : LoaderFits d l' = loader_next r.history d e l l' knows refl refl refl refl r.goes.as_many refl refl knows.shows.shelves in
     let after =
     noted_ruled table r id l l' at refl e reply t refl is_step refl refl refl refl (omega arith) (set table.words 0 (8 * version + k)) table.homes refl fits'
@@ -283,7 +283,7 @@ publishes_add slots id k version l c small may table r full at fits =
       after.0,
       after.1,
       after.2,
-      (version, k, refl, small, (all_of d, refl, after.3)),
+      (version, k, refl, small, (known_in_full d, refl, after.3)),
     )
 
 pub publishings : (slots id k version : ℕ) (me : SeatAndSlots) → k < 8 → MayPublish version k me.0
@@ -305,7 +305,7 @@ closes_add slots id k l c small may table r full at fits =
     let e : Event = Event.Close k in let reply : Reply = Reply.Closing in
     let is_step : Step s e reply t = (version, outdated, refl) in
     let d : EventHistory = extended r.history e reply t r.history.images in
-    let l' : LoaderView = with_closing l k version (all_of d) in
+    let l' : LoaderView = with_closing l k version (known_in_full d) in
     let eight = kept.shelves.eight in
     let bound = version_bound s k (Shelf.Open version) kept stands version (inl refl) in
     let word = close_word n (get_or s.counts k 0) version (r.words.each k (Shelf.Open version) stands) (few_counted s k kept small) bound in
@@ -326,10 +326,10 @@ closes_add slots id k l c small may table r full at fits =
       after.0,
       after.1,
       after.2,
-      (k, refl, (version, all_of d, may.1, refl, after.3)),
+      (k, refl, (version, known_in_full d, may.1, refl, after.3)),
     )
 
-pub closings : (slots id k : ℕ) (me : SeatAndSlots) → k < 8 → MayClose k me.0
+pub closings : (slots id k : ℕ) (me : SeatAndSlots) → k < 8 → MayCloseShelf k me.0
     → Allows KeepsRule slots id me (k + 1) (added 256)
     (Closes (step slots (k + 1) 256 0 none) me)
 closings slots id k (View.Loading l, c) small may =
@@ -388,7 +388,7 @@ collects_found : (id k version : ℕ) (l : LoaderView) (table : Table (Option Ed
     → (w : View) × (a : Act (Option Edition)) × Valid table.homes [] a
     × (after : KeepsRule (stepped table (k + 1) (either b 0 (get_or table.words (k + 1) 0)) id [] w a))
     × IsLonger r.history (Event.Collect k) (cond b Reply.Freed (Reply.Busy (get_or table.words (k + 1) 0 % 256))) after.history
-    × (known_of w ≡ all_of after.history)
+    × (known_of w ≡ known_in_full after.history)
     × CollectsFound l k (get_or table.words (k + 1) 0) b (w, carried_after [] a)
 collects_found id k version l table r at many small shelf hand true found =
     let s = r.history.state in let kept : KeepsInvariants s = kept_of r.history r.goes in
@@ -398,7 +398,7 @@ collects_found id k version l table r at many small shelf hand true found =
     let e : Event = Event.Collect k in let reply : Reply = Reply.Freed in
     let is_step : Step s e reply t = (version, here.0, no_actor, refl) in
     let d : EventHistory = extended r.history e reply t r.history.images in
-    let l' : LoaderView = with_free l k (all_of d) in
+    let l' : LoaderView = with_free l k (known_in_full d) in
     let eight = kept.shelves.eight in
     let f : ℕ → Option Edition = λ j. value_at (get_elem? table.homes j) in
     let home : IsHome table.homes f (16 * k) 16 =
@@ -425,7 +425,7 @@ collects_found id k version l table r at many small shelf hand true found =
       after.2,
       (
         f,
-        all_of d,
+        known_in_full d,
         (λ i. (View.Loading l', carried_down f (16 * k) 16 [] i)),
         after.3,
         found_at table.words r.history r.goes r.words k e d refl small,
@@ -438,7 +438,7 @@ collects_found id k version l table r at many small shelf hand false found =
     let e : Event = Event.Collect k in let reply : Reply = Reply.Busy (n % 256) in
     let is_step : Step s e reply s = (version, here.0, here.1.0, here.1.1, refl) in
     let d : EventHistory = extended r.history e reply s r.history.images in
-    let l' : LoaderView = with_hand l None (all_of d) in
+    let l' : LoaderView = with_hand l None (known_in_full d) in
     let fits' : LoaderFits d l' = loader_next r.history d e l l' knows refl refl refl refl r.goes.as_many knows.shows.current knows.shows.current_shelf
     knows.shows.shelves in
     let after =
@@ -452,7 +452,7 @@ collects_found id k version l table r at many small shelf hand false found =
       after.1,
       after.2,
       (
-        all_of d,
+        known_in_full d,
         refl,
         after.3,
         here.1.1,
@@ -502,7 +502,7 @@ tries_free : (id k : ℕ) (l : LoaderView) (c : List (ℕ
     → (b : Bool) → (get_or table.words (k + 1) 0 == 512) ≡ b
     → (known : KnownHistory) × (after : KeepsRule (stepped table (k + 1) (either b 0 (get_or table.words (k + 1) 0)) id c
     (View.Loading (with_hand l hand' known)) a)) × IsLonger r.history (Event.Collect k) Reply.NotNow after.history
-    × (known ≡ all_of after.history) × IsLastEvent l (Event.Collect k) Reply.NotNow known
+    × (known ≡ known_in_full after.history) × IsLastEvent l (Event.Collect k) Reply.NotNow known
 tries_free id k l c hand' a table r at small free slots true found =
     let s = r.history.state in let n = get_or table.words (k + 1) 0 in let kept : KeepsInvariants s = kept_of r.history r.goes in
     let word = r.words.each k Shelf.Free (shelf_is table r id l at k Shelf.Free free) in let few =
@@ -519,13 +519,13 @@ tries_free id k l c hand' a table r at small free slots false found =
     let e : Event = Event.Collect k in let reply : Reply = Reply.NotNow in
     let is_step : Step s e reply s = ((λ v q. let z : Some Shelf.Free ≡ Some (Shelf.Closing v) = sym is_free ∙ q in cc), refl) in
     let d : EventHistory = extended r.history e reply s r.history.images in
-    let l' : LoaderView = with_hand l hand' (all_of d) in
+    let l' : LoaderView = with_hand l hand' (known_in_full d) in
     let fits' : LoaderFits d l' = loader_next r.history d e l l' knows refl refl refl refl r.goes.as_many knows.shows.current knows.shows.current_shelf
     knows.shows.shelves in
     let after =
     noted_ruled table r id l l' at refl e reply s refl is_step refl refl refl refl (omega arith) (set table.words (k + 1) n)
     (homes_after table.homes c a) refl fits' (words_same table.words (k + 1) s s r.words refl refl refl refl) slots in (
-      all_of d,
+      known_in_full d,
       after.0,
       after.1,
       after.2,

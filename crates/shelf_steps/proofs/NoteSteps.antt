@@ -13,7 +13,7 @@ use Rattle.version_core.specs.declared.event.Event.{Event}
 use Rattle.version_core.specs.declared.event.Reply.{Reply}
 use Rattle.version_core.specs.declared.state.Worker.{Worker}
 use Rattle.version_core.specs.State.{State, noted, joined}
-use Rattle.version_core.specs.Steps.{Step, IsSettled as IsSettledAt}
+use Rattle.version_core.specs.Steps.{Step, IsSettled}
 use Rattle.version_core.specs.Invariants.{KeepsInvariants}
 use Rattle.version_core.proofs.Rising.{most_left}
 use Rattle.shelf_steps.specs.declared.views.WorkerView.{WorkerView}
@@ -23,7 +23,7 @@ use Rattle.shelf_steps.specs.EventHistory.{EventHistory, extended, IsKnownBeginn
 use Rattle.shelf_steps.specs.Seats.{WorkerFits, LoaderFits, SeatFits, SeatsFit}
 use Rattle.shelf_steps.specs.Rule.{KeepsRule, notices_of}
 use Rattle.shelf_steps.specs.Laws.{Shelved}
-use Rattle.shelf_steps.specs.Plays.{SeatAndSlots, with_note, gives_notice, new_notice, with_seen, joins_notice, IsLoading, IsSettled, IsNotice}
+use Rattle.shelf_steps.specs.Plays.{SeatAndSlots, with_note, gives_notice, new_notice, with_seen, joins_notice, IsLoading, ShowsSettled, IsNotice}
 use Rattle.shelf_steps.specs.Events.{NotesAreEvents, JoinsAreEvents}
 use Rattle.shelf_steps.proofs.Courses.{kept_of, joined_snoc, joined_same, nothing_snoc, begins_longer, goes_same, prefix_same, loader_apart, other_fits}
 use Rattle.shelf_steps.proofs.Frames.{seats_differ, worker_moves, loader_moves}
@@ -125,7 +125,7 @@ notes_events table id l r at =
     )
 
 -- a settled worker, as the state has it
-settled_so : (s : State) (v : WorkerView) → slice_get s.workers v.number ≡ Some v.now → IsSettled (View.Working v) → IsSettledAt s v.number
+settled_so : (s : State) (v : WorkerView) → slice_get s.workers v.number ≡ Some v.now → ShowsSettled (View.Working v) → IsSettled s v.number
 settled_so s v here settled = elim settled [
   | inl a ↦ inl (here ∙ ap (λ (x : Worker). Some x) a)
   | inr b ↦ inr (b.0, b.1, here ∙ ap (λ (x : Worker). Some x) b.2)
@@ -186,11 +186,11 @@ pub note_splits : (id : ℕ) (u : View) → IsLoading u → Splits KeepsRule id 
 note_splits id (View.Loading l) loads table r at = (notes_events table id l r at).0
 note_splits id _ loads table r at = absurd loads
 
-joins_as : (id other n : ℕ) (u : View) → IsSettled u → Joins KeepsRule id u other (View.Noting n) (joins_notice u (View.Noting n)) View.Spent
+joins_as : (id other n : ℕ) (u : View) → ShowsSettled u → Joins KeepsRule id u other (View.Noting n) (joins_notice u (View.Noting n)) View.Spent
 joins_as id other n (View.Working v) settled table r at apart there =
     (joins_events table id other n v r at settled (sym (set_else table.views id other (View.Working (with_seen v n)) apart) ∙ there)).0
 joins_as id other n _ settled table r at apart there = absurd settled
 
-pub note_joins : (id other n : ℕ) (u : View) (m : SeatAndSlots) → IsSettled u → IsNotice n m → Joins KeepsRule id u other m.0 (joins_notice u m.0) View.Spent
+pub note_joins : (id other n : ℕ) (u : View) (m : SeatAndSlots) → ShowsSettled u → IsNotice n m → Joins KeepsRule id u other m.0 (joins_notice u m.0) View.Spent
 note_joins id other n u m settled is = subst (λ (x : SeatAndSlots). Joins KeepsRule id u other x.0 (joins_notice u x.0) View.Spent) (sym is)
     (joins_as id other n u settled)

@@ -24,7 +24,7 @@ use Rattle.shelf_steps.specs.EventHistory.{EventHistory, LeadsToItsState, HasDon
 use Rattle.version_core.specs.Shown.{shelf_word}
 use Rattle.shelf_steps.specs.Seats.{WorkerFits, SeatsFit, SeatFits}
 use Rattle.shelf_steps.specs.Slots.{SlotsFit, SlotFits, held_by}
-use Rattle.shelf_steps.specs.Rule.{KeepsRule, notices_of, first_loader, first_words, FirstSlot, FirstSlots}
+use Rattle.shelf_steps.specs.Rule.{KeepsRule, notices_of, first_loader_view, first_words, FirstSlot, FirstSlots}
 use Rattle.shelf_steps.specs.Steps.{StartIsRuled, HandingsAddNothing}
 use Rattle.shelf_steps.specs.Plays.{MayHandOut, one_more, newcomer, keeps_loading, new_worker_view}
 use Rattle.shelf_steps.proofs.Courses.{kept_of, begins_all}
@@ -46,10 +46,10 @@ first_each : (k : ℕ) (x : Shelf) → slice_get start.shelves k ≡ Some x → 
 first_each = search rules
 
 first_seat : (image : ImageValue) (seat : ℕ) (u : View)
-    → get_elem? (View.Loading (first_loader image) ∷ []) seat ≡ some u
-    → SeatFits (first_course image) (first_loader image) (λ n. 0) seat u
-first_seat image zero u e = subst (λ (x : View). SeatFits (first_course image) (first_loader image) (λ n. 0) 0 x)
-    (some-injective (View.Loading (first_loader image)) u e) (refl, refl)
+    → get_elem? (View.Loading (first_loader_view image) ∷ []) seat ≡ some u
+    → SeatFits (first_course image) (first_loader_view image) (λ n. 0) seat u
+first_seat image zero u e = subst (λ (x : View). SeatFits (first_course image) (first_loader_view image) (λ n. 0) 0 x)
+    (some-injective (View.Loading (first_loader_view image)) u e) (refl, refl)
 first_seat image (suc seat) u e = absurd (some-ne-none u (sym e))
 
 first_workers : (w : ℕ) → 0 ≤ w → w < 16 → (slice_get start.workers w ≡ Some Worker.Idle) × (get_or start.seen w 0 ≡ 0) × HasDoneNothing w []
@@ -81,7 +81,7 @@ pub start_ruled : StartIsRuled
 start_ruled image items f = (
   record {
     history = first_course image;
-    loader = first_loader image;
+    loader = first_loader_view image;
     goes = first_goes image;
     words = record { nine = refl; cur = refl; each = first_each };
     seats = record {
@@ -105,7 +105,7 @@ start_ruled image items f = (
 )
 
 pub opens_ruled : (image : ImageValue) (items : List (Option Edition)) → FirstSlots image 128 items
-    → KeepsRule (opening first_words items (View.Loading (first_loader image)))
+    → KeepsRule (opening first_words items (View.Loading (first_loader_view image)))
 opens_ruled image items f = (start_ruled image items f).0
 
 -- one slot more at the start

@@ -4,11 +4,11 @@ use Rattle.version_core.specs.declared.state.Worker.{Worker}
 use Rattle.shelf_steps.specs.declared.edition.Edition.{Edition}
 use Rattle.shelf_steps.specs.declared.views.WorkerView.{WorkerView}
 use Rattle.shelf_steps.specs.declared.views.View.{View}
-use Rattle.shelf_steps.specs.Plays.{OfWorker, SeatAndSlots, looked_at, is_open, come_late, Looks, TakesFound, Takes, Leaves, HasLooked, IsLate}
+use Rattle.shelf_steps.specs.Plays.{OfWorker, SeatAndSlots, looked_at, is_open, come_late, Looks, TakesFound, Takes, Leaves, ShowsLooked, ShowsLate}
 use Rattle.shelf_steps.specs.Pinning.{TryIsLate, TryHolds, Pins, Moves, IsIdleAs, IsHoldingAs}
 
-pub looked_here : (u : View) (c : List (ℕ × Option Edition)) (n : ℕ) (m' : SeatAndSlots) → Looks (u, c) n m' → HasLooked (n % 8) m'.0
-looked_here (View.Working v) c n m' h = subst (λ (x : SeatAndSlots). HasLooked (n % 8) x.0) (sym h.1) (n / 8, refl)
+pub looked_here : (u : View) (c : List (ℕ × Option Edition)) (n : ℕ) (m' : SeatAndSlots) → Looks (u, c) n m' → ShowsLooked (n % 8) m'.0
+looked_here (View.Working v) c n m' h = subst (λ (x : SeatAndSlots). ShowsLooked (n % 8) x.0) (sym h.1) (n / 8, refl)
 looked_here _ c n m' h = absurd h
 
 took : (a : WorkerView) (c : List (ℕ × Option Edition)) (n word : ℕ) (m1 m2 : SeatAndSlots) (b : Bool)
@@ -50,9 +50,9 @@ well_so _ c number n word m1 m2 idle empty look take stands = absurd idle
 
 pub late_here : (u : View) (c : List (ℕ × Option Edition)) (number n word : ℕ) (m1 m2 : SeatAndSlots)
     → OfWorker u (λ a. (a.now ≡ Worker.Idle) × (a.number ≡ number))
-    → Looks (u, c) n m1 → Takes m1 word m2 → is_open word (n / 8) ≡ false → IsLate (n % 8) m2.0
+    → Looks (u, c) n m1 → Takes m1 word m2 → is_open word (n / 8) ≡ false → ShowsLate (n % 8) m2.0
 late_here (View.Working a) c number n word m1 m2 idle look take shut =
-    let t = took a c n word m1 m2 false look take shut in subst (λ (m : SeatAndSlots). IsLate (n % 8) m.0) (sym t.1) refl
+    let t = took a c n word m1 m2 false look take shut in subst (λ (m : SeatAndSlots). ShowsLate (n % 8) m.0) (sym t.1) refl
 late_here _ c number n word m1 m2 idle look take shut = absurd idle
 
 pub late_so : (u : View) (c : List (ℕ × Option Edition)) (number n word : ℕ) (m1 m2 m3 : SeatAndSlots)

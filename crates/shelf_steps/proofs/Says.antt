@@ -20,8 +20,8 @@ use Rattle.shelf_steps.specs.Seats.{WorkerFits, LoaderFits, HasEdition}
 use Rattle.shelf_steps.specs.Plays.{newest_of}
 use Rattle.shelf_steps.specs.Slots.{SlotsFit, IsFilled}
 use Rattle.shelf_steps.specs.Rule.{KeepsRule}
-use Rattle.shelf_steps.specs.Laws.{Shelved, IsLoader, WordsAreTheLoaders, CountsAreWorkers, NumbersDiffer, HeldHaveEditions, SlotsOutAreHeld}
-use Rattle.shelf_steps.specs.Laws.{SlotsAtHomeAreFilled, LooksAreSo, OneSeatLoads, NoticesAreOfTheirTime}
+use Rattle.shelf_steps.specs.Laws.{Shelved, IsLoader, WordsAreTheLoaders, WordsCountWorkers, NumbersDiffer, HeldHaveEditions, SlotsOutAreHeld}
+use Rattle.shelf_steps.specs.Laws.{SlotsAtHomeAreFilled, LooksAreSo, OneSeatLoads, NoticesAreNoNewer}
 use Rattle.shelf_steps.proofs.Courses.{kept_of}
 use Rattle.shelf_steps.proofs.SlotsAfter.{slot_filled}
 use Rattle.shelf_steps.proofs.WordsAfter.{few_counted}
@@ -56,7 +56,7 @@ words_are table l r at =
           (get_or r.history.state.counts j 0, few_counted r.history.state j kept (omega arith), r.words.each j x s),
     )
 
-pub counts_are : CountsAreWorkers
+pub counts_are : WordsCountWorkers
 counts_are table l r at =
     let kept : KeepsInvariants r.history.state = kept_of r.history r.goes in let is = is_loader table r 0 l at in
     let same : l.handed ≡ r.loader.handed = ap (λ (x : LoaderView). x.handed) is in (
@@ -149,7 +149,7 @@ looks_are table l i w r loads at =
           ((let a = q.3 in omega arith), (λ e. q.4 (e ∙ c) ∙ sym kn.shows.current_shelf)),
     )
 
-pub notices_old : NoticesAreOfTheirTime
+pub notices_old : NoticesAreNoNewer
 notices_old table l i v r loads at =
     let kept : KeepsInvariants r.history.state = kept_of r.history r.goes in let c = (loader_knows table r 0 l loads).shows.current in
     let n = notices_there table.views i v at in

@@ -16,7 +16,7 @@ use Rattle.version_core.specs.Steps.{IsOpen}
 use Rattle.version_core.specs.Invariants.{KeepsInvariants, is_at, version_on}
 use Rattle.version_core.proofs.Shelves.{version_at}
 use Rattle.version_core.specs.Shown.{WordsShow, shelf_word}
-use Rattle.shelf_steps.specs.EventHistory.{EventHistory, LeadsToItsState, FoundAt, all_of}
+use Rattle.shelf_steps.specs.EventHistory.{EventHistory, LeadsToItsState, FoundAt, known_in_full}
 use Rattle.shelf_steps.specs.Plays.{is_open}
 use Rattle.shelf_steps.specs.Steps.{word_values}
 use Rattle.shelf_steps.proofs.Courses.{kept_of}
@@ -89,7 +89,7 @@ found_shelf words s k kept w small =
 
 -- the word at which an event finds a shelf
 pub found_at : (words : List ℕ) (c : EventHistory) → LeadsToItsState c → WordsShow words c.state → (k : ℕ) (e : Event) (d : EventHistory)
-    → d.events ≡ c.events ++ e ∷ [] → k < 8 → FoundAt (all_of d) e k (get_or words (k + 1) 0)
+    → d.events ≡ c.events ++ e ∷ [] → k < 8 → FoundAt (known_in_full d) e k (get_or words (k + 1) 0)
 found_at words c goes shown k e d added small =
     let x = found_shelf words c.state k (kept_of c goes) shown small in
     record { before = c; goes = goes; events = added; shelf = x.0; stands = x.1; is = x.2 }

@@ -14,20 +14,20 @@ use Rattle.version_core.specs.declared.event.Reply.{Reply}
 use Rattle.version_core.specs.declared.state.Shelf.{Shelf}
 use Rattle.version_core.specs.declared.state.Worker.{Worker}
 use Rattle.version_core.specs.State.{State, looked, arrived, departed}
-use Rattle.version_core.specs.Steps.{IsIdle as IsIdleAt, HasLooked as HasLookedAt, StaysAt, IsOpen, Step}
+use Rattle.version_core.specs.Steps.{IsIdle, HasLooked, StaysAt, IsOpen, Step}
 use Rattle.version_core.specs.Invariants.{KeepsInvariants, version_of, version_on}
 use Rattle.version_core.proofs.Keeps.{looked_fits, stays_fits, held_known}
 use Rattle.shelf_steps.specs.declared.edition.Edition.{Edition}
 use Rattle.shelf_steps.specs.declared.views.KnownHistory.{KnownHistory}
 use Rattle.shelf_steps.specs.declared.views.WorkerView.{WorkerView}
 use Rattle.shelf_steps.specs.declared.views.View.{View}
-use Rattle.shelf_steps.specs.EventHistory.{EventHistory, LeadsToItsState, IsLonger, extended, all_of, IsKnownBeginning, Happened, IsEdition}
+use Rattle.shelf_steps.specs.EventHistory.{EventHistory, LeadsToItsState, IsLonger, extended, known_in_full, IsKnownBeginning, Happened, IsEdition}
 use Rattle.version_core.specs.Shown.{WordsShow, WorkerShows, shelf_word}
 use Rattle.shelf_steps.specs.Seats.{WorkerFits, LoaderFits, SeatsFit, HasEdition}
 use Rattle.shelf_steps.specs.Slots.{SlotsFit, SlotFits, Slot, held_by}
 use Rattle.shelf_steps.specs.Rule.{KeepsRule}
 use Rattle.shelf_steps.specs.Plays.{SeatAndSlots, looked_at, is_open, holding, come_late, gone, Looks, TakesFound, TakesAs}
-use Rattle.shelf_steps.specs.Plays.{Takes, Leaves, GivesBack, IsIdle, HasLooked, IsLate, HoldsOut, ShowsIn}
+use Rattle.shelf_steps.specs.Plays.{Takes, Leaves, GivesBack, ShowsIdle, ShowsLooked, ShowsLate, HoldsOut, ShowsIn}
 use Rattle.shelf_steps.specs.Events.{known_of}
 use Rattle.shelf_steps.specs.Steps.{Adds, added, word_change, word_values, LooksAdd, TakesAdd, LeavesAdd, GivingsAdd}
 use Rattle.shelf_steps.proofs.Courses.{kept_of, joined_same, no_note, no_join, nothing_snoc, workers_event}
@@ -77,12 +77,12 @@ module _ (table : Table (Option Edition) View) (r : KeepsRule table) (id : ℕ) 
     next_seats fits = worker_moves r.history (extended r.history e reply t r.history.images) table.views r.loader r.seats id v v' at named others loads rest
         (λ w low other h. nothing_snoc w r.history.events e (not_of w other) (no_join w e not_nobodys) h) fits
 
-    pub next_ruled : (words' : List ℕ) (homes' : List (Maybe (Option Edition))) → v'.known ≡ all_of (extended r.history e reply t r.history.images)
+    pub next_ruled : (words' : List ℕ) (homes' : List (Maybe (Option Edition))) → v'.known ≡ known_in_full (extended r.history e reply t r.history.images)
         → WorkerFits (extended r.history e reply t r.history.images) v' → WordsShow words' t
         → SlotsFit homes' t.shelves t.workers r.history.images r.loader.hand → t.notices ≡ r.history.state.notices
         → (after : KeepsRule record { words = words'; homes = homes'; views = set table.views id (View.Working v') })
-        × IsLonger r.history e reply after.history × (v'.known ≡ all_of after.history)
-        × Happened v.known e reply (all_of (extended r.history e reply t r.history.images))
+        × IsLonger r.history e reply after.history × (v'.known ≡ known_in_full after.history)
+        × Happened v.known e reply (known_in_full (extended r.history e reply t r.history.images))
         × LeadsToItsState (extended r.history e reply t r.history.images)
     next_ruled words' homes' knows fits words slots notices = (
       record {
@@ -112,14 +112,14 @@ looks_add slots id v c idle table r full at small =
     let s = r.history.state in let w = v.number in let n = get_or table.words 0 0 in
     let kept : KeepsInvariants s = kept_of r.history r.goes in
     let f : WorkerFits r.history v = (r.seats.each id (View.Working v) at).2 in
-    let is_idle : IsIdleAt s w = f.shows.now ∙ ap (λ (x : Worker). Some x) idle in
+    let is_idle : IsIdle s w = f.shows.now ∙ ap (λ (x : Worker). Some x) idle in
     let within = slice_get_within s.workers w _ is_idle in
     let z = current_word s n kept r.words.cur in
     let t : State = looked s w in
     let e : Event = Event.Look w in let reply : Reply = Reply.Looked (n / 8) (n % 8) in
     let is_step : Step s e reply t = (is_idle, z.1, z.2, refl) in
     let d : EventHistory = extended r.history e reply t r.history.images in
-    let v' : WorkerView = looked_at v n (all_of d) in
+    let v' : WorkerView = looked_at v n (known_in_full d) in
     let rest : (j : ℕ) → j ≢ w → (slice_get t.workers j ≡ slice_get s.workers j) × (get_or t.seen j 0 ≡ get_or s.seen j 0) =
     λ j other. (slice_get-set_other s.workers w j (Worker.Looked s.current s.current_shelf) other, get_or-set_other s.seen w j s.current 0 other) in
     let many = kept.workers.sixteen in let many' = kept.workers.sixteen_seen in
@@ -142,7 +142,7 @@ looks_add slots id v c idle table r full at small =
       after.1,
       after.2,
       (
-        all_of d,
+        known_in_full d,
         refl,
         after.3,
         seen_less,
@@ -151,7 +151,7 @@ looks_add slots id v c idle table r full at small =
       ),
     )
 
-pub looks : (slots id : ℕ) (me : SeatAndSlots) → IsIdle me.0 → Allows KeepsRule slots id me 0 (λ n. n) (Looks me)
+pub looks : (slots id : ℕ) (me : SeatAndSlots) → ShowsIdle me.0 → Allows KeepsRule slots id me 0 (λ n. n) (Looks me)
 looks slots id (View.Working v, c) idle =
     allows slots id (View.Working v, c) 0 (λ n. n) (Event.Look v.number) (λ n. Reply.Looked (n / 8) (n % 8)) (Looks (View.Working v, c))
     (looks_add slots id v c idle)
@@ -170,7 +170,7 @@ words_counted words k new count ws s kept shown small is =
 -- what is known of a worker that has looked at a shelf
 record Looker (s : State) (d : EventHistory) (v : WorkerView) (version k : ℕ) : Type 0 where
   fits : WorkerFits d v
-  has : HasLookedAt s v.number version k
+  has : HasLooked s v.number version k
   within : v.number < length s.workers
   shelf : (v.number < 16) × (k < 8) × (get_or s.seen v.number 0 ≡ version) × (version ≤ s.current) × (version ≡ s.current → k ≡ s.current_shelf)
 
@@ -179,7 +179,7 @@ looker : (id k : ℕ) (v : WorkerView) (version : ℕ) (table : Table (Option Ed
     → Looker r.history.state r.history v version k
 looker id k v version table r at now =
     let s = r.history.state in let f : WorkerFits r.history v = (r.seats.each id (View.Working v) at).2 in
-    let has : HasLookedAt s v.number version k = f.shows.now ∙ ap (λ (x : Worker). Some x) now in
+    let has : HasLooked s v.number version k = f.shows.now ∙ ap (λ (x : Worker). Some x) now in
     record { fits = f; has = has; within = slice_get_within s.workers v.number _ has; shelf = looked_fits s v.number version k (kept_of r.history r.goes) has }
 
 takes_found : (id k : ℕ) (v : WorkerView) (version : ℕ) (c : List (ℕ
@@ -188,7 +188,7 @@ takes_found : (id k : ℕ) (v : WorkerView) (version : ℕ) (c : List (ℕ
     → (b : Bool) → MatchBool b (IsOpen r.history.state k version) (¬ (IsOpen r.history.state k version))
     → (w : View) × (a : Act (Option Edition)) × Valid table.homes c a
     × (after : KeepsRule (stepped table (k + 1) (added 1 (get_or table.words (k + 1) 0)) id c w a))
-    × IsLonger r.history (Event.Take v.number) (cond b (Reply.Holds version) Reply.Late) after.history × (known_of w ≡ all_of after.history)
+    × IsLonger r.history (Event.Take v.number) (cond b (Reply.Holds version) Reply.Late) after.history × (known_of w ≡ known_in_full after.history)
     × TakesFound (v, c) (version, k) (get_or table.words (k + 1) 0) b (w, carried_after c a)
 takes_found id k v version c table r at now true stands =
     let s = r.history.state in let w = v.number in let n = get_or table.words (k + 1) 0 in
@@ -209,7 +209,7 @@ takes_found id k v version c table r at now true stands =
     let filled : get_elem? table.homes (16 * k + w) ≡ some (some (Some edition)) = home.1 ∙ ap (λ (x : Option Edition). some (some x)) home.2.1 in
     let is_its : IsEdition r.history.images version (Some edition) = (edition, refl, home.2.2, home.2.3) in
     let d : EventHistory = extended r.history e reply t r.history.images in
-    let v' : WorkerView = holding v k version edition (all_of d) in
+    let v' : WorkerView = holding v k version edition (known_in_full d) in
     let shows : WorkerShows w v'.now v'.seen d.state = record { now = slice_get-set_same s.workers w (Worker.Holding k version) within; seen = f.shows.seen } in
     let fits : WorkerFits d v' = worker_next r.history d e v v' f refl refl refl (refl, refl) shows f.last f.passed is_its in
     let after =
@@ -228,7 +228,7 @@ takes_found id k v version c table r at now true stands =
       after.2,
       (
         edition,
-        all_of d,
+        known_in_full d,
         refl,
         after.3,
         is_its,
@@ -247,7 +247,7 @@ takes_found id k v version c table r at now false shut =
     × (get_or t.seen j 0 ≡ get_or s.seen j 0) =
     λ j other. (slice_get-set_other s.workers w j (Worker.Late k) other, refl) in
     let d : EventHistory = extended r.history e reply t r.history.images in
-    let v' : WorkerView = come_late v k (all_of d) in
+    let v' : WorkerView = come_late v k (known_in_full d) in
     let goes' : LeadsToItsState d = next_goes table r id v v' at refl e reply t refl is_step refl refl refl refl rest in
     let late = (kept_of d goes').workers.each w (Worker.Late k) (slice_get-set_same s.workers w (Worker.Late k) within) in
     let shows : WorkerShows w v'.now v'.seen d.state = record { now = slice_get-set_same s.workers w (Worker.Late k) within; seen = f.shows.seen } in
@@ -267,7 +267,7 @@ takes_found id k v version c table r at now false shut =
       after.1,
       after.2,
       (
-        all_of d,
+        known_in_full d,
         refl,
         after.3,
         (t, goes', fits.shows),
@@ -284,7 +284,7 @@ takes_add slots id k version v c now table r full at fits =
     let t = takes_found id k v version c table r at now (is_open n version) (word_tells table.words s k version kept r.words z.1) in
     (t.0, t.1, t.2, t.3, t.4, t.5, subst (λ (x : Worker). TakesAs v c x n (t.0, carried_after c t.1)) (sym now) t.6)
 
-pub takings : (slots id k : ℕ) (me : SeatAndSlots) → HasLooked k me.0 → Allows KeepsRule slots id me (k + 1) (added 1) (Takes me)
+pub takings : (slots id k : ℕ) (me : SeatAndSlots) → ShowsLooked k me.0 → Allows KeepsRule slots id me (k + 1) (added 1) (Takes me)
 takings slots id k (View.Working v, c) has =
     allows slots id (View.Working v, c) (k + 1) (added 1) (Event.Take v.number)
     (λ n. cond (is_open n has.0) (Reply.Holds has.0) Reply.Late) (Takes (View.Working v, c)) (takes_add slots id k has.0 v c has.1)
@@ -299,7 +299,7 @@ leaves_with : (id k : ℕ) (v : WorkerView) (table : Table (Option Edition) View
     → (known : KnownHistory) × (after : KeepsRule (stepped table (k + 1)
     (added (word_values - 1) (get_or table.words (k + 1) 0)) id c
     (View.Working (gone v known)) a))
-    × IsLonger r.history (Event.Drop v.number) Reply.Dropped after.history × (known ≡ all_of after.history)
+    × IsLonger r.history (Event.Drop v.number) Reply.Dropped after.history × (known ≡ known_in_full after.history)
     × Happened v.known (Event.Drop v.number) Reply.Dropped known
     × ShowsIn (gone v known)
 leaves_with id k v table r at stays c a small slots =
@@ -315,7 +315,7 @@ leaves_with id k v table r at stays c a small slots =
     × (get_or t.seen j 0 ≡ get_or s.seen j 0) =
     λ j other. (slice_get-set_other s.workers w j Worker.Idle other, refl) in
     let d : EventHistory = extended r.history e reply t r.history.images in
-    let v' : WorkerView = gone v (all_of d) in
+    let v' : WorkerView = gone v (known_in_full d) in
     let shows : WorkerShows w v'.now v'.seen d.state = record { now = slice_get-set_same s.workers w Worker.Idle within; seen = f.shows.seen } in
     let fits : WorkerFits d v' = worker_next r.history d e v v' f refl refl refl (refl, refl) shows f.last f.passed refl in
     let after =
@@ -323,7 +323,7 @@ leaves_with id k v table r at stays c a small slots =
     (set table.words (k + 1) (added (word_values - 1) n)) (homes_after table.homes c a) refl fits
     (words_counted table.words k (added (word_values - 1) n) (get_or s.counts k 0 - 1) t.workers s kept r.words z.1
     (word_falls table.words s k kept r.words z.1 z.2)) slots refl in (
-      all_of d,
+      known_in_full d,
       after.0,
       after.1,
       after.2,
@@ -341,7 +341,7 @@ leaves_add slots id k v c late table r full at small =
     Worker.Idle here (λ j x q. cc) (λ j x q. cc) r.slots) in
     (View.Working (gone v t.0), keeps, tt, t.1, t.2, t.3, (t.0, refl, t.4, t.5))
 
-pub leavings : (slots id k : ℕ) (me : SeatAndSlots) → IsLate k me.0
+pub leavings : (slots id k : ℕ) (me : SeatAndSlots) → ShowsLate k me.0
     → Allows KeepsRule slots id me (k + 1) (added (word_values - 1)) (λ _. Leaves me)
 leavings slots id k (View.Working v, c) late =
     allows slots id (View.Working v, c) (k + 1) (added (word_values - 1)) (Event.Drop v.number)

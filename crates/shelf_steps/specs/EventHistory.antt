@@ -55,8 +55,8 @@ pub record IsLonger (c : EventHistory) (e : Event) (r : Reply) (d : EventHistory
   pub images : IsPrefix c.images d.images
 
 -- all of the history, in the form in which a seat knows it
-abbrev pub all_of : EventHistory → KnownHistory
-all_of c = record { events = c.events; replies = c.replies; images = c.images }
+abbrev pub known_in_full : EventHistory → KnownHistory
+known_in_full c = record { events = c.events; replies = c.replies; images = c.images }
 
 -- what is known, as a history that leads to the state
 abbrev pub leading_to : State → KnownHistory → EventHistory

@@ -12,7 +12,7 @@ use Rattle.shelf_steps.specs.declared.views.View.{View}
 use Rattle.shelf_steps.specs.EventHistory.{Happened, extended}
 use Rattle.shelf_steps.specs.Rule.{KeepsRule}
 use Rattle.shelf_steps.specs.Plays.{OfWorker, SeatAndSlots, Looks, Takes, Leaves, GivesBack, OpensOn, PublishesOn, ClosesOn, CollectsOn, GathersOn, PutsBackOn}
-use Rattle.shelf_steps.specs.Plays.{IsLate, IsSettled, with_seen, with_note}
+use Rattle.shelf_steps.specs.Plays.{ShowsLate, ShowsSettled, with_seen, with_note}
 use Rattle.shelf_steps.specs.Laws.{Shelved, IsLoader}
 
 -- what a seat knows of the past
@@ -60,13 +60,13 @@ SpareTriesAreEvents = (m m' : SeatAndSlots) (k : ℕ) → GathersOn k m m' ⊎ P
 -- a look followed by a take that comes late: wherever the rule holds and the seat still has this view, the version that was looked at is no longer current
 abbrev pub LateTakesTell : Type 0
 LateTakesTell =
-    (m m1 m2 : SeatAndSlots) (n word : ℕ) → Looks m n m1 → Takes m1 word m2 → IsLate (n % 8) m2.0
+    (m m1 m2 : SeatAndSlots) (n word : ℕ) → Looks m n m1 → Takes m1 word m2 → ShowsLate (n % 8) m2.0
     → (table : Shelved) (l : LoaderView) (i : ℕ) → KeepsRule table → IsLoader table l → get_elem? table.views i ≡ some m2.0 → n / 8 < l.current
 
 -- after such a take and the drop, the next look finds a greater version
 abbrev pub LateTakesRise : Type 0
 LateTakesRise =
-    (m m1 m2 m3 m4 : SeatAndSlots) (n word n' : ℕ) → Looks m n m1 → Takes m1 word m2 → IsLate (n % 8) m2.0 → Leaves m2 m3 → Looks m3 n' m4 → n / 8 < n' / 8
+    (m m1 m2 m3 m4 : SeatAndSlots) (n word n' : ℕ) → Looks m n m1 → Takes m1 word m2 → ShowsLate (n % 8) m2.0 → Leaves m2 m3 → Looks m3 n' m4 → n / 8 < n' / 8
 
 -- the table once a notice was split from the loader's seat
 abbrev pub noting : Shelved → ℕ → LoaderView → Shelved
@@ -85,7 +85,7 @@ NotesAreEvents =
 -- so does a notice that is taken in
 abbrev pub JoinsAreEvents : Type 0
 JoinsAreEvents =
-    (table : Shelved) (id other n : ℕ) (v : WorkerView) (r : KeepsRule table) → get_elem? table.views id ≡ some (View.Working v) → IsSettled (View.Working v)
+    (table : Shelved) (id other n : ℕ) (v : WorkerView) (r : KeepsRule table) → get_elem? table.views id ≡ some (View.Working v) → ShowsSettled (View.Working v)
     → get_elem? table.views other ≡ some (View.Noting n)
     → (after : KeepsRule (joining table id v other n))
     × ((index : ℕ) × (after.history ≡ extended r.history (Event.Join v.number n) (Reply.Joined (max v.seen n))

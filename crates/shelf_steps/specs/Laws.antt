@@ -40,8 +40,8 @@ WordsAreTheLoaders =
 
 -- there is a list of what the sixteen workers are doing: what each seat says of its worker stands there, a worker with no seat yet is idle, and the
 -- count in each shelf's word is the number of workers that are late at the shelf or hold it
-abbrev pub CountsAreWorkers : Type 0
-CountsAreWorkers =
+abbrev pub WordsCountWorkers : Type 0
+WordsCountWorkers =
     (table : Shelved) (l : LoaderView) → KeepsRule table → IsLoader table l
     → (workers : List Worker) × (length workers ≡ 16)
     × ((i : ℕ) (v : WorkerView) → get_elem? table.views i ≡ some (View.Working v) → slice_get workers v.number ≡ Some v.now)
@@ -115,8 +115,8 @@ LooksAreSo =
     × ((v k : ℕ) → w.now ≡ Worker.Looked v k → (v ≤ l.current) × (v ≡ l.current → k ≡ l.current_shelf))
 
 -- a notice is of the current version or an older one
-abbrev pub NoticesAreOfTheirTime : Type 0
-NoticesAreOfTheirTime = (table : Shelved) (l : LoaderView) (i v : ℕ) → KeepsRule table → IsLoader table l → get_elem? table.views i ≡ some (View.Noting v)
+abbrev pub NoticesAreNoNewer : Type 0
+NoticesAreNoNewer = (table : Shelved) (l : LoaderView) (i v : ℕ) → KeepsRule table → IsLoader table l → get_elem? table.views i ≡ some (View.Noting v)
     → v ≤ l.current
 
 -- the words, and what each seat knows, show the state: editions are indices in the loader's list of images, and a worker

@@ -100,16 +100,16 @@ GivesBack m m' = OfWorker m.0 (λ v. (known : KnownHistory) × (m' ≡ (View.Wor
     × Happened v.known (Event.Drop v.number) Reply.Dropped known × ShowsIn (gone v known))
 
 -- the view is that of an idle worker
-abbrev pub IsIdle : View → Type 0
-IsIdle u = OfWorker u (λ v. v.now ≡ Worker.Idle)
+abbrev pub ShowsIdle : View → Type 0
+ShowsIdle u = OfWorker u (λ v. v.now ≡ Worker.Idle)
 
 -- the worker has looked, and saw this shelf
-abbrev pub HasLooked : ℕ → View → Type 0
-HasLooked k u = OfWorker u (λ v. (version : ℕ) × (v.now ≡ Worker.Looked version k))
+abbrev pub ShowsLooked : ℕ → View → Type 0
+ShowsLooked k u = OfWorker u (λ v. (version : ℕ) × (v.now ≡ Worker.Looked version k))
 
 -- the worker is late at this shelf
-abbrev pub IsLate : ℕ → View → Type 0
-IsLate k u = OfWorker u (λ v. v.now ≡ Worker.Late k)
+abbrev pub ShowsLate : ℕ → View → Type 0
+ShowsLate k u = OfWorker u (λ v. v.now ≡ Worker.Late k)
 
 -- the worker holds the shelf, and has its slot of it out, with the edition in it
 abbrev pub HoldsOut : ℕ → View → List (ℕ × Option Edition) → Type 0
@@ -145,8 +145,8 @@ abbrev pub with_hand : LoaderView → Option ℕ → KnownHistory → LoaderView
 with_hand l hand known = record l { hand = hand; known = known }
 
 -- the slot has this version with this image
-abbrev pub HasImage : ℕ → ImageValue → Option Edition → Type 0
-HasImage version image edition = (e : Edition) × (edition ≡ Some e) × (e.version ≡ version) × (arc_value e.image ≡ image)
+abbrev pub IsFilledWith : ℕ → ImageValue → Option Edition → Type 0
+IsFilledWith version image edition = (e : Edition) × (edition ≡ Some e) × (e.version ≡ version) × (arc_value e.image ≡ image)
 
 -- the sixteen slots of the shelf k, the last of which lies at the front
 abbrev pub IsBlock : (ℕ → Option Edition) → ℕ → List (ℕ × Option Edition) → Type 0
@@ -154,7 +154,7 @@ IsBlock f k c = c ≡ down_from f (16 * k) 16 []
 
 -- the sixteen slots of the shelf k have the version with the image
 abbrev pub AllHave : ℕ → ImageValue → ℕ → (ℕ → Option Edition) → Type 0
-AllHave version image k f = (j : ℕ) → 16 * k ≤ j → j < 16 * k + 16 → HasImage version image (f j)
+AllHave version image k f = (j : ℕ) → 16 * k ≤ j → j < 16 * k + 16 → IsFilledWith version image (f j)
 
 -- the event is the loader's last, and no image is new
 abbrev pub IsLastEvent : LoaderView → Event → Reply → KnownHistory → Type 0
@@ -246,8 +246,8 @@ abbrev pub MayPublish : ℕ → ℕ → View → Type 0
 MayPublish version k u = OfLoader u (λ l. (slice_get l.shelves k ≡ Some (Shelf.Open version)) × (l.current < version))
 
 -- to close: the shelf is open with a version below the current one
-abbrev pub MayClose : ℕ → View → Type 0
-MayClose k u = OfLoader u (λ l. (version : ℕ) × (slice_get l.shelves k ≡ Some (Shelf.Open version)) × (version < l.current))
+abbrev pub MayCloseShelf : ℕ → View → Type 0
+MayCloseShelf k u = OfLoader u (λ l. (version : ℕ) × (slice_get l.shelves k ≡ Some (Shelf.Open version)) × (version < l.current))
 
 -- to collect: the shelf is closing with the version, and no slots are out with the loader
 abbrev pub MayCollect : ℕ → ℕ → View → List (ℕ × Option Edition) → Type 0
@@ -320,8 +320,8 @@ joins_notice (View.Working v) (View.Noting n) = View.Working (with_seen v n)
 joins_notice u w = u
 
 -- the worker is idle or holds a version
-abbrev pub IsSettled : View → Type 0
-IsSettled u = OfWorker u (λ v. (v.now ≡ Worker.Idle) ⊎ ((k x : ℕ) × (v.now ≡ Worker.Holding k x)))
+abbrev pub ShowsSettled : View → Type 0
+ShowsSettled u = OfWorker u (λ v. (v.now ≡ Worker.Idle) ⊎ ((k x : ℕ) × (v.now ≡ Worker.Holding k x)))
 
 -- a notice of the version: its view, with no slot out
 abbrev pub IsNotice : ℕ → SeatAndSlots → Type 0

@@ -12,7 +12,7 @@ use Rattle.shelf_steps.specs.EventHistory.{EventHistory, LeadsToItsState}
 use Rattle.version_core.specs.Shown.{WordsShow}
 use Rattle.shelf_steps.specs.Seats.{SeatsFit}
 use Rattle.shelf_steps.specs.Slots.{SlotsFit}
-use Rattle.shelf_steps.specs.Plays.{HasImage}
+use Rattle.shelf_steps.specs.Plays.{IsFilledWith}
 
 -- the versions of the views that are notices, in the order of their seats
 abbrev pub notice_of : View → List ℕ
@@ -34,8 +34,8 @@ pub record KeepsRule (table : Table (Option Edition) View) : Type 0 where
   pub slots : SlotsFit table.homes history.state.shelves history.state.workers history.images loader.hand
 
 -- what the loader knows at the start: version 1 with the first image, on shelf 0, and seven free shelves
-abbrev pub first_loader : ImageValue → LoaderView
-first_loader image =
+abbrev pub first_loader_view : ImageValue → LoaderView
+first_loader_view image =
     record {
       handed = 0;
       notes = 0;
@@ -52,7 +52,7 @@ first_words = 8 ∷ 65792 ∷ 0 ∷ 0 ∷ 0 ∷ 0 ∷ 0 ∷ 0 ∷ 0 ∷ []
 
 -- the slots of shelf 0 have the first image as version 1, and the others are empty
 abbrev pub FirstSlot : ImageValue → ℕ → Option Edition → Type 0
-FirstSlot image j x = (j < 16 → HasImage 1 image x) × (16 ≤ j → x ≡ None)
+FirstSlot image j x = (j < 16 → IsFilledWith 1 image x) × (16 ≤ j → x ≡ None)
 
 -- n slots, each as it is at the start
 abbrev pub FirstSlots : ImageValue → ℕ → List (Option Edition) → Type 0

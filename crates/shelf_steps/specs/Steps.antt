@@ -14,10 +14,10 @@ use Rattle.shelf_steps.specs.declared.edition.Edition.{Edition}
 use Rattle.shelf_steps.specs.declared.views.WorkerView.{WorkerView}
 use Rattle.shelf_steps.specs.declared.views.LoaderView.{LoaderView}
 use Rattle.shelf_steps.specs.declared.views.View.{View}
-use Rattle.shelf_steps.specs.EventHistory.{IsLonger, all_of}
-use Rattle.shelf_steps.specs.Rule.{KeepsRule, first_words, first_loader, FirstSlots}
+use Rattle.shelf_steps.specs.EventHistory.{IsLonger, known_in_full}
+use Rattle.shelf_steps.specs.Rule.{KeepsRule, first_words, first_loader_view, FirstSlots}
 use Rattle.shelf_steps.specs.Plays.{SeatAndSlots, is_open, newest_of, Looks, Takes, Leaves, GivesBack, Opens, Publishes, Closes, Collects}
-use Rattle.shelf_steps.specs.Plays.{Gathers, PutsBack, MayOpenOn, MayPublish, MayClose, MayCollect, MayGather, MayPutBack}
+use Rattle.shelf_steps.specs.Plays.{Gathers, PutsBack, MayOpenOn, MayPublish, MayCloseShelf, MayCollect, MayGather, MayPutBack}
 use Rattle.shelf_steps.specs.Plays.{closing_word, newcomer, one_more, open_word}
 use Rattle.shelf_steps.specs.Slots.{slot_at}
 use Rattle.shelf_steps.specs.Laws.{Shelved}
@@ -51,7 +51,7 @@ Adds slots id me change tells =
     → slice_index table.words change.word < word_values
     → (w : View) × (a : Act (Option Edition)) × Valid table.homes me.1 a
     × (after : KeepsRule (stepped table change.word (change.becomes (slice_index table.words change.word)) id me.1 w a))
-    × IsLonger r.history change.event (change.reply (slice_index table.words change.word)) after.history × (known_of w ≡ all_of after.history)
+    × IsLonger r.history change.event (change.reply (slice_index table.words change.word)) after.history × (known_of w ≡ known_in_full after.history)
     × tells (slice_index table.words change.word) (w, carried_after me.1 a)
 
 -- the slots that are out with a seat
@@ -99,7 +99,7 @@ PublishesAdd = (slots id k version : ℕ) (l : LoaderView) (c : Carried) → k <
     (λ _. Publishes (step slots 0 (8 * version + k) 0 none) (View.Loading l, c) (8 * version + k))
 
 abbrev pub ClosesAdd : Type 0
-ClosesAdd = (slots id k : ℕ) (l : LoaderView) (c : Carried) → k < 8 → MayClose k (View.Loading l)
+ClosesAdd = (slots id k : ℕ) (l : LoaderView) (c : Carried) → k < 8 → MayCloseShelf k (View.Loading l)
     → Adds slots id (View.Loading l, c) (word_change (k + 1) (added 256) (Event.Close k)
     (λ _. Reply.Closing)) (Closes (step slots (k + 1) 256 0 none) (View.Loading l, c))
 
@@ -127,7 +127,7 @@ PuttingsAdd = (slots id k : ℕ) (l : LoaderView) (c : Carried) → slots ≡ 12
 -- at the start the rule holds, and nothing has happened
 abbrev pub StartIsRuled : Type 0
 StartIsRuled = (image : ImageValue) (items : List (Option Edition)) → FirstSlots image 128 items
-    → (r : KeepsRule (opening first_words items (View.Loading (first_loader image))))
+    → (r : KeepsRule (opening first_words items (View.Loading (first_loader_view image))))
     × (r.history ≡ record { state = start; events = []; replies = []; images = image ∷ [] })
 
 -- the table once a worker's seat was split from the loader's

@@ -1,10 +1,10 @@
 //! What the rule of the shelves says, and the steps that keep it, one by one. Functions without
 //! arguments do nothing: their contracts are the laws.
-ghost use Rattle.shelf_steps.specs.Laws.{WordsAreTheLoaders, CountsAreWorkers, NumbersDiffer, HeldHaveEditions};
+ghost use Rattle.shelf_steps.specs.Laws.{WordsAreTheLoaders, WordsCountWorkers, NumbersDiffer, HeldHaveEditions};
 ghost use Rattle.shelf_steps.specs.Laws.{SlotsOutAreHeld, SlotsAtHomeAreFilled};
 ghost use Rattle.shelf_steps.specs.Laws.{HoldersSlotsAreOut, FreeSlotsAreTheLoaders};
 ghost use Rattle.shelf_steps.specs.Laws.{HeldShelvesAreInUse, HeldShelvesStay};
-ghost use Rattle.shelf_steps.specs.Laws.{LooksAreSo, OneSeatLoads, OneHistory, NoticesAreOfTheirTime, OneStateIsShown};
+ghost use Rattle.shelf_steps.specs.Laws.{LooksAreSo, OneSeatLoads, OneHistory, NoticesAreNoNewer, OneStateIsShown};
 ghost use Rattle.shelf_steps.specs.Events.{LooksAreEvents, TakesAreEvents, DropsAreEvents, OpensAreEvents};
 ghost use Rattle.shelf_steps.specs.Events.{PublishesAreEvents, ClosesAreEvents};
 ghost use Rattle.shelf_steps.specs.Events.{CollectsAreEvents, SpareTriesAreEvents, NotesAreEvents, JoinsAreEvents};
@@ -22,7 +22,7 @@ pub use crate::worker_steps::{give_back, leave_late, look, take};
 /// What holds of a table between any two steps.
 pub fn the_rule_says()
     ensures words { WordsAreTheLoaders }
-    ensures counts { CountsAreWorkers }
+    ensures counts { WordsCountWorkers }
     ensures numbers { NumbersDiffer }
     ensures held { HeldHaveEditions }
     ensures out { SlotsOutAreHeld }
@@ -31,7 +31,7 @@ pub fn the_rule_says()
     ensures looks { LooksAreSo }
     ensures loader { OneSeatLoads }
     ensures history { OneHistory }
-    ensures notices { NoticesAreOfTheirTime }
+    ensures notices { NoticesAreNoNewer }
 {}
 
 /// The words and what the seats know show exactly one state of the table of versions.

@@ -2,7 +2,7 @@
 ghost use Rattle.std.specs.Prelude.{◌≡◌, ◌<◌, ◌≤◌};
 ghost use Rattle.version_core.specs.State.{most_versions};
 ghost use Rattle.shelf_steps.specs.Plays.{OpensOn, PublishesOn, ClosesOn, CollectsOn, GathersOn, PutsBackOn};
-ghost use Rattle.shelf_steps.specs.Plays.{MayOpenOn, MayPublish, MayClose, MayCollect, MayGather, MayPutBack};
+ghost use Rattle.shelf_steps.specs.Plays.{MayOpenOn, MayPublish, MayCloseShelf, MayCollect, MayGather, MayPutBack};
 
 use crate::rule::{Closing, Collecting, Gathering, Opening, Publishing, PuttingBack};
 use crate::table_seats::{ShelfTable, TableSeat};
@@ -39,7 +39,7 @@ pub fn publish(shelves: &ShelfTable, loader: &mut TableSeat, version: u64, shelf
 pub fn close(shelves: &ShelfTable, loader: &mut TableSeat, shelf: usize)
     requires table { loader.old.table ≡ shelves.now }
     requires numbers { shelf < 8 }
-    requires ready { MayClose shelf loader.old.me.0 }
+    requires ready { MayCloseShelf shelf loader.old.me.0 }
     ensures table { loader.new.table ≡ loader.old.table }
     ensures close { ClosesOn shelf loader.old.me loader.new.me }
 {

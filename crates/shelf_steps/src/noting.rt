@@ -1,6 +1,6 @@
 //! Notices of versions: one is split from the loader's seat, and a worker's seat takes it in.
 ghost use Rattle.std.specs.Prelude.{◌≡◌, ℕ};
-ghost use Rattle.shelf_steps.specs.Plays.{gives_notice, new_notice, joins_notice, IsLoading, IsSettled, IsNotice};
+ghost use Rattle.shelf_steps.specs.Plays.{gives_notice, new_notice, joins_notice, IsLoading, ShowsSettled, IsNotice};
 ghost use Rattle.shelf_steps.specs.Splits.{IsSplit};
 
 use crate::rule::{Joining, Noting};
@@ -19,7 +19,7 @@ pub fn note(shelves: &ShelfTable, loader: &mut TableSeat) -> TableSeat
 /// Lets the worker, which is idle or holds a version, take in the notice: from now on it has seen the notice's version.
 pub fn join(shelves: &ShelfTable, worker: &mut TableSeat, notice: TableSeat)
     requires table { (worker.old.table ≡ shelves.now) × (notice.table ≡ shelves.now) }
-    requires settled { IsSettled worker.old.me.0 }
+    requires settled { ShowsSettled worker.old.me.0 }
     requires notice { (version : ℕ) × IsNotice version notice.me }
     ensures table { worker.new.table ≡ worker.old.table }
     ensures join { worker.new.me ≡ (joins_notice worker.old.me.0 notice.me.0, worker.old.me.1) }

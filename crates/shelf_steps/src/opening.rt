@@ -1,7 +1,7 @@
 //! The start of a table: version 1 is current on shelf 0, and the seats of idle workers are split from the loader's.
 ghost use Rattle.std.specs.Prelude.{◌≡◌, ◌<◌, [], IfOk};
 ghost use Rattle.std.specs.Arc.{arc_value};
-ghost use Rattle.shelf_steps.specs.Rule.{first_loader, FirstSlot, FirstSlots};
+ghost use Rattle.shelf_steps.specs.Rule.{first_loader_view, FirstSlot, FirstSlots};
 ghost use Rattle.shelf_steps.specs.Plays.{keeps_loading, new_worker_view, MayHandOut};
 ghost use Rattle.shelf_steps.specs.Splits.{IsSplit};
 ghost use Rattle.shelf_steps.specs.declared.views.View.{View};
@@ -21,7 +21,7 @@ pub fn new_shelves(
     first: &Arc<Verified, Global>,
 ) -> Result<(ShelfTable, TableSeat), AllocError>
     ensures table { IfOk result (λ t. t.1.table ≡ t.0) }
-    ensures loader { IfOk result (λ t. t.1.me ≡ (View.Loading (first_loader (arc_value first.now)), [])) }
+    ensures loader { IfOk result (λ t. t.1.me ≡ (View.Loading (first_loader_view (arc_value first.now)), [])) }
 {
     let slots = first_slots(alloc, first)?;
     match Table::new(alloc, &[8, 65792, 0, 0, 0, 0, 0, 0, 0], slots, first) {

@@ -12,12 +12,12 @@ pub struct ShelfRule;
 
 impl TableRule<Option<Edition>, View, Arc<Verified, Global>> for ShelfRule {
     ghost use Rattle.std.specs.Arc.{arc_value};
-    ghost use Rattle.shelf_steps.specs.Rule.{KeepsRule, first_loader};
+    ghost use Rattle.shelf_steps.specs.Rule.{KeepsRule, first_loader_view};
     ghost use Rattle.shelf_steps.specs.declared.views.View.{View};
 
     ghost holds = { λ _. KeepsRule };
 
-    ghost first = { λ image. View.Loading (first_loader (arc_value image)) };
+    ghost first = { λ image. View.Loading (first_loader_view (arc_value image)) };
 }
 
 /// The step by which a worker looks at the current version: the event `Look`.

@@ -1,6 +1,6 @@
 //! The steps of a worker, each one atomic operation on a word and one event.
 ghost use Rattle.std.specs.Prelude.{◌≡◌, ℕ, ◌<◌};
-ghost use Rattle.shelf_steps.specs.Plays.{Looks, Takes, Leaves, GivesBack, IsIdle, HasLooked, IsLate, HoldsOut};
+ghost use Rattle.shelf_steps.specs.Plays.{Looks, Takes, Leaves, GivesBack, ShowsIdle, ShowsLooked, ShowsLate, HoldsOut};
 
 use crate::rule::{GivingBack, Leaving, Looking, Taking};
 use crate::table_seats::{ShelfTable, TableSeat};
@@ -8,7 +8,7 @@ use crate::table_seats::{ShelfTable, TableSeat};
 /// Looks at the current version, and returns its word: eight times the version, plus its shelf.
 pub fn look(shelves: &ShelfTable, worker: &mut TableSeat) -> u64
     requires table { worker.old.table ≡ shelves.now }
-    requires idle { IsIdle worker.old.me.0 }
+    requires idle { ShowsIdle worker.old.me.0 }
     ensures table { worker.new.table ≡ worker.old.table }
     ensures look { Looks worker.old.me result worker.new.me }
 {
@@ -20,7 +20,7 @@ pub fn look(shelves: &ShelfTable, worker: &mut TableSeat) -> u64
 /// is late.
 pub fn take(shelves: &ShelfTable, worker: &mut TableSeat, shelf: usize) -> u64
     requires table { worker.old.table ≡ shelves.now }
-    requires looked { (shelf < 8) × HasLooked shelf worker.old.me.0 }
+    requires looked { (shelf < 8) × ShowsLooked shelf worker.old.me.0 }
     ensures table { worker.new.table ≡ worker.old.table }
     ensures take { Takes worker.old.me result worker.new.me }
 {
@@ -33,7 +33,7 @@ pub fn take(shelves: &ShelfTable, worker: &mut TableSeat, shelf: usize) -> u64
 /// Leaves the shelf at which the worker is late: the event `Drop`.
 pub fn leave_late(shelves: &ShelfTable, worker: &mut TableSeat, shelf: usize)
     requires table { worker.old.table ≡ shelves.now }
-    requires late { (shelf < 8) × IsLate shelf worker.old.me.0 }
+    requires late { (shelf < 8) × ShowsLate shelf worker.old.me.0 }
     ensures table { worker.new.table ≡ worker.old.table }
     ensures leave { Leaves worker.old.me worker.new.me }
 {

@@ -1,15 +1,12 @@
 -- What a seat knows only grows.
-use Rattle.std.proofs.Common.{◌≡◌, ℕ, zero, suc, List, [], ◌∷◌, ◌++◌, Some, slice_get, sym, ap, ◌∙◌, subst, append_assoc, append-nil}
+use Rattle.std.proofs.Common.{◌≡◌, List, [], ◌∷◌, ◌++◌, Some, sym, ap, ◌∙◌, subst, append_assoc, append-nil}
 use Rattle.std.proofs.lemmas.List.Elements.{All-append, All-cons, All-nil}
-use mathlib.Core.List.{IsPrefix}
-use Rattle.image_layout.specs.Image.{ImageValue}
 use Rattle.version_core.specs.declared.event.Event.{Event}
 use Rattle.version_core.specs.declared.event.Reply.{Reply}
 use Rattle.shelf_steps.specs.declared.views.KnownHistory.{KnownHistory}
 use Rattle.shelf_steps.specs.declared.views.View.{View}
-use Rattle.shelf_steps.specs.EventHistory.{Happened, image_of}
-use Rattle.shelf_steps.proofs.Courses.{prefix_same, prefix_trans}
-use Rattle.reasoning.proofs.ListLemmas.{slice_get-append}
+use Rattle.shelf_steps.specs.EventHistory.{Happened}
+use Rattle.shelf_steps.proofs.Courses.{image_later, prefix_same, prefix_trans}
 use Rattle.shelves.specs.SeatHistory.{Grows, GrowthsJoin, LearnsBy, OneImageEach, PublishedStay}
 use Rattle.shelf_steps.specs.Events.{known_of}
 
@@ -33,13 +30,8 @@ happened_grows k k' e r h = record {
 pub same_grows : (u u' : View) → u' ≡ u → Grows (known_of u) (known_of u')
 same_grows u u' same = subst (λ (x : View). Grows (known_of u) (known_of x)) (sym same) (grows_same (known_of u))
 
-image_stays : (images more : List ImageValue) (version : ℕ) (image : ImageValue) → IsPrefix images more
-    → image_of images version ≡ Some image → image_of more version ≡ Some image
-image_stays images more zero image p is = is
-image_stays images more (suc n) image p is = subst (λ (l : List ImageValue). slice_get l n ≡ Some image) p.1 (slice_get-append images p.0 n image is)
-
 pub published_stay : PublishedStay
-published_stay a b version image grows is = image_stays a.images b.images version image grows.images is
+published_stay a b version image grows is = image_later a.images b.images version image grows.images is
 
 pub one_image_each : OneImageEach
 one_image_each a b version image other grows is then =

@@ -6,4 +6,3 @@ pub mod ShelfSeats
 pub mod ShelfLoads
 pub mod Pinned
 pub mod Words
-pub mod ShelfWords

@@ -5,7 +5,7 @@ use lib.ListN.{get_elem?}
 use Rattle.image_layout.specs.Image.{ImageValue}
 use Rattle.version_core.specs.Invariants.{version_on}
 use Rattle.shelf_steps.specs.declared.views.View.{View}
-use Rattle.shelf_steps.specs.EventHistory.{NeverFreedSince, all_of, image_of}
+use Rattle.shelf_steps.specs.EventHistory.{NeverFreedSince, known_in_full, image_of}
 use Rattle.shelf_steps.specs.Events.{known_of}
 use Rattle.shelf_steps.specs.Plays.{closing_word}
 use Rattle.shelf_steps.specs.Rule.{KeepsRule}
@@ -40,7 +40,7 @@ PinnedAreLeftAlone = (seat : ShelfSeatValue) → PinnedIsLeftAlone seat
 -- what a seat knows, a worker's or the loader's, is a beginning of the one history, at each moment between two steps of any seats
 abbrev pub SeatsKnowBeginnings : Type 0
 SeatsKnowBeginnings =
-    (table : Shelved) (i : ℕ) (u : View) (r : KeepsRule table) → get_elem? table.views i ≡ some u → Grows (known_of u) (all_of r.history)
+    (table : Shelved) (i : ℕ) (u : View) (r : KeepsRule table) → get_elem? table.views i ≡ some u → Grows (known_of u) (known_in_full r.history)
 
 -- so a version that two seats know to be published, such as a worker's and the loader's, has the same image for both
 abbrev pub SeatsAgreeOnImages : Type 0

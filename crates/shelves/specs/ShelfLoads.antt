@@ -16,7 +16,8 @@ use Rattle.shelf_steps.specs.Loading.{Loads, Frees, FindsBusy}
 use Rattle.shelf_steps.specs.EventHistory.{LeadsToItsState, leading_to}
 use Rattle.shelf_steps.specs.Events.{known_of}
 use Rattle.shelves.specs.Seats.{ShowsPublish, ShowsRefusal, ShowsCollection}
-use Rattle.shelves.specs.SeatHistory.{Grows, IsPublished, EndsPublish, FindsByTries, EachClosingIsTried, IsFullByTries, EndsRefused}
+use Rattle.shelves.specs.Words.{LoaderStillFits, LoaderWords}
+use Rattle.shelves.specs.SeatHistory.{IsPublished, EndsPublish, FindsByTries, EachClosingIsTried, IsFullByTries, EndsRefused}
 
 -- the shelves that the seat is at, what it knows, the current version, and what it was answered
 pub record ShelfLoaderValue : Type 0 where
@@ -115,10 +116,14 @@ RefusesBySteps u (PublishFault.ShelvesFull counts) u' =
     IsUnspent u × (¬ (HasFree u)) × ((found : Collected) × CollectsBySteps u found u' × (counts ≡ found.busy))
     × (¬ (HasFree u')) × AreFull u counts
 
--- what each call leaves of the loader's seat: its shelves, and all that it knew before
-pub record LoaderGoesOn (a b : ShelfLoaderValue) : Type 0 where
-  pub table : b.table ≡ a.table
-  pub grows : Grows (known_of a.view) (known_of b.view)
+-- what contracts say of this seat
+abbrev pub shelf_loader : LoaderWords TableId ShelfLoaderValue
+shelf_loader = record {
+  fits = λ shelves loader. loader.table ≡ shelves;
+  answers = λ loader. loader.answers;
+  current = λ loader. loader.current;
+  known = λ loader. known_of loader.view;
+}
 
 -- the version is the next one, and current from then on
 pub record IsNext (a : ShelfLoaderValue) (version : ℕ) (b : ShelfLoaderValue) : Type 0 where
@@ -127,7 +132,7 @@ pub record IsNext (a : ShelfLoaderValue) (version : ℕ) (b : ShelfLoaderValue) 
 
 -- the image is published as this version, and one notice of it goes out
 pub record PublishesImage (a : ShelfLoaderValue) (image : ImageValue) (version : ℕ) (b : ShelfLoaderValue) : Type 0 where
-  pub goes_on : LoaderGoesOn a b
+  pub still : LoaderStillFits shelf_loader a.table a b
   pub number : IsNext a version b
   pub loader : ShowsPublish a.answers image version b.answers
   pub steps : (room : View) × MakesRoomBySteps a.view room × PublishesWithNotice room image version b.view
@@ -136,7 +141,7 @@ pub record PublishesImage (a : ShelfLoaderValue) (image : ImageValue) (version :
 
 -- a publish is refused with this fault, and the current version stays
 pub record RefusesImage (a : ShelfLoaderValue) (fault : PublishFault) (b : ShelfLoaderValue) : Type 0 where
-  pub goes_on : LoaderGoesOn a b
+  pub still : LoaderStillFits shelf_loader a.table a b
   pub current : b.current ≡ a.current
   pub loader : ShowsRefusal a.answers fault b.answers
   pub spent : IsSpentAt a.current fault
@@ -146,7 +151,7 @@ pub record RefusesImage (a : ShelfLoaderValue) (fault : PublishFault) (b : Shelf
 
 -- each closing shelf is tried, and the current version stays
 pub record CollectsShelves (a : ShelfLoaderValue) (found : Collected) (b : ShelfLoaderValue) : Type 0 where
-  pub goes_on : LoaderGoesOn a b
+  pub still : LoaderStillFits shelf_loader a.table a b
   pub current : b.current ≡ a.current
   pub loader : ShowsCollection a.answers found b.answers
   pub steps : CollectsBySteps a.view found b.view

@@ -1,5 +1,5 @@
 -- What the calls of a worker's seat do at shelves without a lock.
-use Rattle.std.specs.Prelude.{◌≡◌, ◌≢◌, ℕ, ◌+◌, ◌*◌, ◌<◌, List, [], ◌∷◌, map, length, slice_get, Option, Some, None, MatchOption, Result, Ok, Err}
+use Rattle.std.specs.Prelude.{◌≡◌, ◌≢◌, ℕ, ◌<◌, List, [], ◌∷◌, map, length, slice_get, Option, Some, None, MatchOption, Result, Ok, Err}
 use Rattle.std.specs.Arc.{arc_value}
 use Rattle.atomic_table.specs.Seated.{TableId}
 use Rattle.image_layout.specs.Image.{ImageValue}
@@ -12,7 +12,8 @@ use Rattle.shelf_steps.specs.Slots.{slot_at}
 use Rattle.shelf_steps.specs.Pinning.{Pins, Moves, Releases, IsIdleAs, IsHoldingAs}
 use Rattle.shelves.specs.declared.faults.PinFault.{PinFault}
 use Rattle.shelves.specs.Seats.{SeatValue, ShowsPin, ShowsRelease, ShowsJoin}
-use Rattle.shelves.specs.SeatHistory.{Grows, HoldsIn, HoldsAsKnown, EndsPin, EndsRelease}
+use Rattle.shelves.specs.SeatHistory.{HoldsIn, HoldsAsKnown, EndsPin, EndsRelease}
+use Rattle.shelves.specs.Words.{SeatWords, StillFits}
 use Rattle.shelf_steps.specs.Events.{known_of}
 
 -- the shelves that the seat is at, the number of its worker, what it knows, the slots that are out with it, and what it shows
@@ -97,15 +98,19 @@ new_seat table number = record {
 abbrev pub SeatsHanded : TableId → ℕ → List ShelfSeatValue → Type 0
 SeatsHanded table n seats = (length seats ≡ n) × ((j : ℕ) → j < n → slice_get seats j ≡ Some (new_seat table j))
 
--- what each call leaves of a seat: its shelves, the number of its worker, and all that it knew before
-pub record GoesOn (a b : ShelfSeatValue) : Type 0 where
-  pub table : b.table ≡ a.table
-  pub number : b.number ≡ a.number
-  pub grows : Grows (known_of a.view) (known_of b.view)
+-- what contracts say of these seats and notices
+abbrev pub shelf_seats : SeatWords TableId ShelfSeatValue NoticeValue
+shelf_seats = record {
+  fits = λ shelves seat. seat.table ≡ shelves;
+  number = λ seat. seat.number;
+  shown = λ seat. seat.shown;
+  known = λ seat. known_of seat.view;
+  version = λ notice. notice.version;
+}
 
 -- a pin with this result. What is held after it was published, in what the seat knows
 pub record PinsSeat (a : ShelfSeatValue) (result : Result (Unit {0}) PinFault) (b : ShelfSeatValue) : Type 0 where
-  pub goes_on : GoesOn a b
+  pub still : StillFits shelf_seats a.table a b
   pub pin : ShowsPin a.shown result b.shown
   pub steps : PinsBySteps a result b
   pub known : HoldsAsKnown (known_of b.view) b.number b.shown.held
@@ -113,14 +118,14 @@ pub record PinsSeat (a : ShelfSeatValue) (result : Result (Unit {0}) PinFault) (
 
 -- a release with this result
 pub record ReleasesSeat (a : ShelfSeatValue) (result : Result (Unit {0}) PinFault) (b : ShelfSeatValue) : Type 0 where
-  pub goes_on : GoesOn a b
+  pub still : StillFits shelf_seats a.table a b
   pub release : ShowsRelease a.shown result b.shown
   pub steps : ReleasesBySteps a result b
   pub ends : EndsRelease (known_of a.view) a.number result (known_of b.view)
 
 -- a notice of this version is taken in. The seat learns nothing of the history by it
 pub record JoinsSeat (a : ShelfSeatValue) (version : ℕ) (b : ShelfSeatValue) : Type 0 where
-  pub goes_on : GoesOn a b
+  pub still : StillFits shelf_seats a.table a b
   pub join : ShowsJoin a.shown version b.shown
   pub step : JoinsByStep a version b
   pub same : known_of b.view ≡ known_of a.view

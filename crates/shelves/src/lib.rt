@@ -10,19 +10,17 @@ mod notice;
 mod shelf_loader;
 mod shelf_seats;
 mod shelves;
-mod solo;
 mod versions;
 
 pub use answers::{LoaderAnswer, SeatAnswer};
 pub use collected::Collected;
 pub use faults::{PinFault, PublishFault};
 pub use named::{
-    Branded, HasTable, ManySeats, NamedLoader, NamedNotice, NamedSeat, NamedShelves, ShelvesName,
+    Branded, HasTable, NamedLoader, NamedNotice, NamedSeat, NamedShelves, ShelvesName,
 };
 pub use notice::Notice;
 pub use shelf_loader::ShelfLoader;
 pub use shelf_seats::ShelfSeat;
 pub use shelf_steps::Edition;
 pub use shelves::Shelves;
-pub use solo::{OneSeat, SoloShelves};
 pub use versions::{Loads, Versions};

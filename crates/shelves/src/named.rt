@@ -3,9 +3,8 @@
 
 ghost use Rattle.std.specs.Prelude.{◌≡◌, ◌<◌, Some, IfOk, IfErr, IfSome};
 ghost use Rattle.std.specs.Arc.{arc_value};
-ghost use Rattle.shelves.specs.ShelfSeats.{PinsSeat, ReleasesSeat, JoinsSeat, ShowsWhatItKnows};
-ghost use Rattle.shelves.specs.ShelfLoads.{CollectsShelves, PublishesImage, RefusesImage};
-ghost use Rattle.shelves.specs.ShelfWords.{shelf_loader, shelf_seats};
+ghost use Rattle.shelves.specs.ShelfSeats.{PinsSeat, ReleasesSeat, JoinsSeat, ShowsWhatItKnows, shelf_seats};
+ghost use Rattle.shelves.specs.ShelfLoads.{CollectsShelves, PublishesImage, RefusesImage, shelf_loader};
 ghost use Rattle.shelves.specs.declared.faults.PublishFault.{PublishFault};
 
 use crate::collected::Collected;
@@ -136,19 +135,14 @@ impl<B: ShelvesName> NamedNotice<B> {
     }
 }
 
-/// Marks shelves that are for as many workers as there are seats. No value of it is made.
-pub struct ManySeats;
-
-/// Shelves without a lock, under a name: seats, the loader's seat and notices of the name are of
-/// these shelves. `K` says for whom they are, `ManySeats` or `OneSeat`.
+/// Shelves without a lock, under a name: seats, the loader's seat and notices of the name are of these shelves.
 #[derive(Drop)]
-pub struct NamedShelves<B: ShelvesName, K = ManySeats> {
+pub struct NamedShelves<B: ShelvesName> {
     shelves: Shelves,
     of: PhantomData<B>,
-    kind: PhantomData<K>,
 }
 
-impl<B: ShelvesName, K> Model for NamedShelves<B, K> {
+impl<B: ShelvesName> Model for NamedShelves<B> {
     ghost use Rattle.std.specs.Prelude.{◌≡◌};
     ghost use Rattle.atomic_table.specs.Seated.{TableId};
 
@@ -159,17 +153,30 @@ impl<B: ShelvesName, K> Model for NamedShelves<B, K> {
     ghost invariant = { λ s. s.shelves ≡ B.table };
 }
 
-impl<B: ShelvesName, K> NamedShelves<B, K> {
-    // Puts the shelves under their name.
-    pub(crate) fn under(shelves: Shelves) -> NamedShelves<B, K>
+impl<B: ShelvesName> NamedShelves<B> {
+    /// Puts the shelves under their name.
+    pub fn of(shelves: Shelves) -> NamedShelves<B>
         requires { shelves ≡ B.table }
         ensures { result ≡ shelves }
     {
         NamedShelves {
             shelves,
             of: PhantomData,
-            kind: PhantomData,
         }
+    }
+
+    /// Puts the shelves, the loader's seat and one worker's seat under the shelves' name.
+    pub fn with_seat(
+        shelves: Shelves,
+        loader: ShelfLoader,
+        seat: ShelfSeat,
+    ) -> (NamedShelves<B>, NamedLoader<B>, NamedSeat<B>)
+        requires { (shelves ≡ B.table) × (loader.table ≡ B.table) × (seat.table ≡ B.table) }
+        ensures same { (result.0 ≡ shelves) × (result.1 ≡ loader) × (result.2 ≡ seat) }
+        ensures table { (result.1.table ≡ result.0) × (result.2.table ≡ result.0) }
+    {
+        let named = NamedShelves::of(shelves);
+        (named, NamedLoader::of(loader), NamedSeat::of(seat))
     }
 
     /// The word as it is found, as [`Shelves::word`] returns it.
@@ -177,16 +184,6 @@ impl<B: ShelvesName, K> NamedShelves<B, K> {
         requires { word < 9 }
     {
         self.shelves.word(word)
-    }
-}
-
-impl<B: ShelvesName> NamedShelves<B> {
-    /// Puts the shelves under their name.
-    pub fn of(shelves: Shelves) -> NamedShelves<B>
-        requires { shelves ≡ B.table }
-        ensures { result ≡ shelves }
-    {
-        NamedShelves::under(shelves)
     }
 }
 
@@ -201,7 +198,7 @@ fn with_name<B: ShelvesName>(published: (u64, Option<Notice>)) -> (u64, Option<N
     }
 }
 
-impl<B: ShelvesName, K> Versions for NamedShelves<B, K> {
+impl<B: ShelvesName> Versions for NamedShelves<B> {
     type Seat = NamedSeat<B>;
 
     type Notice = NamedNotice<B>;
@@ -238,7 +235,7 @@ impl<B: ShelvesName, K> Versions for NamedShelves<B, K> {
     }
 }
 
-impl<B: ShelvesName, K> Loads for NamedShelves<B, K> {
+impl<B: ShelvesName> Loads for NamedShelves<B> {
     type Loader = NamedLoader<B>;
 
     ghost words = { shelf_loader };

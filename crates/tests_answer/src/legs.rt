@@ -9,7 +9,7 @@ use image_layout::second_sample_words;
 use image_verifier::Verified;
 use session::{OpenGate, PointForm, ReplyForm, SessionServer, Streams};
 use session_texts::{JourneyLegs, Points, RideLeg, WalkLeg};
-use shelves::{ShelvesName, SoloShelves};
+use shelves::{NamedShelves, ShelvesName};
 use solo_orders::SoloOrders;
 use std::alloc::{AllocError, Global};
 use std::marker::Brand;
@@ -34,7 +34,11 @@ fn replied_at<B: ShelvesName>(
 ) -> Vec<u8>
     requires { (solo.shelves ≡ B.table) × (solo.loader.table ≡ B.table) × (solo.seat.table ≡ B.table) }
 {
-    let (shelves, loader, mut seat) = SoloShelves::<B>::of(solo.shelves, solo.loader, solo.seat);
+    let (shelves, loader, mut seat) = NamedShelves::<B>::with_seat(
+        solo.shelves,
+        solo.loader,
+        solo.seat,
+    );
     let mut orders = SoloOrders::new(&shelves, loader, Vec::new(alloc));
     let mut streams = Streams::new(whole(requests), taker_of(alloc, 10_000, true));
     let session_server = SessionServer {

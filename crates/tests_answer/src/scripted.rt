@@ -6,7 +6,7 @@ use crate::sessions::{Solo, feed_of, image, solo_of, talked};
 use crate::streams::{Pieces, Taker, taker_of};
 use orders::{Gate, OrderFault, OrderRecord, Orders};
 use session::{Ended, OpenGate, SessionFault, SessionServer, Streams};
-use shelves::{Loads, NamedNotice, ShelvesName, SoloShelves};
+use shelves::{Loads, NamedNotice, NamedShelves, ShelvesName};
 use solo_orders::FeedImage;
 use std::alloc::{AllocError, Global};
 use std::io;
@@ -539,7 +539,7 @@ fn counting_at<B: ShelvesName>(
 ) -> Result<(Result<Ended, SessionFault>, Taker, usize), Fail>
     requires { (solo.shelves ≡ B.table) × (solo.loader.table ≡ B.table) × (solo.seat.table ≡ B.table) }
 {
-    let (shelves, mut loader, mut seat) = SoloShelves::<B>::of(
+    let (shelves, mut loader, mut seat) = NamedShelves::<B>::with_seat(
         solo.shelves,
         solo.loader,
         solo.seat,

@@ -9,7 +9,7 @@ use image_layout::sample_words;
 use image_verifier::{Verified, verify};
 use orders::{Gate, OrderFault, OrderRecord, Orders};
 use session::{Counted, Ended, OpenGate, SessionFault, SessionServer, Streams, serve};
-use shelves::{ShelfLoader, ShelfSeat, Shelves, ShelvesName, SoloShelves};
+use shelves::{NamedShelves, ShelfLoader, ShelfSeat, Shelves, ShelvesName};
 use solo_orders::{FeedImage, SoloOrders};
 use std::alloc::{AllocError, Global};
 use std::cell::Cell;
@@ -219,7 +219,11 @@ fn talked_at<B: ShelvesName, In: Read + Drop, Out: Write + Drop, G: Gate>(
 ) -> (Result<Ended, SessionFault>, Out)
     requires { (solo.shelves ≡ B.table) × (solo.loader.table ≡ B.table) × (solo.seat.table ≡ B.table) }
 {
-    let (shelves, loader, mut seat) = SoloShelves::<B>::of(solo.shelves, solo.loader, solo.seat);
+    let (shelves, loader, mut seat) = NamedShelves::<B>::with_seat(
+        solo.shelves,
+        solo.loader,
+        solo.seat,
+    );
     let mut orders = SoloOrders::new(&shelves, loader, feeds);
     let mut streams = Streams::new(reader, writer);
     let session_server = SessionServer::new(alloc, &shelves, gate);
@@ -457,7 +461,11 @@ fn overtaken_at<B: ShelvesName>(
 ) -> Taker
     requires { (solo.shelves ≡ B.table) × (solo.loader.table ≡ B.table) × (solo.seat.table ≡ B.table) }
 {
-    let (shelves, loader, mut seat) = SoloShelves::<B>::of(solo.shelves, solo.loader, solo.seat);
+    let (shelves, loader, mut seat) = NamedShelves::<B>::with_seat(
+        solo.shelves,
+        solo.loader,
+        solo.seat,
+    );
     let mut orders = Overtaken {
         orders: SoloOrders::new(&shelves, loader, feeds),
         fault,

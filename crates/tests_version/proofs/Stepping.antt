@@ -18,37 +18,37 @@ use Rattle.shelf_steps.specs.declared.views.WorkerView.{WorkerView}
 use Rattle.shelf_steps.specs.declared.views.View.{View}
 use Rattle.shelf_steps.specs.Slots.{down_from}
 use Rattle.shelf_steps.specs.Loading.{Frees, FindsBusy}
-use Rattle.shelf_steps.specs.Plays.{OfLoader, SeatAndSlots, Looks, Takes, TakesFound, Leaves, GivesBack, IsIdle, HasLooked}
-use Rattle.shelf_steps.specs.Plays.{IsLate, HoldsOut, is_open, with_hand, AllHave, OpensOn, PublishesOn, ClosesOn}
-use Rattle.shelf_steps.specs.Plays.{GathersOn, MayOpenOn, MayPublish, MayClose, MayCollect, MayGather}
-use Rattle.shelf_steps.specs.Plays.{IsSettled, IsNotice, IsLoading, joins_notice, gives_notice, new_notice}
+use Rattle.shelf_steps.specs.Plays.{OfLoader, SeatAndSlots, Looks, Takes, TakesFound, Leaves, GivesBack, ShowsIdle, ShowsLooked}
+use Rattle.shelf_steps.specs.Plays.{ShowsLate, HoldsOut, is_open, with_hand, AllHave, OpensOn, PublishesOn, ClosesOn}
+use Rattle.shelf_steps.specs.Plays.{GathersOn, MayOpenOn, MayPublish, MayCloseShelf, MayCollect, MayGather}
+use Rattle.shelf_steps.specs.Plays.{ShowsSettled, IsNotice, IsLoading, joins_notice, gives_notice, new_notice}
 use Rattle.tests_version.specs.Stepping.{DoesSo, Remembers, RemembersSo}
 
-of_idle : (u : View) (c : List (ℕ × Option Edition)) → DoesSo Worker.Idle (u, c) → IsIdle u
+of_idle : (u : View) (c : List (ℕ × Option Edition)) → DoesSo Worker.Idle (u, c) → ShowsIdle u
 of_idle (View.Loading l) c h = absurd h
 of_idle (View.Noting x') c h = absurd h
 of_idle View.Spent c h = absurd h
 of_idle (View.Working v) c h = h.0
 
-pub idle_now : (m : SeatAndSlots) → DoesSo Worker.Idle m → IsIdle m.0
+pub idle_now : (m : SeatAndSlots) → DoesSo Worker.Idle m → ShowsIdle m.0
 idle_now m h = of_idle m.0 m.1 h
 
-of_looked : (version k : ℕ) (u : View) (c : List (ℕ × Option Edition)) → DoesSo (Worker.Looked version k) (u, c) → (k < 8) × HasLooked k u
+of_looked : (version k : ℕ) (u : View) (c : List (ℕ × Option Edition)) → DoesSo (Worker.Looked version k) (u, c) → (k < 8) × ShowsLooked k u
 of_looked version k (View.Loading l) c h = absurd h
 of_looked version k (View.Noting x') c h = absurd h
 of_looked version k View.Spent c h = absurd h
 of_looked version k (View.Working v) c h = (h.1.0, (version, h.0))
 
-pub looked_now : (version k : ℕ) (m : SeatAndSlots) → DoesSo (Worker.Looked version k) m → (k < 8) × HasLooked k m.0
+pub looked_now : (version k : ℕ) (m : SeatAndSlots) → DoesSo (Worker.Looked version k) m → (k < 8) × ShowsLooked k m.0
 looked_now version k m h = of_looked version k m.0 m.1 h
 
-of_late : (k : ℕ) (u : View) (c : List (ℕ × Option Edition)) → DoesSo (Worker.Late k) (u, c) → (k < 8) × IsLate k u
+of_late : (k : ℕ) (u : View) (c : List (ℕ × Option Edition)) → DoesSo (Worker.Late k) (u, c) → (k < 8) × ShowsLate k u
 of_late k (View.Loading l) c h = absurd h
 of_late k (View.Noting x') c h = absurd h
 of_late k View.Spent c h = absurd h
 of_late k (View.Working v) c h = (h.1.0, h.0)
 
-pub late_now : (k : ℕ) (m : SeatAndSlots) → DoesSo (Worker.Late k) m → (k < 8) × IsLate k m.0
+pub late_now : (k : ℕ) (m : SeatAndSlots) → DoesSo (Worker.Late k) m → (k < 8) × ShowsLate k m.0
 late_now k m h = of_late k m.0 m.1 h
 
 of_holding : (k version : ℕ) (u : View) (c : List (ℕ × Option Edition)) → DoesSo (Worker.Holding k version) (u, c) → (k < 8) × HoldsOut k u c
@@ -222,7 +222,7 @@ published_so k version current newest shelves m h is later = publish_of k versio
 
 close_of : (k version current newest : ℕ) (shelves : List Shelf) (u : View) (c : List (ℕ × Option Edition))
     → RemembersSo current newest shelves (u, c) → slice_get shelves k ≡ Some (Shelf.Open version) → version < current
-    → MayClose k u × ((m' : SeatAndSlots) → ClosesOn k (u, c) m' → RemembersSo current newest (set shelves k (Shelf.Closing version)) m')
+    → MayCloseShelf k u × ((m' : SeatAndSlots) → ClosesOn k (u, c) m' → RemembersSo current newest (set shelves k (Shelf.Closing version)) m')
 close_of k version current newest shelves (View.Working v) c h is older = absurd h.0
 close_of k version current newest shelves (View.Noting x') c h is older = absurd h.0
 close_of k version current newest shelves View.Spent c h is older = absurd h.0
@@ -251,7 +251,7 @@ close_of k version current newest shelves (View.Loading l) c h is older =
 
 pub closed_so : (k version current newest : ℕ) (shelves : List Shelf) (m : SeatAndSlots) → RemembersSo current newest shelves m
     → slice_get shelves k ≡ Some (Shelf.Open version) → version < current
-    → MayClose k m.0 × ((m' : SeatAndSlots) → ClosesOn k m m' → RemembersSo current newest (set shelves k (Shelf.Closing version)) m')
+    → MayCloseShelf k m.0 × ((m' : SeatAndSlots) → ClosesOn k m m' → RemembersSo current newest (set shelves k (Shelf.Closing version)) m')
 closed_so k version current newest shelves m h is older = close_of k version current newest shelves m.0 m.1 h is older
 
 collect_of : (k version current newest : ℕ) (shelves : List Shelf) (u : View) (c : List (ℕ × Option Edition))
@@ -298,22 +298,22 @@ got_at xs k d x eight small is = there xs k (omega arith) is
     there (y ∷ ys) (suc n) less e = there ys n (omega arith) e
 
 -- a worker that is idle or holds a version may take in a notice, and does what it did
-idle_of : (u : View) (c : List (ℕ × Option Edition)) → DoesSo Worker.Idle (u, c) → IsSettled u
+idle_of : (u : View) (c : List (ℕ × Option Edition)) → DoesSo Worker.Idle (u, c) → ShowsSettled u
 idle_of (View.Working v) c h = inl h.0
 idle_of (View.Loading l) c h = absurd h
 idle_of (View.Noting x') c h = absurd h
 idle_of View.Spent c h = absurd h
 
-pub idle_settled : (m : SeatAndSlots) → DoesSo Worker.Idle m → IsSettled m.0
+pub idle_settled : (m : SeatAndSlots) → DoesSo Worker.Idle m → ShowsSettled m.0
 idle_settled m h = idle_of m.0 m.1 h
 
-held_of : (k version : ℕ) (u : View) (c : List (ℕ × Option Edition)) → DoesSo (Worker.Holding k version) (u, c) → IsSettled u
+held_of : (k version : ℕ) (u : View) (c : List (ℕ × Option Edition)) → DoesSo (Worker.Holding k version) (u, c) → ShowsSettled u
 held_of k version (View.Working v) c h = inr (k, version, h.0)
 held_of k version (View.Loading l) c h = absurd h
 held_of k version (View.Noting x') c h = absurd h
 held_of k version View.Spent c h = absurd h
 
-pub holding_settled : (k version : ℕ) (m : SeatAndSlots) → DoesSo (Worker.Holding k version) m → IsSettled m.0
+pub holding_settled : (k version : ℕ) (m : SeatAndSlots) → DoesSo (Worker.Holding k version) m → ShowsSettled m.0
 holding_settled k version m h = held_of k version m.0 m.1 h
 
 join_idle : (n : ℕ) (u : View) (c : List (ℕ × Option Edition)) → DoesSo Worker.Idle (u, c) → DoesSo Worker.Idle (joins_notice u (View.Noting n), c)

@@ -7,7 +7,7 @@ mod spending;
 
 ghost use Rattle.std.specs.Prelude.{◌≡◌, ◌≤◌, [], All, length, IfOk, MatchOption};
 ghost use Rattle.workers.specs.Sessions.{MayClose};
-ghost use Rattle.shelves.specs.ShelfWords.{shelf_seats};
+ghost use Rattle.shelves.specs.ShelfSeats.{shelf_seats};
 ghost use Rattle.workers.specs.Words.{sessions_of};
 
 use feed_files::{FeedFiles, MemoryFiles};

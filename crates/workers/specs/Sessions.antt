@@ -66,7 +66,8 @@ abbrev pub served_client_of : {C R W S : Type 0} → C → Session R W S → Ser
 served_client_of client session = record { client = client; session = session }
 
 module _ {C R W T S N : Type 0} (words : SessionWords C R W T S N) where
-  -- the client's own reader and writer were opened and served at this seat, and are so now: if a read or a write failed, it was the last one there
+  -- the client's own reader and writer were opened, and a session was served over them at this seat, which left them as they are now; then the seat gave
+  -- back what it held
   pub record IsSession (client : C) (served_client : Streams R W S × SessionEnd) (a b : WorkerState S) : Type 0 where
     pub opened : R × W
     pub opens : words.clients.opens client (Ok opened)
@@ -87,7 +88,7 @@ module _ {C R W T S N : Type 0} (words : SessionWords C R W T S N) where
     pub end_is : end ≡ SessionEnd.Failed
     pub same : b ≡ a
 
-  -- the client was served so, or couldn't be opened
+  -- the client had such a session, or couldn't be opened
   abbrev pub IsServed : C → Session R W S → WorkerState S → WorkerState S → Type 0
   IsServed client session a b = MatchOption session.0 (IsUnopened client session.1 a b) (λ now. IsSession client (now, session.1) a b)
 
@@ -164,21 +165,21 @@ module _ {C R W T S N : Type 0} (words : SessionWords C R W T S N) where
     pub served : AreServed share.0.taken share.1 a b
     pub exact : HoldsNothing a.seat → AreExact share.0.taken share.1 a b
 
-  -- a worker's share: the sessions are those of these clients at its seat, and each profile in them is answered exactly, if the seat was idle at first,
-  -- as new seats are. All that was ordered in them was asked of these orders, which go the way of this post
+  -- a worker's share: the sessions are those of these clients at its seat, and each profile in them is answered exactly, if the seat held nothing at
+  -- first, as a new one. All that was ordered in them went this way, and did what its answer says
   pub record IsShare (start : WorkerStart S N) (clients : List C) (share : ShareValue R W S N) : Type 0 where
     pub served : AreServed clients share.sessions (worker_state start.seat []) (worker_state share.seat share.orders.asked)
     pub exact : HoldsNothing start.seat → AreExact clients share.sessions (worker_state start.seat []) (worker_state share.seat share.orders.asked)
     pub asked : IsAskedBy words.seats.version start.route share.orders
 
-  -- each worker at one of these posts got one hand of the clients, and this is its share
+  -- each worker that began so got one hand of the clients, and this is its share
   abbrev pub AreShares : List (WorkerStart S N) → List (List C) → List (ShareValue R W S N) → Type 0
   AreShares [] [] [] = Unit {0}
   AreShares (start ∷ starts) (hand ∷ hands) (share ∷ shares) = IsShare start hand share × AreShares starts hands shares
   AreShares _ _ _ = ⊥
 
-  -- the clients are dealt to the workers at these posts, each to one and once; and what the workers return is each one's share, end to end: one
-  -- session for each client
+  -- the clients are dealt to the workers that began so, each to one and once; and what the workers return is each one's share, end to end: one session for
+  -- each client
   pub record AreAllServed (clients : List C) (starts : List (WorkerStart S N)) (work : WorkValue R W S N) : Type 0 where
     pub hands : List (List C)
     pub dealt : IsPermutation clients (flat_map (λ hand. hand) hands)
@@ -188,7 +189,7 @@ module _ {C R W T S N : Type 0} (words : SessionWords C R W T S N) where
     pub seats_are : work.seats ≡ map (λ share. share.seat) shares
     pub orders_are : work.orders ≡ map (λ share. share.orders) shares
 
-  -- all clients of whom these workers took just these, each client once, are served
+  -- whichever clients these are that were taken, in any order, each once: all of them are served
   abbrev pub HaveAllServed : List C → List (WorkerStart S N) → WorkValue R W S N → Type 0
   HaveAllServed taken starts work = (clients : List C) → IsPermutation clients taken → AreAllServed clients starts work
 

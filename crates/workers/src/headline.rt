@@ -1,10 +1,11 @@
 //! Workers at shelves without a lock, under a name that the caller picks.
 
 ghost use Rattle.std.specs.Prelude.{◌≡◌, All, IfOk, MatchResult};
-ghost use Rattle.workers.specs.Headline.{AllLoaded, AllServed, AreReadyAt, IsLeftAt, IsUnserved, KnowOneHistory};
+ghost use Rattle.workers.specs.Headline.{AllLoaded, AllServed, SeatsAreReadyAt, IsLeftAt, IsUnserved, KnowOneHistory};
 ghost use Rattle.workers.specs.Headline.{PinnedAreLeftAloneAt, server_input_of};
 ghost use Rattle.workers.specs.Sessions.{MayClose};
-ghost use Rattle.shelves.specs.ShelfWords.{shelf_loader, shelf_seats};
+ghost use Rattle.shelves.specs.ShelfLoads.{shelf_loader};
+ghost use Rattle.shelves.specs.ShelfSeats.{shelf_seats};
 ghost use Rattle.feed_loads.specs.Words.{loads_of, outcomes_of};
 ghost use Rattle.workers.specs.Words.{sessions_of};
 
@@ -69,7 +70,7 @@ pub fn run_shelves<
     ServingOutcome<C::Reader, C::Writer, K, NamedSeat<B>, NamedLoader<B>, NamedNotice<B>, F::Files>,
     WorkersFault<K>,
 >
-    requires ready { AreReadyAt B.table (server_input_of clients shelves seats.items loader feeds.now) }
+    requires ready { SeatsAreReadyAt B.table (server_input_of clients shelves seats.items loader feeds.now) }
     requires closes { MayClose (sessions_of form C.words C.Reader.words C.Writer.words shelf_seats) seats.items }
     ensures left { MatchResult result
         (IsLeftAt K.words (server_input_of clients shelves seats.items loader feeds.now))

@@ -4,7 +4,7 @@ ghost use denote.Param.Send.{IsSend, IsSync};
 ghost use Rattle.std.specs.Prelude.{All, IfOk, MatchResult};
 ghost use Rattle.client_queue.specs.Dealing.{IsExhausted};
 ghost use Rattle.feed_loads.specs.Words.{loads_of, outcomes_of};
-ghost use Rattle.workers.specs.Headline.{AreReady, IsRun, IsUnserved, server_input_of};
+ghost use Rattle.workers.specs.Headline.{SeatsAreReady, IsServerRun, IsUnserved, server_input_of};
 ghost use Rattle.workers.specs.Ordering.{route_to};
 ghost use Rattle.workers.specs.Posts.{AreUnused, HaveServed, arrivals_of, posts_of, queues_of};
 ghost use Rattle.workers.specs.Sessions.{MayBegin, MayClose, work_of, worker_starts};
@@ -74,11 +74,11 @@ where
     T::Seat: Send + Drop,
     T::Loader: Send + Drop,
     T::Notice: Send + Drop,
-    requires ready { AreReady T.Versions.words T.Loads.words
+    requires ready { SeatsAreReady T.Versions.words T.Loads.words
         (server_input_of clients shelves.now seats.items loader feeds.now) }
     requires closes { MayClose (sessions_of form C.words C.Reader.words C.Writer.words T.Versions.words)
         seats.items }
-    ensures { MatchResult result (IsRun (sessions_of form C.words C.Reader.words C.Writer.words T.Versions.words)
+    ensures { MatchResult result (IsServerRun (sessions_of form C.words C.Reader.words C.Writer.words T.Versions.words)
         K.words (loads_of F.words (outcomes_of
         F.Files.words T.Loads.words T.Versions.words.version))
         (server_input_of clients shelves.now seats.items loader feeds.now))
@@ -95,11 +95,11 @@ where
                 × IsSend T.Loader.row
                 × IsSend T.Notice.row × IsSend C.row × IsSend C.Reader.row × IsSend C.Writer.row
                 × IsSend F.Files.row × IsSend F.Leave.row × IsSend E.row
-                × AreReady T.Versions.words T.Loads.words
+                × SeatsAreReady T.Versions.words T.Loads.words
                 (server_input_of clients shelves.now seats.items loader feeds.now)
                 × MayClose (sessions_of form C.words C.Reader.words C.Writer.words T.Versions.words)
                 seats.items }
-            ensures { MatchResult result (IsRun
+            ensures { MatchResult result (IsServerRun
                 (sessions_of form C.words C.Reader.words C.Writer.words T.Versions.words)
                 K.words (loads_of F.words (outcomes_of
                 F.Files.words
@@ -147,11 +147,11 @@ fn run_in<
     leave: V,
     errors: E,
 ) -> Result<ServingOutcome<I, O, K, S, L, N, D>, WorkersFault<K>>
-    requires ready { AreReady T.Versions.words T.Loads.words
+    requires ready { SeatsAreReady T.Versions.words T.Loads.words
         (server_input_of clients workplace.now.shelves.now seats.items loader workplace.now.feeds.now) }
     requires closes { MayClose (sessions_of workplace.now.form C.words I.words O.words T.Versions.words)
         seats.items }
-    ensures { MatchResult result (IsRun
+    ensures { MatchResult result (IsServerRun
         (sessions_of workplace.now.form C.words I.words O.words T.Versions.words)
         K.words (loads_of F.words (outcomes_of D.words T.Loads.words T.Versions.words.version))
         (server_input_of clients workplace.now.shelves.now seats.items loader workplace.now.feeds.now))

@@ -7,7 +7,7 @@ use super::spending::Sink;
 use super::{Row, two_feeds};
 use load_orders::GhostList;
 use orders::OpenGate;
-use shelves::{NamedLoader, NamedSeat, ShelfLoader, ShelfSeat, Shelves, ShelvesName, SoloShelves};
+use shelves::{NamedLoader, NamedSeat, NamedShelves, ShelfLoader, ShelfSeat, Shelves, ShelvesName};
 use std::alloc::{AllocError, Global};
 use std::io;
 use std::io::Write;
@@ -22,7 +22,7 @@ use workers::*;
 /// A writer that takes everything, and keeps the first shelf's word as it was at the last reply.
 #[derive(Drop)]
 struct Looking<'a, B: ShelvesName> {
-    shelves: &'a SoloShelves<B>,
+    shelves: &'a NamedShelves<B>,
     word: &'a AtomicU64,
 }
 
@@ -62,7 +62,7 @@ impl<'a, B: ShelvesName + Send + Sync> Client for Waiter<'a, B> {
 
 /// A client that looks at these shelves.
 fn waiter_at<'a, B: ShelvesName>(
-    shelves: &'a SoloShelves<B>,
+    shelves: &'a NamedShelves<B>,
     word: &'a AtomicU64,
 ) -> Waiter<'a, B> {
     Waiter {
@@ -75,7 +75,7 @@ fn serve_waiter<B: ShelvesName + Send + Sync, R: Threads + Wait + Sync>(
     rt: &R,
     alloc: Global,
     waiter: Waiter<'_, B>,
-    shelves: &SoloShelves<B>,
+    shelves: &NamedShelves<B>,
     loader: NamedLoader<B>,
     seat: NamedSeat<B>,
 ) -> Result<(), AllocError>
@@ -116,7 +116,7 @@ fn word_at<B: ShelvesName + Send + Sync, R: Threads + Wait + Sync>(
 ) -> Result<u64, AllocError>
     requires { (shelves ≡ B.table) × (loader.table ≡ B.table) × (seat.table ≡ B.table) }
 {
-    let (shelves, loader, seat) = SoloShelves::<B>::of(shelves, loader, seat);
+    let (shelves, loader, seat) = NamedShelves::<B>::with_seat(shelves, loader, seat);
     let word = AtomicU64::new(u64::MAX);
     let waiter = waiter_at(&shelves, &word);
     serve_waiter(rt, alloc, waiter, &shelves, loader, seat)?;

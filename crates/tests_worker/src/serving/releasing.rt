@@ -5,7 +5,7 @@ ghost use Rattle.std.specs.Prelude.{◌≡◌};
 use super::holding::{Stage, stage_of};
 use orders::Gate;
 use session::{SessionServer, Streams};
-use shelves::{ShelfLoader, ShelfSeat, Shelves, ShelvesName, SoloShelves};
+use shelves::{NamedShelves, ShelfLoader, ShelfSeat, Shelves, ShelvesName};
 use solo_orders::SoloOrders;
 use std::alloc::{AllocError, Global};
 use std::io;
@@ -18,7 +18,7 @@ use std::test::Fail;
 /// A writer that takes everything, and at each write looks how many workers are at the first shelf.
 #[derive(Drop)]
 struct Looking<'a, B: ShelvesName> {
-    shelves: &'a SoloShelves<B>,
+    shelves: &'a NamedShelves<B>,
     counts: Vec<u64>,
 }
 
@@ -37,7 +37,7 @@ impl<'a, B: ShelvesName> Write for Looking<'a, B> {
 /// A gate that looks how many workers are at the first shelf when a scan begins, and adds these numbers up.
 #[derive(Drop)]
 struct Watching<'a, B: ShelvesName> {
-    shelves: &'a SoloShelves<B>,
+    shelves: &'a NamedShelves<B>,
     count: AtomicU64,
 }
 
@@ -61,7 +61,7 @@ fn counts_at<B: ShelvesName>(
 ) -> (Vec<u64>, u64, bool)
     requires { (shelves ≡ B.table) × (loader.table ≡ B.table) × (seat.table ≡ B.table) }
 {
-    let (shelves, loader, mut seat) = SoloShelves::<B>::of(shelves, loader, seat);
+    let (shelves, loader, mut seat) = NamedShelves::<B>::with_seat(shelves, loader, seat);
     let mut orders = SoloOrders::new(&shelves, loader, Vec::new(alloc));
     let writer = Looking {
         shelves: &shelves,

@@ -1,7 +1,7 @@
 use Rattle.std.proofs.Common.{◌≡◌, [], length}
 use Rattle.workers.specs.Ordering.{route_to}
 use Rattle.workers.specs.Sessions.{worker_starts, work_of}
-use Rattle.shelves.specs.ShelfWords.{shelf_seats}
+use Rattle.shelves.specs.ShelfSeats.{shelf_seats}
 use Rattle.workers.specs.Words.{sessions_of}
 use Rattle.csa_program.proofs.ServedEnds.{ok_then, ok_then_all, sessions_many}
 use Rattle.csa_program.proofs.serve.serve_all.Goals as goal

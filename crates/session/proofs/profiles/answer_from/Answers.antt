@@ -4,14 +4,14 @@ use Rattle.station_answers.specs.Naming.{IsNoQuestion}
 use Rattle.station_answers.specs.declared.naming.NoQuestion.{NoQuestion}
 use Rattle.session_texts.specs.Requests.{AskValue, ask_value}
 use Rattle.session.specs.Lines.{no_question_line}
-use Rattle.session.specs.Profiles.{RepliesToProfile, window_of}
+use Rattle.session.specs.Profiles.{RepliesToProfile, asked_window}
 use Rattle.session.specs.declared.reply_form.ReplyForm.{ReplyForm}
 use Rattle.session.specs.Replies.{ReplyValue, plain, reply_value}
 use Rattle.session.proofs.profiles.answer_from.Goals as goal
 
 -- the reply to a profile that is no question of its image
 no_question : (form : ReplyForm) (image : ImageValue) (version : ℕ) (ask : AskValue) (reply : ReplyValue) (none : NoQuestion)
-    → HasImage image.timetable image.names → IsNoQuestion image ask.from ask.to (window_of ask) none → reply ≡ plain (no_question_line none)
+    → HasImage image.timetable image.names → IsNoQuestion image ask.from ask.to (asked_window ask) none → reply ≡ plain (no_question_line none)
     → RepliesToProfile form image version ask reply
 no_question form image version ask reply (NoQuestion.Bad fault) kept refused reply_is =
     inl (record { accepted = kept; replied = inl (inl (record { fault = fault; refused = refused; reply_is = reply_is })) })

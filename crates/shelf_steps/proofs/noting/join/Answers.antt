@@ -1,5 +1,5 @@
 use Rattle.std.proofs.Common.{arith, ap, sym, subst, ◌∙◌}
-use Rattle.shelf_steps.specs.Plays.{TableSeatValue, SeatAndSlots, IsSettled}
+use Rattle.shelf_steps.specs.Plays.{TableSeatValue, SeatAndSlots, ShowsSettled}
 use Rattle.shelf_steps.proofs.NoteSteps.{note_joins}
 use Rattle.shelf_steps.proofs.noting.join.Goals as goal
 
@@ -11,5 +11,5 @@ join_seat-requires c =
       ap (λ (m : SeatAndSlots). m.1) notice,
       (let n = c.shelves.invariant.0 in omega arith),
       note_joins c.worker.inside.seat.id c.notice.inside.seat.id c.requires.notice.0 c.worker.inside.seat.me.0 c.notice.inside.seat.me (subst (λ
-          (p : TableSeatValue). IsSettled p.me.0) (sym c.worker.view_is) c.requires.settled) notice,
+          (p : TableSeatValue). ShowsSettled p.me.0) (sym c.worker.view_is) c.requires.settled) notice,
     )

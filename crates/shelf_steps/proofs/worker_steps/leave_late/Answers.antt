@@ -1,5 +1,5 @@
 use Rattle.std.proofs.Common.{arith, ap, sym, subst, ◌∙◌}
-use Rattle.shelf_steps.specs.Plays.{TableSeatValue, IsLate}
+use Rattle.shelf_steps.specs.Plays.{TableSeatValue, ShowsLate}
 use Rattle.shelf_steps.proofs.Works.{leavings}
 use Rattle.shelf_steps.proofs.worker_steps.leave_late.Goals as goal
 
@@ -8,5 +8,5 @@ fetch_sub-requires c = (
   ap (λ (p : TableSeatValue). p.table) c.worker.view_is ∙ (c.requires.table ∙ sym c.shelves.view_is),
   (let n = c.shelves.invariant.0 in let k = c.requires.late.0 in omega arith),
   leavings _ c.worker.inside.seat.id c.args.shelf c.worker.inside.seat.me
-      (subst (λ (p : TableSeatValue). IsLate c.args.shelf p.me.0) (sym c.worker.view_is) c.requires.late.1),
+      (subst (λ (p : TableSeatValue). ShowsLate c.args.shelf p.me.0) (sym c.worker.view_is) c.requires.late.1),
 )

@@ -230,7 +230,7 @@ fn play_alone<B: ShelvesName, R: Wait + Abort>(
 ) -> Result<(), Fail>
     requires { (shelves ≡ B.table) × (loader.table ≡ B.table) × (seat.table ≡ B.table) }
 {
-    let (shelves, loader, seat) = SoloShelves::<B>::of(shelves, loader, seat);
+    let (shelves, loader, seat) = NamedShelves::<B>::with_seat(shelves, loader, seat);
     let mut stage = NamedStage::of(alloc, shelves, loader, Vec::new(alloc));
     stage.seats.push(seat)?;
     play(rt, &mut stage, ONE_WORKER)

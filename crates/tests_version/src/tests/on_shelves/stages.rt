@@ -139,9 +139,9 @@ impl Stage for LockedStage {
 
 /// Shelves without a lock, under a name.
 #[derive(Drop)]
-pub(crate) struct NamedStage<B: ShelvesName, K> {
+pub(crate) struct NamedStage<B: ShelvesName> {
     alloc: Global,
-    pub(crate) shelves: NamedShelves<B, K>,
+    pub(crate) shelves: NamedShelves<B>,
     pub(crate) loader: NamedLoader<B>,
     pub(crate) seats: Vec<NamedSeat<B>>,
     notices: Vec<NamedNotice<B>>,
@@ -161,13 +161,13 @@ fn named_seats<B: ShelvesName>(
     Ok(named)
 }
 
-impl<B: ShelvesName, K> NamedStage<B, K> {
+impl<B: ShelvesName> NamedStage<B> {
     pub(crate) fn of(
         alloc: Global,
-        shelves: NamedShelves<B, K>,
+        shelves: NamedShelves<B>,
         loader: NamedLoader<B>,
         seats: Vec<NamedSeat<B>>,
-    ) -> NamedStage<B, K> {
+    ) -> NamedStage<B> {
         NamedStage {
             alloc,
             shelves,
@@ -181,7 +181,7 @@ impl<B: ShelvesName, K> NamedStage<B, K> {
     fn words(&self, answer: Result<(), PinFault>, seat: usize) -> Result<String, AllocError> {
         match self.seats.get(seat) {
             Some(seat) => {
-                let edition = NamedShelves::<B, K>::edition(seat);
+                let edition = NamedShelves::<B>::edition(seat);
                 seat_words(self.alloc, answer, edition)
             }
             None => word(self.alloc, "no seat"),
@@ -195,7 +195,7 @@ pub(crate) fn named_stage<B: ShelvesName>(
     shelves: Shelves,
     loader: ShelfLoader,
     seats: Vec<ShelfSeat>,
-) -> Result<NamedStage<B, ManySeats>, AllocError>
+) -> Result<NamedStage<B>, AllocError>
     requires { (shelves ≡ B.table) × (loader.table ≡ B.table) × All (λ seat. seat.table ≡ B.table) seats.items }
 {
     let seats = named_seats(alloc, seats)?;
@@ -204,8 +204,8 @@ pub(crate) fn named_stage<B: ShelvesName>(
 }
 
 /// Publishes, and keeps the notice.
-fn publish_noted<B: ShelvesName, K>(
-    shelves: &NamedShelves<B, K>,
+fn publish_noted<B: ShelvesName>(
+    shelves: &NamedShelves<B>,
     loader: &mut NamedLoader<B>,
     image: Arc<Verified, Global>,
     notices: &mut Vec<NamedNotice<B>>,
@@ -221,7 +221,7 @@ fn publish_noted<B: ShelvesName, K>(
     }
 }
 
-impl<B: ShelvesName, K> Stage for NamedStage<B, K> {
+impl<B: ShelvesName> Stage for NamedStage<B> {
     fn alloc(&self) -> Global {
         self.alloc
     }

@@ -173,7 +173,7 @@ fn pin_beside_a_loader<B: ShelvesName + Send + Sync, R: Threads + Wait + Sync>(
 }
 
 fn two_seats<B: ShelvesName>(
-    stage: &mut NamedStage<B, ManySeats>,
+    stage: &mut NamedStage<B>,
 ) -> Result<(NamedSeat<B>, NamedSeat<B>), Fail> {
     match (stage.seats.pop(), stage.seats.pop()) {
         (Some(first), Some(second)) => Ok((first, second)),
@@ -184,7 +184,7 @@ fn two_seats<B: ShelvesName>(
 /// After one more publish the version that was current is collected too: no worker is left at it.
 fn publishes_the_last<B: ShelvesName, R: Abort>(
     rt: &R,
-    stage: &mut NamedStage<B, ManySeats>,
+    stage: &mut NamedStage<B>,
     image: Arc<Verified, Global>,
 ) {
     let published = stage.shelves.publish(&mut stage.loader, image).is_ok();
@@ -197,7 +197,7 @@ fn publishes_the_last<B: ShelvesName, R: Abort>(
 /// that go, that is at most twelve times.
 fn try_two_workers<B: ShelvesName + Send + Sync, R: Threads + Wait + Sync + Abort>(
     rt: &R,
-    stage: &mut NamedStage<B, ManySeats>,
+    stage: &mut NamedStage<B>,
     images: Vec<Arc<Verified, Global>>,
     last: Arc<Verified, Global>,
 ) -> Result<(), Fail> {

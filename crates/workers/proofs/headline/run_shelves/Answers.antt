@@ -1,5 +1,5 @@
 use Rattle.std.proofs.Common.{◌≡◌, ◌∙◌, All, subst, sym}
-use Rattle.shelves.specs.ShelfWords.{shelf_seats}
+use Rattle.shelves.specs.ShelfSeats.{shelf_seats}
 use Rattle.workers.specs.Sessions.{MayClose}
 use Rattle.workers.specs.Words.{sessions_of}
 use Rattle.workers.proofs.headline.run_shelves.Goals as goal

@@ -1,6 +1,6 @@
 use Rattle.std.proofs.Common.{◌≡◌}
 use Rattle.lines.specs.Reading.{unread_of}
-use Rattle.session.specs.Learning.{GoesOn}
+use Rattle.session.specs.Learning.{FitsAndLearns}
 use Rattle.session.specs.Exchanges.{seat_state}
 use Rattle.session.specs.Sessions.{serve_words, state_of}
 use Rattle.session.proofs.LineLemmas.{AtLine}
@@ -10,7 +10,7 @@ abbrev pub invariant-loop : goal.invariant-loop
 invariant-loop g l =
     let words = g.T.Versions.words in
     record {
-      seat : GoesOn words l.self.shelves.now l.fn.seat l.seat;
+      seat : FitsAndLearns words l.self.shelves.now l.fn.seat l.seat;
       route : g.O.Orders.route l.orders ≡ g.O.Orders.route l.fn.orders;
       at : AtLine (serve_words l.self.form g.In.ReadStream.words g.Out.WriteStream.words) (words.number l.fn.seat)
           (state_of words.shown l.fn.reader l.fn.writer (seat_state (words.shown l.fn.seat) (g.O.Orders.asked l.fn.orders)))

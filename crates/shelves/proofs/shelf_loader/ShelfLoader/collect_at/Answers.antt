@@ -8,7 +8,7 @@ returns c =
     let view = c.args.self.now.view in let after = c.try_all-found.new.self.view in let found = c.try_all-found.result in
     let steps = c.try_all-found.ensures.steps in
     rw c.note_answer.ensures (record {
-      goes_on = record { table = search rules; grows = collects_grow view after found steps };
+      still = record { fits = search rules; grows = collects_grow view after found steps };
       current = search rules;
       loader = (freed_is_empty view found after (search rules) steps.0, search rules);
       steps = steps;

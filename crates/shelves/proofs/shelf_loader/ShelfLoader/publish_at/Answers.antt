@@ -12,7 +12,7 @@ returns-in-Ok-clause-published c =
     let image = arc_value c.args.image in let next = c.in-Ok.ensures.next.0 in let p = c.in-Ok.ensures.published in
     let ends = publishes_end c.args.self.now.view p.0 view image version p.1 p.2 in
     rw (c.note_at-notice.ensures.noted, c.note_answer.ensures) (record {
-      goes_on = record { table = search rules; grows = noticed (λ k. Grows before k) view (ended_grows before (known_of view) version ends) };
+      still = record { fits = search rules; grows = noticed (λ k. Grows before k) view (ended_grows before (known_of view) version ends) };
       number = record { next = next.next; current = next.current };
       loader = search rules;
       steps = (p.0, p.1, (view, p.2, refl));
@@ -25,7 +25,7 @@ returns-in-Err-clause-refused c =
     let view = c.args.self.now.view in let after = c.publish_quietly.new.self.view in let why = c.in-Err.ensures.refused in
     let tells = refused_tells view after c.in-Err.fault why.2 in
     rw c.note_answer-in-Err.ensures (record {
-      goes_on = record { table = search rules; grows = tells.grows };
+      still = record { fits = search rules; grows = tells.grows };
       current = why.0;
       loader = refuses view after c.in-Err.fault c.args.self.now.answers _ why.2 (search rules);
       spent = why.1;

@@ -9,7 +9,7 @@ returns-in-Ok c =
     let tells = pin_tells s.table_seat.me.0 c.pin.new.worker.me s.number c.in-Ok.shelf e c.in-Ok.ensures.pins.1 c.in-Ok.ensures.pins.2 in
     let shows : c.of-image.result.value ≡ arc_value e.image = search rules in
     rw (← c.self.view_is) (record {
-      goes_on = record { table = search rules; number = search rules; grows = tells.grows };
+      still = record { fits = search rules; number = search rules; grows = tells.grows };
       pin = (
         search rules,
         (
@@ -29,7 +29,7 @@ returns-in-Err c =
     let h = c.in-Err.ensures.moves in
     let tells = moves_tell c.self.inside.table_seat.me.0 c.pin.new.worker.me c.self.inside.number c.in-Err.newest h.0 h.1 in
     rw (← c.self.view_is) (record {
-      goes_on = record { table = search rules; number = search rules; grows = tells.0 };
+      still = record { fits = search rules; number = search rules; grows = tells.0 };
       pin = search rules;
       steps = (search rules, h.0, search rules);
       known = search rules;
