@@ -168,9 +168,9 @@ impl<'a> Records<'a> {
         self.count.saturating_sub(1)
     }
 
-    /// Returns where the record that was read last begins. The crate `csv` promises nothing of the byte that it names, so
-    /// no clause does: here it is that byte, behind the byte order mark and the ends of lines that come there. Its line
-    /// is counted, and the number is that of the record.
+    /// Returns where the record that was read last begins. The crate `csv` promises nothing of the byte that it names,
+    /// so no clause does: here it is that byte, behind the byte order mark and the ends of lines that come there. Its
+    /// line is counted, and the number is that of the record.
     pub fn position(&self) -> Position
         ensures number { result.«record» ≡ self.now.count - 1 }
         ensures line { result.line ≡ line_at self.now.lines result.byte }
