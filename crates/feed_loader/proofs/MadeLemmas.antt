@@ -105,7 +105,7 @@ pub names_refused : (feed : Feed) (plan : Plan) (connections : List Connection) 
     → RunsOut feed plan outcome ⊎ IsFeedRefusal feed plan outcome
 names_refused feed plan connections runs_are outcome few listing refused =
     let named : IsNamed feed plan refused.names =
-        record { connections = connections; runs = runs_are; few_stops = few; listing = listing; names_are = refused.names_are } in
+    record { connections = connections; runs = runs_are; few_stops = few; listing = listing; names_are = refused.names_are } in
     elim refused.why [
       | inl memory ↦ inl (inr (inl (record { names = refused.names; named = named; short = memory.1; is = inl memory.0 })))
       | inr long ↦ inr (inr (inr (inl (record { is = long.0; names = refused.names; named = named; long = long.1 }))))
@@ -119,19 +119,19 @@ pub footpaths_refused : (feed : Feed) (plan : Plan) (connections : List Connecti
     → RunsOut feed plan outcome ⊎ IsFeedRefusal feed plan outcome
 footpaths_refused feed plan connections runs_are names fault outcome is few listing names_are short why =
     let named : IsNamed feed plan names =
-        record { connections = connections; runs = runs_are; few_stops = few; listing = listing; names_are = names_are } in
+    record { connections = connections; runs = runs_are; few_stops = few; listing = listing; names_are = names_are } in
     elim why [
       | inl memory ↦ inl (inr (inl (record { names = names; named = named; short = short; is = inr (is ∙ ap faults.Footpaths memory) })))
       | inr large ↦ inr (inr (inr (inr (record {
-          refusal = fault;
-          is = is;
-          names = names;
-          named = named;
-          short = short;
-          listed = large.0;
-          listed_are = large.1;
-          too_large = large.2;
-        }))))
+        refusal = fault;
+        is = is;
+        names = names;
+        named = named;
+        short = short;
+        listed = large.0;
+        listed_are = large.1;
+        too_large = large.2;
+      }))))
     ]
 
 -- the timetable and the names of a feed can be written
