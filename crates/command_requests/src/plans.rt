@@ -10,6 +10,7 @@ ghost use Rattle.command_requests.specs.declared.plans.TheConstants.{MOST_DAYS, 
 ghost use Rattle.command_requests.specs.declared.plans.TheConstants.{MOST_TABLE_WORKERS, MOST_WORKERS};
 
 use gtfs_rows::Day;
+use gtfs_rows::values::date;
 
 /// How many sessions may be served at once.
 pub const MOST_WORKERS: u32 = 16;
@@ -201,10 +202,8 @@ fn date_of(word: &str) -> Option<FirstDay>
     ensures { MatchOption result (day_of word.now ≡ None) (λ first. (day : Day) × (first ≡ FirstDay.On day)
         × (day_of word.now ≡ Some day)) }
 {
-    match Day::parse(word.as_bytes()) {
-        Ok(day) => Some(FirstDay::On(day)),
-        Err(_) => None,
-    }
+    let day = date(word.as_bytes())?;
+    Some(FirstDay::On(day))
 }
 
 /// What is to be made of a feed.

@@ -26,10 +26,10 @@ use Rattle.timetable.specs.declared.limits.TheConstants.{MAX_CONNECTIONS, MAX_TR
 use Rattle.timetable.specs.declared.network.Connection.{Connection}
 use Rattle.connections.specs.Building.{AreByRun, AreSorted, HasDigits, IsEarlier, IsNotAfter, LeavesRange}
 use Rattle.connections.specs.Days.{AreStarted, HaveStarts, days_from}
-use Rattle.connections.specs.Faults.{IsWantOfMemory, run_fault, too_many_of}
+use Rattle.connections.specs.Faults.{no_memory_for_runs, run_fault, too_many_of}
 use Rattle.connections.specs.Hops.{AreInside}
 use Rattle.connections.specs.Listed.{AreFirstInside, AreListed, IsFirstOutside}
-use Rattle.connections.specs.Outcome.{IsFirstRefusal, IsListing, is_lifted_trip}
+use Rattle.connections.specs.Outcome.{IsFirstRefusal, IsListing, RanOut, is_lifted_trip}
 use Rattle.connections.specs.Repeats.{rows_for, starts_of}
 use Rattle.connections.specs.Runs.{IsTripRun, count_hops, repeats_from, run_as_it_stands, runs_at, runs_from, runs_of_days, runs_of_trip, runs_on}
 use Rattle.connections.specs.Times.{AreTimesOf, AreTripTimes}
@@ -44,7 +44,7 @@ use Rattle.connections.proofs.ListSteps.{run_rows_at}
 
 pub fault_of_hops : (feed : Feed) (zone : Zone) (base other : ℤ) (runs : List Run) (n : ℕ) (run : Run) (fault : RunsFault) → other ≡ base
     → slice_get runs n ≡ Some run → AreFirstInside feed zone base runs n
-    → IsWantOfMemory fault ⊎ ((fault ≡ run_fault run) × LeavesRange feed zone other run) → IsWantOfMemory fault
+    → (fault ≡ no_memory_for_runs) ⊎ ((fault ≡ run_fault run) × LeavesRange feed zone other run) → (fault ≡ no_memory_for_runs)
     ⊎ ((run : Run) × (fault ≡ run_fault run) × IsFirstOutside feed zone base runs run)
 fault_of_hops feed zone base other runs n run fault e at earlier (inl memory) = inl memory
 fault_of_hops feed zone base other runs n run fault e at earlier (inr fact) =
@@ -67,11 +67,16 @@ fault_of_hops feed zone base other runs n run fault e at earlier (inr fact) =
 all_start : (zone : Zone) (days : List Day) (started : List ServiceDay) → AreStarted zone days started → HaveStarts zone days
 all_start zone days started s = subst (λ (ds : List Day). HaveStarts zone ds) s.days_are (have_starts zone started s.starts)
 
+-- the days have starts, and memory ran out
+pub ran_out : (zone : Zone) (days : List Day) (started : List ServiceDay) (fault : RunsFault) → AreStarted zone days started
+    → fault ≡ no_memory_for_runs → RanOut zone days fault
+ran_out zone days started fault s memory = inr (memory, all_start zone days started s)
+
 pub runs_refused : (feed : Feed) (zone : Zone) (first : Day) (days : ℕ) (started : List ServiceDay) (fault : RunsFault)
     → AreStarted zone (days_from first days) started
-    → IsWantOfMemory fault ⊎ ((fault ≡ too_many_of tables.Trips) × (MAX_TRIPS < length (runs_of_days feed (map (λ d. d.day) started)))) → IsWantOfMemory fault
-    ⊎ IsFirstRefusal feed zone first days fault
-runs_refused feed zone first days started fault s (inl memory) = inl memory
+    → (fault ≡ no_memory_for_runs) ⊎ ((fault ≡ too_many_of tables.Trips) × (MAX_TRIPS < length (runs_of_days feed (map (λ d. d.day) started))))
+    → RanOut zone (days_from first days) fault ⊎ IsFirstRefusal feed zone first days fault
+runs_refused feed zone first days started fault s (inl memory) = inl (ran_out zone (days_from first days) started fault s memory)
 runs_refused feed zone first days started fault s (inr fact) =
     inr (inr (inl (record {
       is = fact.0;
@@ -99,9 +104,10 @@ pub times_refused : (feed : Feed) (zone : Zone) (first : Day) (days : ℕ) (star
     (fault : RunsFault) → AreStarted zone (days_from first days) started
     → runs ≡ runs_of_days feed (map (λ d. d.day) started) → length runs ≤ MAX_TRIPS → count ≡ min (count_hops feed.trips.items runs) most
     → count ≤ MAX_CONNECTIONS → MAX_CONNECTIONS < most → IsDayStart zone first base
-    → IsWantOfMemory fault ⊎ ((run : Run) × (fault ≡ run_fault run) × IsFirstOutside feed zone base runs run)
-    → IsWantOfMemory fault ⊎ IsFirstRefusal feed zone first days fault
-times_refused feed zone first days started runs count most base fault s runs_are few counted under room is_base (inl memory) = inl memory
+    → (fault ≡ no_memory_for_runs) ⊎ ((run : Run) × (fault ≡ run_fault run) × IsFirstOutside feed zone base runs run)
+    → RanOut zone (days_from first days) fault ⊎ IsFirstRefusal feed zone first days fault
+times_refused feed zone first days started runs count most base fault s runs_are few counted under room is_base (inl memory) =
+    inl (ran_out zone (days_from first days) started fault s memory)
 times_refused feed zone first days started runs count most base fault s runs_are few counted under room is_base (inr fact) =
     let all : runs ≡ runs_of_days feed (days_from first days) = runs_are ∙ ap (runs_of_days feed) s.days_are in
     let below : count_hops feed.trips.items runs ≤ MAX_CONNECTIONS = omega (arith, counted, under, room) in

@@ -22,8 +22,10 @@ day_fault day = faults.Range (ranges.Day day)
 abbrev pub run_fault : Run → RunsFault
 run_fault run = faults.Range (ranges.Run run)
 
--- memory ran out: for the days, or for anything else, which names stop_times.txt as a whole
-abbrev pub IsWantOfMemory : RunsFault → Type 0
-IsWantOfMemory (faults.Table fault) = fault ≡ record { file = tables.StopTimes; row = 0; kind = TableMemory }
-IsWantOfMemory (faults.Day fault) = fault ≡ DayMemory
-IsWantOfMemory (faults.Range range) = ⊥
+-- memory ran out for the days
+abbrev pub no_memory_for_days : RunsFault
+no_memory_for_days = faults.Day DayMemory
+
+-- memory ran out for the runs or their connections: stop_times.txt is named
+abbrev pub no_memory_for_runs : RunsFault
+no_memory_for_runs = faults.Table (record { file = tables.StopTimes; row = 0; kind = TableMemory })

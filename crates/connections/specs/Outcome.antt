@@ -11,7 +11,7 @@ use Rattle.service_days.specs.declared.zone.Zone.{Zone}
 use Rattle.timetable.specs.declared.limits.TheConstants.{MAX_CONNECTIONS, MAX_TRIPS}
 use Rattle.timetable.specs.declared.network.Connection.{Connection}
 use Rattle.connections.specs.Days.{HaveStarts, IsFirstUnstarted, days_from}
-use Rattle.connections.specs.Faults.{day_fault, run_fault, too_many_of}
+use Rattle.connections.specs.Faults.{day_fault, no_memory_for_days, no_memory_for_runs, run_fault, too_many_of}
 use Rattle.connections.specs.Listed.{AreListed, AreRunsInside, IsFirstOutside}
 use Rattle.connections.specs.Runs.{count_hops, runs_of_days}
 use Rattle.connections.specs.Times.{is_lifted}
@@ -43,6 +43,10 @@ pub record IsReport (feed : Feed) (run_count connection_count : ℕ) (report : R
   pub flex : report.flex ≡ count_by (λ trip. trip.flex) feed.trips.items
   pub frequencies : report.frequencies ≡ count_by (λ trip. trip.repeats) feed.trips.items
   pub skipped : report.skipped ≡ feed.skipped
+
+-- memory ran out for the days; or, once each of them has a start, for the runs or their connections
+abbrev pub RanOut : Zone → List Day → RunsFault → Type 0
+RanOut zone days fault = (fault ≡ no_memory_for_days) ⊎ ((fault ≡ no_memory_for_runs) × HaveStarts zone days)
 
 -- a day has no start
 pub record IsDayRefused (zone : Zone) (days : List Day) (fault : RunsFault) : Type 0 where

@@ -2,7 +2,7 @@
 
 ghost use Rattle.std.specs.Prelude.{◌≡◌, ◌≤◌, IfOk, IfErr, ◌⊎◌};
 ghost use Rattle.connections.specs.Days.{AreStarted, days_from};
-ghost use Rattle.connections.specs.Faults.{IsWantOfMemory};
+ghost use Rattle.connections.specs.Faults.{no_memory_for_days};
 ghost use Rattle.connections.specs.Outcome.{IsDayRefused};
 
 use crate::fault::{OutOfRange, RunsFault};
@@ -29,7 +29,8 @@ pub(crate) fn service_days(
     zone: &Zone,
 ) -> Result<Vec<ServiceDay>, RunsFault>
     ensures ok { IfOk result (λ started. AreStarted zone.now (days_from first days) started.items) }
-    ensures err { IfErr result (λ fault. IsWantOfMemory fault ⊎ IsDayRefused zone.now (days_from first days) fault) }
+    ensures err { IfErr result (λ fault. (fault ≡ no_memory_for_days)
+        ⊎ IsDayRefused zone.now (days_from first days) fault) }
 {
     let Ok(mut service_days) = Vec::with_capacity(alloc, days as usize) else {
         return Err(RunsFault::Day(DayFault::OutOfMemory));

@@ -2,7 +2,7 @@
 //! memory that ran out.
 
 ghost use Rattle.std.specs.Prelude.{◌≡◌};
-ghost use Rattle.connections.specs.Faults.{IsWantOfMemory, too_many_of};
+ghost use Rattle.connections.specs.Faults.{no_memory_for_runs, too_many_of};
 
 use crate::runs::Run;
 use gtfs_tables::{Day, FaultKind, Table, TableFault};
@@ -43,9 +43,9 @@ pub(crate) fn too_many(table: Table) -> RunsFault
     })
 }
 
-// Returns the fault that memory ran out.
+// Returns the fault that memory ran out for the runs or their connections.
 pub(crate) fn out_of_memory() -> RunsFault
-    ensures { IsWantOfMemory result }
+    ensures { result ≡ no_memory_for_runs }
 {
     RunsFault::Table(TableFault {
         file: Table::StopTimes,

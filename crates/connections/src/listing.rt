@@ -8,9 +8,10 @@ ghost use Rattle.gtfs_tables.specs.Joined.{rows_of as rows_between};
 ghost use Rattle.service_days.specs.Zones.{IsDayStart};
 ghost use Rattle.service_days.specs.declared.zone.Zone.{Zone as DayZone};
 ghost use Rattle.connections.specs.Building.{AddsRun, AreByRun, AreSorted, HasDigits, LeavesRange, order_of};
-ghost use Rattle.connections.specs.Faults.{IsWantOfMemory, run_fault};
+ghost use Rattle.connections.specs.Faults.{no_memory_for_runs, run_fault};
 ghost use Rattle.connections.specs.Listed.{AreListed, AreRunsInside, IsFirstOutside};
-ghost use Rattle.connections.specs.Outcome.{IsFirstRefusal, IsListing, IsReport};
+ghost use Rattle.connections.specs.Days.{days_from};
+ghost use Rattle.connections.specs.Outcome.{IsFirstRefusal, IsListing, IsReport, RanOut};
 ghost use Rattle.connections.specs.Runs.{IsTripRun, count_hops, runs_of_days};
 ghost use Rattle.connections.specs.Times.{AreTimesOf, AreTripTimes};
 ghost use Rattle.connections.specs.declared.runs.Run.{Run as TripRun};
@@ -109,7 +110,7 @@ fn list_run(
     ensures ok { (zone : DayZone) → IsDayStart zone run.now.day day.start
         → OnOk result (AddsRun feed.now zone day.base run.now number connections.old.items connections.new.items) }
     ensures err { (zone : DayZone) → IsDayStart zone run.now.day day.start
-        → IfErr result (λ fault. IsWantOfMemory fault
+        → IfErr result (λ fault. (fault ≡ no_memory_for_runs)
         ⊎ ((fault ≡ run_fault run.now) × LeavesRange feed.now zone day.base run.now)) }
 {
     let position = run.trip as usize;
@@ -149,7 +150,7 @@ fn connections_by_run(
         → IfOk result (λ connections. AreByRun feed.now zone base runs.now (length runs.now) connections.items) }
     ensures err { (zone : DayZone) (base : ℤ) (d : ServiceDay) → base ≡ (slice_index_or days.now 0 d).start
         → All (λ d. IsDayStart zone d.day d.start) days.now
-        → IfErr result (λ fault. IsWantOfMemory fault
+        → IfErr result (λ fault. (fault ≡ no_memory_for_runs)
         ⊎ ((run : TripRun) × (fault ≡ run_fault run) × IsFirstOutside feed.now zone base runs.now run)) }
 {
     let first = days[0];
@@ -200,7 +201,8 @@ fn put_in_order(connections: &mut Vec<Connection>)
 ///
 /// Refusals come in this order: the first day without a start, too many runs (`TooMany`, `trips.txt`), too many
 /// connections (`TooMany`, `stop_times.txt`), the first run with a time before the base, or at `TIME_END` or later; a
-/// repeat's arrival at its first row isn't judged. Memory may run out before any of them.
+/// repeat's arrival at its first row isn't judged. Memory may run out before any of them: for the days (`Day`), then
+/// for the rest (`OutOfMemory`, `stop_times.txt`).
 pub fn runs_of(
     alloc: Global,
     feed: &Feed,
@@ -212,7 +214,8 @@ pub fn runs_of(
     requires few { days ≤ MAX_DAYS }
     ensures ok { IfOk result (λ made. IsListing feed.now zone.now first_day days made.0.items made.1.items) }
     ensures report { IfOk result (λ made. IsReport feed.now (length made.1.items) (length made.0.items) made.2) }
-    ensures err { IfErr result (λ fault. IsWantOfMemory fault ⊎ IsFirstRefusal feed.now zone.now first_day days fault) }
+    ensures err { IfErr result (λ fault. RanOut zone.now (days_from first_day days) fault
+        ⊎ IsFirstRefusal feed.now zone.now first_day days fault) }
 {
     let days = match service_days(alloc, first_day, days, zone) {
         Ok(days) => days,

@@ -9,7 +9,7 @@ ghost use Rattle.gtfs_tables.specs.declared.tables.Feed.{Feed as JoinedFeed};
 ghost use Rattle.gtfs_tables.specs.declared.tables.Frequency.{Frequency as Row};
 ghost use Rattle.connections.specs.Active.{AreActive, AreNamed, active_among};
 ghost use Rattle.connections.specs.Counting.{IsCount};
-ghost use Rattle.connections.specs.Faults.{IsWantOfMemory, too_many_of};
+ghost use Rattle.connections.specs.Faults.{no_memory_for_runs, too_many_of};
 ghost use Rattle.connections.specs.Keeping.{AreKept, AreStartsOf, HoldStarts, IsKept};
 ghost use Rattle.connections.specs.Repeats.{rows_for, starts_of};
 ghost use Rattle.connections.specs.Runs.{repeats_from, runs_at, runs_from, runs_of_days, runs_of_trip};
@@ -320,7 +320,7 @@ pub(crate) fn runs_on(
     requires { All (λ trip. trip.first ≤ trip.end) feed.now.trips.items }
     ensures ok { IfOk result (λ runs. runs.items ≡ runs_of_days feed.now (map (λ d. d.day) days.now)) }
     ensures few { IfOk result (λ runs. length runs.items ≤ MAX_TRIPS) }
-    ensures err { IfErr result (λ fault. IsWantOfMemory fault
+    ensures err { IfErr result (λ fault. (fault ≡ no_memory_for_runs)
         ⊎ ((fault ≡ too_many_of Table.Trips) × (MAX_TRIPS < length
         (runs_of_days feed.now (map (λ d. d.day) days.now))))) }
 {
@@ -352,7 +352,7 @@ fn runs_by(
     requires active { AreActive feed.now (map (λ d. d.day) days.now) feed.now.trips.items services.now }
     ensures ok { IfOk result (λ runs. runs.items ≡ runs_of_days feed.now (map (λ d. d.day) days.now)) }
     ensures few { IfOk result (λ runs. length runs.items ≤ MAX_TRIPS) }
-    ensures err { IfErr result (λ fault. IsWantOfMemory fault
+    ensures err { IfErr result (λ fault. (fault ≡ no_memory_for_runs)
         ⊎ ((fault ≡ too_many_of Table.Trips) × (MAX_TRIPS < length
         (runs_of_days feed.now (map (λ d. d.day) days.now))))) }
 {

@@ -11,7 +11,7 @@ use Rattle.gtfs_rows.specs.FaultNumber.{file_name}
 use Rattle.gtfs_rows.specs.declared.fault.FaultKind.TheVariants.{MissingFile}
 use Rattle.gtfs_rows.specs.declared.fault.Table.TheVariants.{Stops}
 use Rattle.gtfs_rows.specs.declared.fault.TableFault.{TableFault}
-use Rattle.gtfs_rows.specs.declared.read.TheConstants.{MAX_STOPS}
+use Rattle.gtfs_rows.specs.declared.limited.TheConstants.{MAX_STOPS}
 use Rattle.gtfs_rows.specs.declared.rows.StopRow.{StopRow}
 use Rattle.gtfs_tables.specs.First.{first_fault_of}
 use Rattle.feed_stations.specs.Choosing.{AreLines, IsJson}

@@ -3,8 +3,8 @@
 ghost use Rattle.std.specs.Prelude.{◌≡◌, ◌≢◌, ◌++◌, false, IfErr, IfOk, OnOk, string_bytes};
 ghost use Rattle.command_requests.specs.declared.statuses.TheConstants.{ACCEPTED};
 ghost use Rattle.feed_loader.specs.Refused.{IsWantOfMemory};
-ghost use Rattle.gtfs_rows.specs.declared.fault.FaultKind.{FaultKind};
 ghost use Rattle.gtfs_tables.specs.Feeds.{IsFirstFault};
+ghost use Rattle.gtfs_tables.specs.First.{no_memory};
 ghost use Rattle.command_endings.specs.Ending.{IsOutcome, PrintsOnly};
 ghost use Rattle.feed_commands.specs.Folders.{IsTablesRefusalOf};
 ghost use Rattle.feed_commands.specs.Tabling.{AreCountsOf, AreCountsOfJoined, IsCounts, counts_asked, counts_json};
@@ -78,7 +78,7 @@ fn count_records<H: Disk + AllocGlobal>(rt: &H, folder: &str) -> Result<TableCou
 // Counts the records of tables, if they can be joined; or returns their first fault.
 fn count_joined(alloc: Global, tables: Tables) -> Result<TableCounts, TableFault>
     ensures counts { IfOk result (AreCountsOfJoined tables) }
-    ensures refused { IfErr result (λ fault. fault.kind ≢ FaultKind.OutOfMemory → IsFirstFault false tables fault) }
+    ensures refused { IfErr result (λ fault. fault ≢ no_memory → IsFirstFault false tables fault) }
 {
     let counts = counts_of(&tables);
     let _feed = join(alloc, tables, false)?;

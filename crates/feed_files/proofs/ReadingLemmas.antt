@@ -10,7 +10,7 @@ use Rattle.gtfs_rows.specs.declared.fault.Table.TheVariants as tables
 use Rattle.feed_files.specs.declared.reading.ReadFault.{ReadFault}
 use Rattle.feed_files.specs.declared.reading.ReadFault.TheVariants as faults
 use Rattle.gtfs_rows.specs.Tables.{HoldsAgencies, HoldsCalendar, HoldsCalendarDates, HoldsStopTimes, HoldsStopsWithin, HoldsTripsWithin, IsFaultOf}
-use Rattle.gtfs_rows.specs.declared.read.TheConstants.{MAX_STOPS, MAX_TRIPS}
+use Rattle.gtfs_rows.specs.declared.limited.TheConstants.{MAX_STOPS, MAX_TRIPS}
 use Rattle.gtfs_rows.specs.declared.rows.AgencyRow.{AgencyRow}
 use Rattle.gtfs_rows.specs.declared.rows.CalendarDateRow.{CalendarDateRow}
 use Rattle.gtfs_rows.specs.declared.rows.CalendarRow.{CalendarRow}

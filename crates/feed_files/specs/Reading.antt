@@ -17,7 +17,7 @@ use Rattle.gtfs_rows.specs.declared.rows.CalendarDateRow.{CalendarDateRow}
 use Rattle.gtfs_rows.specs.declared.rows.StopRow.{StopRow}
 use Rattle.gtfs_rows.specs.declared.rows.TripRow.{TripRow}
 use Rattle.gtfs_tables.specs.declared.tables.Tables.{Tables}
-use Rattle.gtfs_rows.specs.declared.read.TheConstants.{MAX_STOPS, MAX_TRIPS}
+use Rattle.gtfs_rows.specs.declared.limited.TheConstants.{MAX_STOPS, MAX_TRIPS}
 
 -- what the file of each table holds, none if there is no such file
 abbrev pub Content : Type 0

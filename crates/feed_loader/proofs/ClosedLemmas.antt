@@ -1,5 +1,6 @@
 -- The listed footpaths of a feed, and their closure.
-use Rattle.std.proofs.Common.{[], length, ◌∷◌, Contains, refl, ◌≡◌, ◌↔◌, ◌<◌, ◌⊎◌, ℕ, List, Result, Ok, Err, IfOk, IfErr, Some, inr, Vec, sym, subst, arith}
+use Rattle.std.proofs.Common.{[], length, ◌∷◌, Contains, refl, ◌≡◌, ◌↔◌, ◌<◌, ◌⊎◌, ℕ, List, Result, Ok, Err, IfOk, IfErr, Some, inr, Vec}
+use Rattle.std.proofs.Common.{inl, sym, subst, arith}
 use Rattle.timetable.specs.Legal.{HasFootpath, AreInOrder}
 use Rattle.timetable.specs.declared.limits.TheConstants.{MAX_FOOTPATHS, MAX_WALK_SECS}
 use Rattle.timetable.specs.declared.network.Footpath.{Footpath}
@@ -8,8 +9,9 @@ use Rattle.transfers.specs.Listed.{ListsMore, listed_secs}
 use Rattle.footpaths.specs.Closure.{HasLoops, HasMorePairs, IsClosure, IsFault}
 use Rattle.footpaths.specs.Walks.{AreJoined}
 use Rattle.footpaths.specs.declared.fault.FootFault.{FootFault}
-use Rattle.footpaths.specs.declared.fault.FootFault.TheVariants.{OutOfMemory, TooManyFootpaths}
+use Rattle.footpaths.specs.declared.fault.FootFault.TheVariants.{OutOfMemory, TooManyFootpaths, WalkTooLong}
 use Rattle.feed_loader.specs.Loaded.{AreFeedPaths, IsFeedClosure}
+use Rattle.feed_loader.specs.Refused.{IsTooLarge}
 
 -- each stop's loop, whatever the number of stops is called
 pub loops_of_stops : (listed paths : List Footpath) (stops count : ℕ) → stops ≡ count → paths ≡ listed
@@ -30,13 +32,15 @@ module _ {Z : Type 0} (feed : Feed) (listed paths : List Footpath) (result : Res
       closed (Err fault) is = is
 
   pub fault_of_feed : IfErr result (IsFault paths MAX_FOOTPATHS MAX_WALK_SECS)
-      → IfErr result (λ fault. (fault ≡ OutOfMemory) ⊎ ((listed : List Footpath) × AreFeedPaths feed listed × IsFault listed MAX_FOOTPATHS MAX_WALK_SECS fault))
+      → IfErr result (λ fault. (fault ≡ OutOfMemory) ⊎ ((listed : List Footpath) × AreFeedPaths feed listed × IsTooLarge listed fault))
   fault_of_feed holds = refused result holds
     where
       refused : (r : Result (Vec Footpath Z) FootFault) → IfErr r (IsFault paths MAX_FOOTPATHS MAX_WALK_SECS)
-          → IfErr r (λ fault. (fault ≡ OutOfMemory) ⊎ ((listed : List Footpath) × AreFeedPaths feed listed × IsFault listed MAX_FOOTPATHS MAX_WALK_SECS fault))
+          → IfErr r (λ fault. (fault ≡ OutOfMemory) ⊎ ((listed : List Footpath) × AreFeedPaths feed listed × IsTooLarge listed fault))
       refused (Ok v) is = is
-      refused (Err fault) is = inr (paths, are_paths, is)
+      refused (Err OutOfMemory) is = inl refl
+      refused (Err TooManyFootpaths) is = inr (paths, are_paths, (λ e. cc e, is))
+      refused (Err WalkTooLong) is = inr (paths, are_paths, (λ e. cc e, is))
 
 -- a walk over one listed footpath
 one_step : (listed : List Footpath) (f : Footpath) → Contains listed f → AreJoined listed f.from f.to
@@ -47,5 +51,5 @@ many_listed listed most order many = (listed, record { in_order = order; joined 
 
 -- where too many footpaths are listed, too many pairs are joined
 pub too_many : (feed : Feed) → ListsMore feed MAX_FOOTPATHS
-    → (TooManyFootpaths ≡ OutOfMemory) ⊎ ((listed : List Footpath) × AreFeedPaths feed listed × IsFault listed MAX_FOOTPATHS MAX_WALK_SECS TooManyFootpaths)
-too_many feed h = inr (h.paths, record { times = h.times; in_order = h.in_order }, many_listed h.paths MAX_FOOTPATHS h.in_order h.more)
+    → (TooManyFootpaths ≡ OutOfMemory) ⊎ ((listed : List Footpath) × AreFeedPaths feed listed × IsTooLarge listed TooManyFootpaths)
+too_many feed h = inr (h.paths, record { times = h.times; in_order = h.in_order }, (λ e. cc e, many_listed h.paths MAX_FOOTPATHS h.in_order h.more))

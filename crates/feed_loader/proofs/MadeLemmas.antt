@@ -7,58 +7,40 @@ use Rattle.timetable.specs.TimetableValue.{TimetableValue}
 use Rattle.timetable.specs.declared.limits.TheConstants.{MAX_FOOTPATHS, MAX_NAME_BYTES, MAX_STOPS, MAX_WALK_SECS}
 use Rattle.timetable.specs.declared.network.Connection.{Connection}
 use Rattle.timetable.specs.declared.network.Footpath.{Footpath}
-use Rattle.image_layout.specs.Image.{IsImage}
 use Rattle.image_layout.specs.Spelling.{text}
 use Rattle.image_writer.specs.Writable.{IsWritable}
-use Rattle.gtfs_rows.specs.declared.fault.Table.TheVariants as tables
-use Rattle.image_verifier.specs.declared.fault.ImageFault.TheVariants as images
-use Rattle.gtfs_rows.specs.declared.fault.TableFault.{TableFault}
 use Rattle.gtfs_tables.specs.declared.tables.Feed.{Feed}
 use Rattle.footpaths.specs.Closure.{HasLegalFootpaths}
-use Rattle.connections.specs.Faults.{IsWantOfMemory as RunsWantMemory}
+use Rattle.footpaths.specs.declared.fault.FootFault.{FootFault}
+use Rattle.footpaths.specs.declared.fault.FootFault.TheVariants as paths
+use Rattle.connections.specs.Days.{days_from}
 use Rattle.connections.specs.Legal.{AreWithinLimits, HasLegalConnections}
-use Rattle.connections.specs.Outcome.{IsFirstRefusal, IsListing, IsReport}
+use Rattle.connections.specs.Outcome.{IsFirstRefusal, IsListing, IsReport, RanOut}
 use Rattle.connections.specs.declared.report.Report.{Report}
 use Rattle.connections.specs.declared.fault.RunsFault.{RunsFault}
-use Rattle.connections.specs.declared.fault.RunsFault.TheVariants as runs
 use Rattle.connections.specs.declared.runs.Run.{Run}
-use Rattle.feed_loader.specs.Faults.{load_fault_of_runs, out_of_memory}
-use Rattle.feed_loader.specs.Loaded.{AreNames, IsFeedClosure, IsMade}
-use Rattle.feed_loader.specs.Refused.{AreNamesRefused, IsFeedRefusal, IsTableMemory, IsWantOfMemory, RanOut}
+use Rattle.feed_loader.specs.Faults.{load_fault_of_runs}
+use Rattle.feed_loader.specs.Loaded.{AreFeedPaths, AreNames, IsFeedClosure, IsMade}
+use Rattle.feed_loader.specs.Refused.{AreNamesRefused, HasNoMemory, IsFeedRefusal, IsNamed, IsTooLarge, IsWantOfMemory, RunsOut}
 use Rattle.feed_loader.specs.declared.fault.LoadFault.{LoadFault}
 use Rattle.feed_loader.specs.declared.fault.LoadFault.TheVariants as faults
 use Rattle.feed_loader.specs.declared.plan.Plan.{Plan}
 
-wants_memory : (fault : RunsFault) → RunsWantMemory fault → IsWantOfMemory (load_fault_of_runs fault)
-wants_memory (runs.Table fault) wants = ap (λ (f : TableFault). f.kind) wants
-wants_memory (runs.Day fault) wants = wants
-wants_memory (runs.Range range) wants = elim wants [ ]
-
-table_wants : (fault : LoadFault) → IsTableMemory fault → IsWantOfMemory fault
-table_wants (faults.Table fault) wants = wants
-table_wants (faults.Day fault) wants = elim wants [ ]
-table_wants (faults.Range range) wants = elim wants [ ]
-table_wants (faults.Footpaths fault) wants = elim wants [ ]
-table_wants (faults.Image fault) wants = elim wants [ ]
-table_wants (faults.FileFailed table) wants = elim wants [ ]
-
--- memory ran out for the runs, or for the names
-pub runs_ran_out : (feed : Feed) (plan : Plan) (fault : RunsFault) → length feed.stops.items ≤ MAX_STOPS
-    → IsWantOfMemory (load_fault_of_runs fault) → RanOut feed plan (load_fault_of_runs fault)
-runs_ran_out feed plan (runs.Table fault) few wants = wants
-runs_ran_out feed plan (runs.Day fault) few wants = (wants, few)
-runs_ran_out feed plan (runs.Range range) few wants = elim wants [ ]
-
-pub names_ran_out : (feed : Feed) (plan : Plan) (runs_are : List Run) (outcome : LoadFault) → length feed.stops.items ≤ MAX_STOPS
-    → AreNamesRefused feed plan runs_are outcome → IsWantOfMemory outcome → RanOut feed plan outcome
-names_ran_out feed plan runs_are (faults.Table fault) few refused wants = wants
-names_ran_out feed plan runs_are (faults.Day fault) few refused wants = (wants, few)
-names_ran_out feed plan runs_are (faults.Footpaths fault) few (inl none) wants = elim none [ ]
-names_ran_out feed plan runs_are (faults.Footpaths fault) few (inr (is, names, named, long)) wants = absurd cc
-names_ran_out feed plan runs_are (faults.Image fault) few (inl none) wants = elim none [ ]
-names_ran_out feed plan runs_are (faults.Image fault) few (inr (is, names, named, long)) wants = absurd cc
-names_ran_out feed plan runs_are (faults.Range range) few refused wants = elim wants [ ]
-names_ran_out feed plan runs_are (faults.FileFailed table) few refused wants = elim wants [ ]
+-- whatever memory ran out for, the fault says that it did
+pub memory_wants : (feed : Feed) (plan : Plan) (fault : LoadFault) → RunsOut feed plan fault → IsWantOfMemory fault
+memory_wants feed plan fault (inl runs_out) = elim runs_out.ran_out [
+  | inl is ↦ subst (λ (x : LoadFault). IsWantOfMemory x) (sym (runs_out.is ∙ ap load_fault_of_runs is)) refl
+  | inr (is, started) ↦ subst (λ (x : LoadFault). IsWantOfMemory x) (sym (runs_out.is ∙ ap load_fault_of_runs is)) refl
+]
+memory_wants feed plan fault (inr (inl names_out)) = elim names_out.is [
+  | inl (inl is) ↦ subst (λ (x : LoadFault). IsWantOfMemory x) (sym is) refl
+  | inl (inr is) ↦ subst (λ (x : LoadFault). IsWantOfMemory x) (sym is) refl
+  | inr is ↦ subst (λ (x : LoadFault). IsWantOfMemory x) (sym is) refl
+]
+memory_wants feed plan fault (inr (inr image_out)) = elim image_out.is [
+  | inl is ↦ subst (λ (x : LoadFault). IsWantOfMemory x) (sym is) refl
+  | inr written ↦ subst (λ (x : LoadFault). IsWantOfMemory x) (sym written.0) refl
+]
 
 -- a timetable is what it has
 same_value : (t : TimetableValue) (stops trips : ℕ) (connections : List Connection) (footpaths : List Footpath)
@@ -96,44 +78,61 @@ pub image_ran_out : (feed : Feed) (plan : Plan) (t : TimetableValue) (names : Na
     → t.stops ≡ length feed.stops.items → t.trips ≡ length runs_are → t.connections ≡ connections → t.footpaths ≡ footpaths
     → IsListing feed plan.zone plan.first_day plan.days connections runs_are → IsFeedClosure feed footpaths
     → AreNames feed plan runs_are names → IsReport feed (length runs_are) (length connections) report
-    → (outcome ≡ out_of_memory tables.Trips) ⊎ ((outcome ≡ faults.Image images.OutOfMemory) × (words : List ℕ) × IsImage words t names)
-    → RanOut feed plan outcome
-image_ran_out feed plan t names connections runs_are footpaths report outcome stops trips ways paths listing closure named counted (inl is) =
-    subst (λ (x : LoadFault). RanOut feed plan x) (sym is) refl
-image_ran_out feed plan t names connections runs_are footpaths report outcome stops trips ways paths listing closure named counted
-    (inr (is, words, written)) =
+    → HasNoMemory t names outcome → RunsOut feed plan outcome ⊎ IsFeedRefusal feed plan outcome
+image_ran_out feed plan t names connections runs_are footpaths report outcome stops trips ways paths listing closure named counted why =
     let made = is_made feed plan connections runs_are footpaths names report listing closure named counted in
-    subst (λ (x : LoadFault). RanOut feed plan x) (sym is) (
-      refl,
-      words,
-      t,
-      names,
-      record report { footpaths = length footpaths },
-      written,
-      subst (λ (x : TimetableValue). IsMade feed plan x names (record report { footpaths = length footpaths }))
-          (sym (same_value t _ _ _ _ stops trips ways paths)) made,
-    )
+    inl (inr (inr (record {
+      t = t;
+      names = names;
+      report = record report { footpaths = length footpaths };
+      made = subst (λ (x : TimetableValue). IsMade feed plan x names (record report { footpaths = length footpaths }))
+          (sym (same_value t _ _ _ _ stops trips ways paths)) made;
+      is = why;
+    })))
 
 -- the runs are refused
-pub runs_refused : (feed : Feed) (plan : Plan) (fault : RunsFault) (outcome : LoadFault) → outcome ≡ load_fault_of_runs fault → length feed.stops.items
-    ≤ MAX_STOPS
-    → RunsWantMemory fault ⊎ IsFirstRefusal feed plan.zone plan.first_day plan.days fault → IsWantOfMemory outcome ⊎ IsFeedRefusal feed plan outcome
-runs_refused feed plan fault outcome is few (inl wants) = inl (subst (λ (x : LoadFault). IsWantOfMemory x) (sym is) (wants_memory fault wants))
+pub runs_refused : (feed : Feed) (plan : Plan) (fault : RunsFault) (outcome : LoadFault) → outcome ≡ load_fault_of_runs fault
+    → length feed.stops.items ≤ MAX_STOPS
+    → RanOut plan.zone (days_from plan.first_day plan.days) fault ⊎ IsFirstRefusal feed plan.zone plan.first_day plan.days fault
+    → RunsOut feed plan outcome ⊎ IsFeedRefusal feed plan outcome
+runs_refused feed plan fault outcome is few (inl ran) = inl (inl (record { refusal = fault; is = is; few_stops = few; ran_out = ran }))
 runs_refused feed plan fault outcome is few (inr first) = inr (inr (inl (record { refusal = fault; is = is; few_stops = few; first = first })))
 
 -- the names are refused
 pub names_refused : (feed : Feed) (plan : Plan) (connections : List Connection) (runs_are : List Run) (outcome : LoadFault)
     → length feed.stops.items ≤ MAX_STOPS
     → IsListing feed plan.zone plan.first_day plan.days connections runs_are → AreNamesRefused feed plan runs_are outcome
-    → IsWantOfMemory outcome ⊎ IsFeedRefusal feed plan outcome
-names_refused feed plan connections runs_are outcome few listing (inl wants) = inl (table_wants outcome wants)
-names_refused feed plan connections runs_are outcome few listing (inr (is, names, named, long)) =
-    inr (inr (inr (inl (record {
-      is = is;
-      names = names;
-      named = record { connections = connections; runs = runs_are; few_stops = few; listing = listing; names_are = named };
-      long = long;
-    }))))
+    → RunsOut feed plan outcome ⊎ IsFeedRefusal feed plan outcome
+names_refused feed plan connections runs_are outcome few listing refused =
+    let named : IsNamed feed plan refused.names =
+    record { connections = connections; runs = runs_are; few_stops = few; listing = listing; names_are = refused.names_are } in
+    elim refused.why [
+      | inl memory ↦ inl (inr (inl (record { names = refused.names; named = named; short = memory.1; is = inl memory.0 })))
+      | inr long ↦ inr (inr (inr (inl (record { is = long.0; names = refused.names; named = named; long = long.1 }))))
+    ]
+
+-- the closure of the footpaths is refused
+pub footpaths_refused : (feed : Feed) (plan : Plan) (connections : List Connection) (runs_are : List Run) (names : NamesValue) (fault : FootFault)
+    (outcome : LoadFault) → outcome ≡ faults.Footpaths fault → length feed.stops.items ≤ MAX_STOPS
+    → IsListing feed plan.zone plan.first_day plan.days connections runs_are → AreNames feed plan runs_are names → length (text names) ≤ MAX_NAME_BYTES
+    → (fault ≡ paths.OutOfMemory) ⊎ ((listed : List Footpath) × AreFeedPaths feed listed × IsTooLarge listed fault)
+    → RunsOut feed plan outcome ⊎ IsFeedRefusal feed plan outcome
+footpaths_refused feed plan connections runs_are names fault outcome is few listing names_are short why =
+    let named : IsNamed feed plan names =
+    record { connections = connections; runs = runs_are; few_stops = few; listing = listing; names_are = names_are } in
+    elim why [
+      | inl memory ↦ inl (inr (inl (record { names = names; named = named; short = short; is = inr (is ∙ ap faults.Footpaths memory) })))
+      | inr large ↦ inr (inr (inr (inr (record {
+        refusal = fault;
+        is = is;
+        names = names;
+        named = named;
+        short = short;
+        listed = large.0;
+        listed_are = large.1;
+        too_large = large.2;
+      }))))
+    ]
 
 -- the timetable and the names of a feed can be written
 pub is_writable : (feed : Feed) (plan : Plan) (t : TimetableValue) (names : NamesValue) (connections : List Connection)

@@ -1,5 +1,5 @@
 -- The length of the names of a feed's stops and runs.
-use Rattle.std.proofs.Common.{◌≡◌, ℕ, ℤ, subst, ◌+◌, ◌<◌, List, [], ◌∷◌, ◌++◌, length, map, refl, sym, ap, ◌∙◌, length-append, arith}
+use Rattle.std.proofs.Common.{◌≡◌, ℕ, ℤ, subst, ◌+◌, List, [], ◌∷◌, ◌++◌, length, map, refl, sym, ap, ◌∙◌, length-append, arith}
 use Rattle.std.specs.List.{concat}
 use Rattle.std.specs.String.{string_bytes}
 use Rattle.std.proofs.lemmas.List.Sums.{sum_by-cons}
@@ -51,11 +51,10 @@ pub are_names : (feed : Feed) (plan : Plan) (runs : List Run) (names : NamesValu
 are_names feed plan runs names base starts same stops trips =
     record { base = subst (λ (b : ℤ). IsDayStart plan.zone plan.first_day b) (sym same) starts; stops = stops; trips = trips }
 
--- names that are longer than so many bytes
-pub long_names : (feed : Feed) (plan : Plan) (runs : List Run) (base : ℤ) (most : ℕ)
-    → IsDayStart plan.zone plan.first_day base → most < stop_bytes feed.stops.items + run_bytes feed.trips.items runs
-    → (names : NamesValue) × AreNames feed plan runs names × (most < length (text names))
-long_names feed plan runs base most starts long =
+-- the names of stops and runs, and how long they are
+pub names_made : (feed : Feed) (plan : Plan) (runs : List Run) (base : ℤ) → IsDayStart plan.zone plan.first_day base
+    → (names : NamesValue) × AreNames feed plan runs names × (length (text names) ≡ stop_bytes feed.stops.items + run_bytes feed.trips.items runs)
+names_made feed plan runs base starts =
     let names : NamesValue = record {
       base = base;
       stops =
@@ -63,5 +62,4 @@ long_names feed plan runs base most starts long =
       trips =
           map (run_name feed.trips.items) runs;
     } in
-    let bytes = length_of_text feed runs names refl refl in
-    (names, are_names feed plan runs names base starts refl refl refl, omega (arith, bytes, long))
+    (names, are_names feed plan runs names base starts refl refl refl, length_of_text feed runs names refl refl)

@@ -1,5 +1,5 @@
 -- Why no image is made of a feed.
-use Rattle.std.specs.Prelude.{◌≡◌, ◌<◌, ◌≤◌, ◌⊎◌, ℕ, List, length, Bool}
+use Rattle.std.specs.Prelude.{◌≡◌, ◌≢◌, ◌<◌, ◌≤◌, ◌⊎◌, ℕ, List, length, Bool}
 use Rattle.timetable.specs.NamesValue.{NamesValue}
 use Rattle.timetable.specs.TimetableValue.{TimetableValue}
 use Rattle.timetable.specs.declared.limits.TheConstants.{MAX_FOOTPATHS, MAX_NAME_BYTES, MAX_STOPS, MAX_WALK_SECS}
@@ -10,7 +10,9 @@ use Rattle.image_layout.specs.Spelling.{text}
 use Rattle.image_verifier.specs.declared.fault.ImageFault.TheVariants as images
 use Rattle.gtfs_rows.specs.declared.fault.FaultKind.TheVariants as kinds
 use Rattle.gtfs_rows.specs.declared.fault.Table.TheVariants as tables
+use Rattle.gtfs_rows.specs.declared.fault.TableFault.{TableFault}
 use Rattle.gtfs_tables.specs.Feeds.{IsJoined, IsFirstFault}
+use Rattle.gtfs_tables.specs.First.{no_memory}
 use Rattle.gtfs_tables.specs.declared.tables.Feed.{Feed}
 use Rattle.gtfs_tables.specs.declared.tables.Tables.{Tables}
 use Rattle.feed_files.specs.Reading.{Content, HoldsTables, NoTables}
@@ -19,11 +21,12 @@ use Rattle.footpaths.specs.Closure.{IsFault}
 use Rattle.footpaths.specs.declared.fault.FootFault.{FootFault}
 use Rattle.footpaths.specs.declared.fault.FootFault.TheVariants as paths
 use Rattle.service_days.specs.declared.fault.DayFault.TheVariants as days
-use Rattle.connections.specs.Outcome.{IsFirstRefusal, IsListing}
+use Rattle.connections.specs.Days.{days_from}
+use Rattle.connections.specs.Outcome.{IsFirstRefusal, IsListing, RanOut}
 use Rattle.connections.specs.declared.fault.RunsFault.{RunsFault}
 use Rattle.connections.specs.declared.report.Report.{Report}
 use Rattle.connections.specs.declared.runs.Run.{Run}
-use Rattle.feed_loader.specs.Faults.{load_fault_of_read, load_fault_of_runs, too_many}
+use Rattle.feed_loader.specs.Faults.{load_fault_of_read, load_fault_of_runs, out_of_memory, too_many}
 use Rattle.feed_loader.specs.Loaded.{AreFeedPaths, AreNames, IsMade}
 use Rattle.feed_loader.specs.declared.fault.LoadFault.{LoadFault}
 use Rattle.feed_loader.specs.declared.fault.LoadFault.TheVariants as faults
@@ -37,15 +40,6 @@ IsWantOfMemory (faults.Range range) = ⊥
 IsWantOfMemory (faults.Footpaths fault) = fault ≡ paths.OutOfMemory
 IsWantOfMemory (faults.Image fault) = fault ≡ images.OutOfMemory
 IsWantOfMemory (faults.FileFailed table) = ⊥
-
--- memory ran out, with the number 17
-abbrev pub IsTableMemory : LoadFault → Type 0
-IsTableMemory (faults.Table fault) = fault.kind ≡ kinds.OutOfMemory
-IsTableMemory (faults.Day fault) = ⊥
-IsTableMemory (faults.Range range) = ⊥
-IsTableMemory (faults.Footpaths fault) = ⊥
-IsTableMemory (faults.Image fault) = ⊥
-IsTableMemory (faults.FileFailed table) = ⊥
 
 -- there are too many stops
 pub record AreTooManyStops (feed : Feed) (fault : LoadFault) : Type 0 where
@@ -74,6 +68,15 @@ pub record AreNamesTooLong (feed : Feed) (plan : Plan) (fault : LoadFault) : Typ
   pub named : IsNamed feed plan names
   pub long : MAX_NAME_BYTES < length (text names)
 
+-- the fault is that of the closure of these footpaths
+abbrev pub IsTooLarge : List Footpath → FootFault → Type 0
+IsTooLarge listed fault = (fault ≢ paths.OutOfMemory) × IsFault listed MAX_FOOTPATHS MAX_WALK_SECS fault
+
+-- there is no memory for the words of an image, or, once they are written, for their verification
+abbrev pub HasNoMemory : TimetableValue → NamesValue → LoadFault → Type 0
+HasNoMemory t names fault =
+    (fault ≡ out_of_memory tables.Trips) ⊎ ((fault ≡ faults.Image images.OutOfMemory) × (words : List ℕ) × IsImage words t names)
+
 -- the closure has too many footpaths, or one that takes too long
 pub record AreFootpathsRefused (feed : Feed) (plan : Plan) (fault : LoadFault) : Type 0 where
   pub refusal : FootFault
@@ -83,26 +86,45 @@ pub record AreFootpathsRefused (feed : Feed) (plan : Plan) (fault : LoadFault) :
   pub short : length (text names) ≤ MAX_NAME_BYTES
   pub listed : List Footpath
   pub listed_are : AreFeedPaths feed listed
-  pub too_large : IsFault listed MAX_FOOTPATHS MAX_WALK_SECS refusal
+  pub too_large : IsTooLarge listed refusal
 
--- memory ran out while an image was made of a joined feed: 23 comes only once the stops are counted, 43 only if the feed has names that fit, 76 only if
--- it has an image
-abbrev pub RanOut : Feed → Plan → LoadFault → Type 0
-RanOut feed plan (faults.Table fault) = fault.kind ≡ kinds.OutOfMemory
-RanOut feed plan (faults.Day fault) = (fault ≡ days.OutOfMemory) × (length feed.stops.items ≤ MAX_STOPS)
-RanOut feed plan (faults.Range range) = ⊥
-RanOut feed plan (faults.Footpaths fault) =
-    (fault ≡ paths.OutOfMemory) × (names : NamesValue) × IsNamed feed plan names × (length (text names) ≤ MAX_NAME_BYTES)
-RanOut feed plan (faults.Image fault) =
-    (fault ≡ images.OutOfMemory) × (words : List ℕ) × (t : TimetableValue) × (names : NamesValue) × (report : Report)
-    × IsImage words t names × IsMade feed plan t names report
-RanOut feed plan (faults.FileFailed table) = ⊥
+-- ---- what memory ran out for while an image was made of a joined feed: each part comes once those before it have their results
 
--- why there are no names: memory ran out, or the names are too long together
-abbrev pub AreNamesRefused : Feed → Plan → List Run → LoadFault → Type 0
-AreNamesRefused feed plan runs fault =
-    IsTableMemory fault
-    ⊎ ((fault ≡ too_many tables.Trips) × (names : NamesValue) × AreNames feed plan runs names × (MAX_NAME_BYTES < length (text names)))
+-- for the days (23), or the runs and their connections (17 of stop_times.txt)
+pub record RanOutForRuns (feed : Feed) (plan : Plan) (fault : LoadFault) : Type 0 where
+  pub refusal : RunsFault
+  pub is : fault ≡ load_fault_of_runs refusal
+  pub few_stops : length feed.stops.items ≤ MAX_STOPS
+  pub ran_out : RanOut plan.zone (days_from plan.first_day plan.days) refusal
+
+-- for the names of the stops or of the runs (17 of stops.txt or trips.txt)
+abbrev pub IsNamesMemory : LoadFault → Type 0
+IsNamesMemory fault = (fault ≡ out_of_memory tables.Stops) ⊎ (fault ≡ out_of_memory tables.Trips)
+
+-- for names that aren't too long, or, once they are made, for the footpaths (43)
+pub record RanOutForNames (feed : Feed) (plan : Plan) (fault : LoadFault) : Type 0 where
+  pub names : NamesValue
+  pub named : IsNamed feed plan names
+  pub short : length (text names) ≤ MAX_NAME_BYTES
+  pub is : IsNamesMemory fault ⊎ (fault ≡ faults.Footpaths paths.OutOfMemory)
+
+-- for the image of a timetable that was made: its words (17 of trips.txt), or, once they are written, their verification (76)
+pub record RanOutForImage (feed : Feed) (plan : Plan) (fault : LoadFault) : Type 0 where
+  pub t : TimetableValue
+  pub names : NamesValue
+  pub report : Report
+  pub made : IsMade feed plan t names report
+  pub is : HasNoMemory t names fault
+
+-- memory ran out for one of these parts
+abbrev pub RunsOut : Feed → Plan → LoadFault → Type 0
+RunsOut feed plan fault = RanOutForRuns feed plan fault ⊎ (RanOutForNames feed plan fault ⊎ RanOutForImage feed plan fault)
+
+-- why there are no names: memory ran out for them, or they are too long together
+pub record AreNamesRefused (feed : Feed) (plan : Plan) (runs : List Run) (fault : LoadFault) : Type 0 where
+  pub names : NamesValue
+  pub names_are : AreNames feed plan runs names
+  pub why : (IsNamesMemory fault × (length (text names) ≤ MAX_NAME_BYTES)) ⊎ ((fault ≡ too_many tables.Trips) × (MAX_NAME_BYTES < length (text names)))
 
 -- the first thing that is wrong with a joined feed: its number of stops, then its runs, then their names, then the footpaths
 abbrev pub IsFeedRefusal : Feed → Plan → LoadFault → Type 0
@@ -119,7 +141,7 @@ pub record AreFilesRefused (content : Content) (fault : LoadFault) : Type 0 wher
 pub record AreTablesRefused (content : Content) (strict : Bool) (fault : LoadFault) : Type 0 where
   pub t : Tables
   pub held : HoldsTables content t
-  pub refusal : _
+  pub refusal : TableFault
   pub is : fault ≡ faults.Table refusal
   pub first : IsFirstFault strict t refusal
 
@@ -145,10 +167,21 @@ pub record IsLoaded (content : Content) (plan : Plan) (t : TimetableValue) (name
   pub read : IsRead content plan.strict feed
   pub made : IsMade feed plan t names report
 
--- memory ran out during a load: when a file was read, and nothing is wrong with the files before it; when the tables were joined; or when an image was made
--- of the joined feed
-abbrev pub LacksMemory : Content → Plan → LoadFault → Type 0
-LacksMemory content plan fault =
-    AreFilesRefused content fault
-    ⊎ (((t : Tables) × HoldsTables content t × IsTableMemory fault)
-    ⊎ ((feed : Feed) × IsRead content plan.strict feed × RanOut feed plan fault))
+-- the tables of the files aren't joined: memory ran out (17 of stop_times.txt), or the fault is their first
+pub record AreNotJoined (content : Content) (strict : Bool) (fault : LoadFault) : Type 0 where
+  pub t : Tables
+  pub held : HoldsTables content t
+  pub refusal : TableFault
+  pub is : fault ≡ faults.Table refusal
+  pub first : refusal ≢ no_memory → IsFirstFault strict t refusal
+
+-- no image is made of the feed that is joined from the files: memory ran out, or the fault is the feed's first
+pub record IsNotMade (content : Content) (plan : Plan) (fault : LoadFault) : Type 0 where
+  pub feed : Feed
+  pub read : IsRead content plan.strict feed
+  pub why : RunsOut feed plan fault ⊎ IsFeedRefusal feed plan fault
+
+-- why a load ends without an image: when a file was read, and nothing is wrong with the files before it (17 of that file if memory ran out); when their
+-- tables were joined; or when the image was made
+abbrev pub IsLoadEnd : Content → Plan → LoadFault → Type 0
+IsLoadEnd content plan fault = AreFilesRefused content fault ⊎ (AreNotJoined content plan.strict fault ⊎ IsNotMade content plan fault)

@@ -2,8 +2,9 @@
 
 ghost use Rattle.std.specs.Prelude.{◌≡◌, ◌≤◌, ◌⊎◌, length, All, IfOk, IfErr};
 ghost use Rattle.timetable.specs.declared.limits.TheConstants.{MAX_FOOTPATHS, MAX_WALK_SECS};
-ghost use Rattle.footpaths.specs.Closure.{HasLegalFootpaths, IsFault};
+ghost use Rattle.footpaths.specs.Closure.{HasLegalFootpaths};
 ghost use Rattle.feed_loader.specs.Loaded.{AreFeedPaths, IsFeedClosure};
+ghost use Rattle.feed_loader.specs.Refused.{IsTooLarge};
 
 use footpaths::{FootFault, close};
 use gtfs_tables::Feed;
@@ -22,7 +23,7 @@ pub fn closed_footpaths(alloc: Global, feed: &Feed, stops: u32) -> Result<Vec<Fo
     ensures few { IfOk result (λ v. length v.items ≤ MAX_FOOTPATHS) }
     ensures short { IfOk result (λ v. All (λ f. f.secs ≤ MAX_WALK_SECS) v.items) }
     ensures fault { IfErr result (λ fault. (fault ≡ FootFault.OutOfMemory)
-        ⊎ ((paths : _) × AreFeedPaths feed.now paths × IsFault paths MAX_FOOTPATHS MAX_WALK_SECS fault)) }
+        ⊎ ((paths : _) × AreFeedPaths feed.now paths × IsTooLarge paths fault)) }
 {
     match listed_within(alloc, feed, MAX_FOOTPATHS as usize) {
         Ok(listed) => close(alloc, stops, &listed),

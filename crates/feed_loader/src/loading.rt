@@ -6,7 +6,7 @@ ghost use Rattle.feed_files.specs.Reading.{Content};
 ghost use Rattle.feed_files.specs.Reads.{AllWereRead, Shows, SomeWereRead};
 ghost use Rattle.connections.specs.declared.days.TheConstants.{MAX_DAYS};
 ghost use Rattle.feed_loader.specs.Faults.{failed_by};
-ghost use Rattle.feed_loader.specs.Refused.{IsLoadRefusal, IsLoaded, IsWantOfMemory, LacksMemory};
+ghost use Rattle.feed_loader.specs.Refused.{IsLoadEnd, IsLoadRefusal, IsLoaded, IsWantOfMemory};
 
 use crate::fault::LoadFault;
 use crate::made::image_of;
@@ -41,8 +41,8 @@ pub fn load<F: FeedFiles>(
         → IfOk result (λ loaded. IsLoaded content plan.now loaded.0.timetable loaded.0.names loaded.1) }
     ensures err { (content : Content) → Shows F.words files.old files.new content
         → IfErr result (λ fault. ¬ (IsWantOfMemory fault) → IsLoadRefusal content plan.now fault) }
-    ensures memory { (content : Content) → Shows F.words files.old files.new content
-        → IfErr result (λ fault. IsWantOfMemory fault → LacksMemory content plan.now fault) }
+    ensures end { (content : Content) → Shows F.words files.old files.new content
+        → IfErr result (IsLoadEnd content plan.now) }
 {
     let tables = read_tables(alloc, files)?;
     let feed = join(alloc, tables, plan.strict)?;

@@ -7,7 +7,7 @@ ghost use Rattle.image_layout.specs.Spelling.{text};
 ghost use Rattle.service_days.specs.Zones.{IsDayStart};
 ghost use Rattle.connections.specs.declared.days.TheConstants.{MAX_DAYS};
 ghost use Rattle.feed_loader.specs.Loaded.{AreNames, IsMade};
-ghost use Rattle.feed_loader.specs.Refused.{AreNamesRefused, IsFeedRefusal, IsWantOfMemory, RanOut};
+ghost use Rattle.feed_loader.specs.Refused.{AreNamesRefused, IsFeedRefusal, RunsOut};
 
 use crate::closed::closed_footpaths;
 use crate::fault::{LoadFault, out_of_memory, too_many};
@@ -57,14 +57,15 @@ fn short_names(alloc: Global, feed: &Feed, plan: &Plan, runs: &[Run]) -> Result<
 ///
 /// The first thing that is wrong: too many stops (`TooMany` of `stops.txt`), then what `runs_of` refuses, then names
 /// that are too long together (`TooMany` of `trips.txt`), then a closure with too many footpaths or one that takes too
-/// long. Memory may run out at any time.
+/// long. Memory may run out at any time: for the days (23), the runs and their connections (17 of `stop_times.txt`),
+/// the names (17 of `stops.txt` or `trips.txt`), the footpaths (43), the words of the image (17 of `trips.txt`) and
+/// their verification (76), in this order.
 pub fn image_of(alloc: Global, feed: &Feed, plan: &Plan) -> Result<(Verified, Report), LoadFault>
     requires some { 1 ≤ plan.now.days }
     requires few { plan.now.days ≤ MAX_DAYS }
     ensures layout { IfOk result (λ made. made.0.layout ≡ LAYOUT) }
     ensures ok { IfOk result (λ made. IsMade feed.now plan.now made.0.timetable made.0.names made.1) }
-    ensures err { IfErr result (λ fault. IsWantOfMemory fault ⊎ IsFeedRefusal feed.now plan.now fault) }
-    ensures memory { IfErr result (λ fault. IsWantOfMemory fault → RanOut feed.now plan.now fault) }
+    ensures err { IfErr result (λ fault. RunsOut feed.now plan.now fault ⊎ IsFeedRefusal feed.now plan.now fault) }
 {
     listing_is_legal();
     listing_is_within_limits();

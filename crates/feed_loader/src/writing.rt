@@ -1,6 +1,6 @@
 //! Writes a timetable and its names as an image, and verifies the image.
 
-ghost use Rattle.std.specs.Prelude.{◌≡◌, ◌⊎◌, ℕ, IfOk, IfErr, List};
+ghost use Rattle.std.specs.Prelude.{◌≡◌, IfOk, IfErr};
 ghost use Rattle.timetable.specs.NamesValue.{NamesValue};
 ghost use Rattle.timetable.specs.TimetableValue.{TimetableValue};
 ghost use Rattle.image_layout.specs.Fields.{layout_of};
@@ -10,6 +10,7 @@ ghost use Rattle.image_verifier.specs.declared.fault.ImageFault.TheVariants as i
 ghost use Rattle.image_writer.specs.Writable.{IsWritable};
 ghost use Rattle.gtfs_rows.specs.declared.fault.Table.TheVariants as tables;
 ghost use Rattle.feed_loader.specs.Faults.{out_of_memory as out_of_memory_of};
+ghost use Rattle.feed_loader.specs.Refused.{HasNoMemory};
 ghost use Rattle.feed_loader.specs.declared.fault.LoadFault.TheVariants as faults;
 
 use crate::fault::{LoadFault, out_of_memory};
@@ -53,8 +54,7 @@ pub fn written(alloc: Global, timetable: &Timetable, names: &Names) -> Result<Ve
     ensures layout { IfOk result (λ image. image.layout ≡ LAYOUT) }
     ensures timetable { IfOk result (λ image. image.timetable ≡ timetable.now) }
     ensures names { IfOk result (λ image. image.names ≡ names.now) }
-    ensures err { IfErr result (λ fault. (fault ≡ out_of_memory_of tables.Trips)
-        ⊎ ((fault ≡ faults.Image images.OutOfMemory) × (words : List ℕ) × IsImage words timetable.now names.now)) }
+    ensures err { IfErr result (HasNoMemory timetable.now names.now) }
 {
     one_timetable();
     match words_of(alloc, timetable, names) {

@@ -1,7 +1,7 @@
 //! Which columns of a record can be at fault, by the kind of fault, and what a message says about their values.
 
-use gtfs_rows::values::number;
-use gtfs_rows::{Day, FaultKind, Key, Records, Table, TableFault, Time};
+use gtfs_rows::values::{date, number, time};
+use gtfs_rows::{FaultKind, Key, Records, Table, TableFault};
 
 /// What the text of a field must be.
 #[derive(Clone, Copy, PartialEq, Eq)]
@@ -23,9 +23,9 @@ impl FieldForm {
     /// Whether a text isn't as it must be, as far as the text alone can tell.
     pub fn is_missed_by(self, text: &[u8]) -> bool {
         match self {
-            FieldForm::Time => Time::parse(text).is_err(),
-            FieldForm::TimeOrBlank => !text.is_empty() && Time::parse(text).is_err(),
-            FieldForm::Date => Day::parse(text).is_err(),
+            FieldForm::Time => time(text).is_none(),
+            FieldForm::TimeOrBlank => !text.is_empty() && time(text).is_none(),
+            FieldForm::Date => date(text).is_none(),
             FieldForm::Number(least, most) => {
                 !number(text).is_some_and(|number| least <= number && number <= most)
             }

@@ -10,7 +10,7 @@ ghost use Rattle.gtfs_rows.specs.declared.fault.FaultKind.{FaultKind as Kind};
 ghost use Rattle.gtfs_rows.specs.declared.fault.Table.TheVariants as files;
 ghost use Rattle.gtfs_rows.specs.declared.values.Day.{Day as Date};
 ghost use Rattle.gtfs_rows.specs.declared.stop_times.StopTimes.{StopTimes};
-ghost use Rattle.gtfs_rows.specs.declared.read.TheConstants.{MAX_STOPS, MAX_TRIPS};
+ghost use Rattle.gtfs_rows.specs.declared.limited.TheConstants.{MAX_STOPS, MAX_TRIPS};
 
 use crate::keyed::Row;
 

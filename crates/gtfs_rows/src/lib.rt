@@ -12,7 +12,6 @@ mod keyed;
 pub mod laws;
 mod limited;
 mod position;
-mod read;
 mod reader;
 mod records;
 mod rows;
@@ -24,13 +23,13 @@ pub use columns::Key;
 pub use fault::{FaultKind, Table, TableFault};
 pub use id_hash::IdHash;
 pub use keyed::Row;
-pub use limited::{LimitedRow, RowsWithinLimit, location, rows_up_to};
+pub use limited::{LimitedRow, MAX_STOPS, MAX_TRIPS, RowsWithinLimit, location, rows_up_to};
 pub use position::Position;
-pub use read::{MAX_STOPS, MAX_TRIPS, TableFile};
+pub use reader::TableFile;
 pub use records::{FoundRecord, Records, find_record};
 pub use rows::{
     AgencyRow, CalendarDateRow, CalendarRow, Exception, FrequencyRow, Location, StopRow,
     StopTimeRow, TransferKind, TransferRow, TripRow, transfer_kind,
 };
 pub use stop_times::StopTimes;
-pub use values::{DateFault, Day, Time, TimeFault};
+pub use values::Day;

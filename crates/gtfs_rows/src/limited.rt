@@ -3,15 +3,21 @@
 ghost use Rattle.std.specs.Prelude.{◌≡◌, ◌≢◌, ℕ, List, IfOk, IfErr, count_by, length, ⊤};
 ghost use Rattle.gtfs_rows.specs.Tables.{HoldsRows, HoldsWithin, IsFaultWithin, is_stop, location_of};
 ghost use Rattle.gtfs_rows.specs.Values.{number_of};
-ghost use Rattle.gtfs_rows.specs.declared.read.TheConstants.{MAX_STOPS, MAX_TRIPS};
+ghost use Rattle.gtfs_rows.specs.declared.limited.TheConstants.{MAX_STOPS, MAX_TRIPS};
 
 use crate::fault::{FaultKind, Table, TableFault};
 use crate::id_hash::IdHash;
 use crate::keyed::Row;
-use crate::read::{MAX_STOPS, MAX_TRIPS, TableFile};
+use crate::reader::TableFile;
 use crate::rows::{Location, StopRow, TripRow};
 use crate::values::number;
 use std::alloc::Global;
+
+/// The greatest number of stops of a feed.
+pub const MAX_STOPS: usize = 1_000_000;
+
+/// The greatest number of trips of a feed.
+pub const MAX_TRIPS: usize = 20_000_000;
 
 /// A row of a table with a limit on the number of its rows.
 pub trait LimitedRow: Row {

@@ -1,17 +1,41 @@
-//! Reads any table: its header, then record by record until the first fault.
+//! Reads any file: its header, then record by record until the first fault.
 
-ghost use Rattle.std.specs.Prelude.{◌≡◌, ◌≢◌, ◌+◌, ◌++◌, ◌∷◌, [], List, Some, None, IfOk, IfErr, OnOk};
+ghost use Rattle.std.specs.Prelude.{◌≡◌, ◌≢◌, ◌+◌, ◌++◌, ◌∷◌, [], ℕ, List, Some, None, IfOk, IfErr, OnOk};
 ghost use Rattle.csv.specs.Records.{AllText};
 ghost use Rattle.gtfs_rows.specs.Faults.{first_fault};
 ghost use Rattle.gtfs_rows.specs.Source.{AllRecordsText, IsReading, Record, last_of, left_of};
 ghost use Rattle.gtfs_rows.specs.Cells.{ColumnIndices};
 ghost use Rattle.gtfs_rows.specs.Tables.{HoldsFile, IsRefusal, judge_by, judge_of};
+ghost use Rattle.gtfs_rows.specs.declared.fault.FaultKind.{FaultKind as Kind};
 ghost use Rattle.gtfs_rows.specs.declared.fault.Table.{Table as File};
 ghost use Rattle.gtfs_rows.specs.declared.id_hash.IdHash.{IdHash as Hash};
 
 use crate::fault::{FaultKind, Table, TableFault};
+use crate::id_hash::IdHash;
 use crate::records::Records;
 use std::alloc::Global;
+
+/// The rows of one of the files.
+pub trait TableFile: Sized + Drop {
+    ghost TABLE: { File };
+    // The rows are those of the bytes.
+    ghost holds: { List ℕ → Self → Type 0 };
+    // The bytes have this fault at the record of this number.
+    ghost tells: { List ℕ → ℕ → Kind → Type 0 };
+    // The ids that the rows keep are looked up by the hash.
+    ghost is_hashed: { Hash → Self → Type 0 };
+
+    /// Which file it is.
+    const TABLE: Table;
+
+    /// Returns the rows of the file's bytes, or their first fault. Ids are looked up by the hash.
+    fn read(alloc: Global, hash: IdHash, bytes: &[u8]) -> Result<Self, TableFault>
+        ensures ok { IfOk result (λ rows. holds bytes.now rows) }
+        ensures hashed { IfOk result (λ rows. is_hashed hash rows) }
+        ensures file { IfErr result (λ fault. fault.file ≡ TABLE) }
+        ensures err { IfErr result (λ fault. fault.kind ≢ FaultKind.OutOfMemory
+            → tells bytes.now fault.row fault.kind) };
+}
 
 // The rows of a table that were read so far.
 pub(crate) trait TableRows: Sized + Drop {

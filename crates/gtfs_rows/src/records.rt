@@ -122,12 +122,7 @@ impl<'a> Records<'a> {
     pub fn get(&self, column: usize) -> &[u8]
         ensures { result.now ≡ shown self.now column }
     {
-        let index = if column < self.indices.len() {
-            self.indices[column]
-        } else {
-            None
-        };
-        cell(&self.record, index)
+        cell(&self.record, self.indices.get(column).copied().flatten())
     }
 
     // Returns the same value as text. The whole file was found to be UTF-8, so a cell isn't checked again.
@@ -173,8 +168,9 @@ impl<'a> Records<'a> {
         self.count.saturating_sub(1)
     }
 
-    /// Returns where the record that was read last begins. No clause says which byte that is: it is the one that `csv`
-    /// names, without the ends of lines before the record.
+    /// Returns where the record that was read last begins. The crate `csv` promises nothing of the byte that it names,
+    /// so no clause does: here it is that byte, behind the byte order mark and the ends of lines that come there. Its
+    /// line is counted, and the number is that of the record.
     pub fn position(&self) -> Position
         ensures number { result.«record» ≡ self.now.count - 1 }
         ensures line { result.line ≡ line_at self.now.lines result.byte }

@@ -14,7 +14,7 @@ use crate::fault::{FaultKind, Table};
 use crate::keyed::Row;
 use crate::limited::location;
 use crate::records::Records;
-use crate::values::{Day, clock_time, number};
+use crate::values::{Day, clock_time, date, number};
 use std::alloc::Global;
 
 /// An agency of `agency.txt`.
@@ -91,9 +91,10 @@ impl Row for TripRow {
     const TABLE: Table = Table::Trips;
 
     fn read(alloc: Global, records: &Records<'_>) -> Result<Self, FaultKind> {
-        let service = records.owned_text(alloc, 0)?;
-        let id = records.owned_text(alloc, 1)?;
-        Ok(TripRow { service, id })
+        Ok(TripRow {
+            service: records.owned_text(alloc, 0)?,
+            id: records.owned_text(alloc, 1)?,
+        })
     }
 }
 
@@ -128,7 +129,7 @@ fn day_in(records: &Records<'_>, column: usize) -> Result<Day, FaultKind>
     ensures ok { IfOk result (λ d. day_of (shown records.now column) ≡ Some d) }
     ensures fault { result_err result ≡ fault_unless (day_of (shown records.now column)) FaultKind.BadDate }
 {
-    Day::parse(records.get(column)).map_err(|_| FaultKind::BadDate)
+    date(records.get(column)).ok_or(FaultKind::BadDate)
 }
 
 // Returns whether a service runs on the weekday of a column; none if the value is neither 0 nor 1.

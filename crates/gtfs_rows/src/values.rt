@@ -1,7 +1,7 @@
 //! Parses the times, dates and numbers of tables.
 
 ghost use Rattle.std.specs.Prelude.{◌≡◌, ◌==◌, ◌+◌, ◌*◌, ◌<◌, ◌≤◌, true, length, IfOk, IfSome, Some};
-ghost use Rattle.std.specs.Result.{result_err, result_ok};
+ghost use Rattle.std.specs.Result.{result_err};
 ghost use Rattle.std.specs.Char.{is_ascii_digit};
 ghost use Rattle.std.specs.List.{AllPass, list_all, prefix_len};
 ghost use Rattle.gtfs_rows.specs.Faults.{fault_unless};
@@ -11,25 +11,9 @@ ghost use Rattle.gtfs_rows.specs.Values.{two_digits_of, checked_day};
 use crate::fault::FaultKind;
 use jiff::civil::Date;
 
-/// Parses times, in seconds after the start of the service day.
-pub struct Time;
-
-/// The text isn't a time.
-#[derive(Clone, Copy, Debug, PartialEq, Eq)]
-pub struct TimeFault;
-
-impl Time {
-    /// Returns the seconds of a text `H:MM:SS` or `HH:MM:SS`, which may be later than 24:00:00.
-    #[inline(always)]
-    pub fn parse(text: &[u8]) -> Result<u32, TimeFault>
-        ensures { result_ok result ≡ time_of text.now }
-    {
-        seconds_of(text).ok_or(TimeFault)
-    }
-}
-
-// Returns the seconds of a text `H:MM:SS` or `HH:MM:SS`, none of any other.
-fn seconds_of(text: &[u8]) -> Option<u32>
+/// Returns the time of a text `H:MM:SS` or `HH:MM:SS`, in seconds after the start of the service day; it may be later
+/// than 24:00:00.
+pub fn time(text: &[u8]) -> Option<u32>
     ensures { result ≡ time_of text.now }
 {
     match text {
@@ -45,13 +29,13 @@ fn seconds_of(text: &[u8]) -> Option<u32>
     }
 }
 
-// Returns the time of a text, in seconds after the start of the service day; `BadTime` if it isn't one, or blank.
+// Returns the same, or `BadTime` if the text isn't a time.
 #[inline(always)]
 pub(crate) fn clock_time(text: &[u8]) -> Result<u32, FaultKind>
     ensures ok { IfOk result (λ t. time_of text.now ≡ Some t) }
     ensures fault { result_err result ≡ fault_unless (time_of text.now) FaultKind.BadTime }
 {
-    Time::parse(text).map_err(|_| FaultKind::BadTime)
+    time(text).ok_or(FaultKind::BadTime)
 }
 
 // Returns hours, minutes and seconds as seconds; none if a separator isn't a colon, or minutes or seconds exceed 59.
@@ -96,20 +80,8 @@ pub struct Day {
     pub day: u8,
 }
 
-/// The text isn't a date.
-#[derive(Clone, Copy, Debug, PartialEq, Eq)]
-pub struct DateFault;
-
-impl Day {
-    /// Returns the date of a text `YYYYMMDD`, a civil date of the years 1 to 9999.
-    pub fn parse(text: &[u8]) -> Result<Day, DateFault>
-        ensures { result_ok result ≡ day_of text.now }
-    {
-        spelled_day(text).ok_or(DateFault)
-    }
-}
-
-fn spelled_day(text: &[u8]) -> Option<Day>
+/// Returns the date of a text `YYYYMMDD`, a civil date of the years 1 to 9999.
+pub fn date(text: &[u8]) -> Option<Day>
     ensures { result ≡ day_of text.now }
 {
     let [a, b, c, d, e, f, g, h] = text else {
@@ -170,12 +142,7 @@ fn leading_digits(text: &[u8]) -> usize
     ensures count { result ≡ prefix_len is_ascii_digit text.now }
     ensures within { result ≤ length text.now }
 {
-    for (i, byte) in text.iter().enumerate() {
-        if !byte.is_ascii_digit() {
-            return i;
-        }
-    }
-    text.len()
+    text.iter().take_while(|byte| byte.is_ascii_digit()).count()
 }
 
 // Returns whether a text is empty, or a point and one or more zeros.

@@ -3,7 +3,6 @@ use Rattle.std.proofs.Common.{◌≡◌, ℕ, ◌+◌, ◌<◌, List, [], ◌∷
 use Rattle.std.specs.Prelude.{Result, Ok, Err, IfOk, IfErr, ◌≢◌}
 use Rattle.std.specs.Global.{Vec}
 use Rattle.std.specs.Option.{option_or}
-use Rattle.gtfs_rows.specs.declared.fault.FaultKind.TheVariants.{OutOfMemory}
 use Rattle.gtfs_rows.specs.declared.fault.Table.TheVariants as kinds
 use Rattle.gtfs_rows.specs.declared.fault.TableFault.{TableFault}
 use Rattle.gtfs_rows.specs.declared.rows.FrequencyRow.{FrequencyRow}
@@ -12,7 +11,7 @@ use Rattle.gtfs_rows.specs.declared.rows.StopTimeRow.{StopTimeRow}
 use Rattle.gtfs_rows.specs.declared.rows.TripRow.{TripRow}
 use Rattle.gtfs_tables.specs.Feeds.{IsFirstFault, IsLinked, IsNamingFault, feed_trip, feed_trips, first_fault, linked_by}
 use Rattle.gtfs_tables.specs.Feeds.{rows_by, stop_time_fault, stops_by, trip_fault, trips_by}
-use Rattle.gtfs_tables.specs.First.{first_below, first_fault_of}
+use Rattle.gtfs_tables.specs.First.{first_below, first_fault_of, no_memory}
 use Rattle.gtfs_tables.specs.Names.{stop_named, trip_named}
 use Rattle.gtfs_tables.specs.Order.{IsInOrder, sort_keys_by, sort_keys_in}
 use Rattle.gtfs_tables.specs.Rows.{frequency_fault, is_flex_id, is_repeated, linked_fault, parent_fault, transfer_fault}
@@ -115,8 +114,8 @@ links_as_given f g h k t r = both_as_given (λ x y. IfOk r (IsLinked x y t)) f g
 
 pub fault_as_given : (f g : List ℕ → Option StopIdTarget) (h k : List ℕ → Option ℕ) (t : Tables) (r : Result Links TableFault) → ((id : List ℕ) → f id ≡ g id)
     → ((id : List ℕ) → h id ≡ k id)
-    → IfErr r (λ fault. fault.kind ≢ OutOfMemory → IsNamingFault f h t fault) → IfErr r (λ fault. fault.kind ≢ OutOfMemory → IsNamingFault g k t fault)
-fault_as_given f g h k t r = both_as_given (λ x y. IfErr r (λ fault. fault.kind ≢ OutOfMemory → IsNamingFault x y t fault)) f g h k
+    → IfErr r (λ fault. fault ≢ no_memory → IsNamingFault f h t fault) → IfErr r (λ fault. fault ≢ no_memory → IsNamingFault g k t fault)
+fault_as_given f g h k t r = both_as_given (λ x y. IfErr r (λ fault. fault ≢ no_memory → IsNamingFault x y t fault)) f g h k
 
 pub of_err : {X E : Type 0} (r : Result X E) (fault : E) (Q : E → Type 0) → r ≡ Err fault → IfErr r Q → Q fault
 of_err {X = X} {E = E} r fault Q e h = subst (λ (x : Result X E). IfErr x Q) e h
@@ -181,11 +180,11 @@ module _ (strict : Bool) (t : Tables) (links : Links) (linked : IsLinked (stop_n
   -- trips whose times have none, and a fault of the transfers
   pub transfer_first : (fault : TableFault) → first_below (trip_fault strict (sort_keys_in links.names.trips.items links.order t.stop_times.rows.items)
       (linked_by links.names.trips.items links.names.stops.items links.order t.stop_times.rows.items)) (length t.trips.items) ≡ None
-      → links.transfers ≡ Err fault → fault.kind ≢ OutOfMemory → IsFirstFault strict t fault
+      → links.transfers ≡ Err fault → fault ≢ no_memory → IsFirstFault strict t fault
   transfer_first fault none is other = record {
     sort_keys = sort_keys_in (trips_by (trip_named t.trips.items) t) links.order t.stop_times.rows.items;
     in_order = linked.in_order;
-    first = of_three _ _ _ fault linked.fine (judged None none) (of_err links.transfers fault (λ fault. fault.kind ≢ OutOfMemory
+    first = of_three _ _ _ fault linked.fine (judged None none) (of_err links.transfers fault (λ fault. fault ≢ no_memory
         → first_fault_of kinds.Transfers (transfer_fault (stop_named t.stops.items)) t.transfers.items ≡ Some fault) is linked.transfers_wrong other);
   }
 

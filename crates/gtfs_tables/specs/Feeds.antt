@@ -6,13 +6,12 @@ use Rattle.std.specs.Option.{option_or}
 use Rattle.std.specs.String.{string_bytes}
 use Rattle.gtfs_rows.specs.Tables.{is_stop}
 use Rattle.gtfs_rows.specs.declared.fault.FaultKind.{FaultKind}
-use Rattle.gtfs_rows.specs.declared.fault.FaultKind.TheVariants as kinds
 use Rattle.gtfs_rows.specs.declared.fault.Table.TheVariants as tables
 use Rattle.gtfs_rows.specs.declared.fault.TableFault.{TableFault}
 use Rattle.gtfs_rows.specs.declared.rows.StopRow.{StopRow}
 use Rattle.gtfs_rows.specs.declared.rows.StopTimeRow.{StopTimeRow}
 use Rattle.gtfs_rows.specs.declared.rows.TripRow.{TripRow}
-use Rattle.gtfs_tables.specs.First.{first_below, first_fault_of}
+use Rattle.gtfs_tables.specs.First.{first_below, first_fault_of, no_memory}
 use Rattle.gtfs_tables.specs.Names.{stop_named, trip_named}
 use Rattle.gtfs_tables.specs.Order.{IsInOrder, first_row_of, of_trip, row_of, sort_keys_in}
 use Rattle.gtfs_tables.specs.Rows.{IsTransferOf, frequency_fault, frequency_of, is_flex_id, is_kept, is_repeated}
@@ -136,7 +135,7 @@ pub record IsLinked (named : List ℕ → Option StopIdTarget) (placed : List �
   pub frequencies : links.frequencies.items ≡ map (frequency_of placed) t.frequencies.items
   pub transfers_fine : IfOk links.transfers (λ kept. first_fault_of tables.Transfers (transfer_fault named) t.transfers.items ≡ None)
   pub transfers : IfOk links.transfers (λ kept. AllZip (IsTransferOf named) (filter is_kept t.transfers.items) kept.items)
-  pub transfers_wrong : IfErr links.transfers (λ fault. fault.kind ≢ kinds.OutOfMemory
+  pub transfers_wrong : IfErr links.transfers (λ fault. fault ≢ no_memory
       → first_fault_of tables.Transfers (transfer_fault named) t.transfers.items ≡ Some fault)
 
 -- the first fault of an id

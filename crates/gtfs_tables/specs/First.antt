@@ -4,7 +4,9 @@ use Rattle.std.specs.List.{slice_get}
 use Rattle.std.specs.Option.{option_to_list}
 unfoldable pub use Rattle.reasoning.specs.First.{first_below}
 use Rattle.gtfs_rows.specs.declared.fault.FaultKind.{FaultKind}
+use Rattle.gtfs_rows.specs.declared.fault.FaultKind.TheVariants as kinds
 use Rattle.gtfs_rows.specs.declared.fault.Table.{Table}
+use Rattle.gtfs_rows.specs.declared.fault.Table.TheVariants as tables
 use Rattle.gtfs_rows.specs.declared.fault.TableFault.{TableFault}
 
 -- the least index below n that passes
@@ -17,6 +19,10 @@ first_index p n = first_below (index_if p) n
 -- the fault of the row at an index; records are numbered from 1
 abbrev pub fault_at : Table → ℕ → FaultKind → TableFault
 fault_at table index kind = record { file = table; row = index + 1; kind = kind }
+
+-- memory ran out while tables were joined: stop_times.txt is named
+abbrev pub no_memory : TableFault
+no_memory = record { file = tables.StopTimes; row = 0; kind = kinds.OutOfMemory }
 
 -- the fault of the row at an index, given how rows are judged
 abbrev pub row_fault : {R : Type 0} → Table → (R → Option FaultKind) → List R → ℕ → Option TableFault

@@ -7,7 +7,7 @@ ghost use Rattle.indexmap.specs.IndexMap.{hasher_of as hash_of_names};
 ghost use Rattle.indexmap.specs.IndexSet.{hasher_of};
 ghost use Rattle.gtfs_rows.specs.declared.rows.StopTimeRow.{StopTimeRow as LinkedRow};
 ghost use Rattle.gtfs_rows.specs.Tables.{is_stop};
-ghost use Rattle.gtfs_tables.specs.First.{first_below, first_fault_of};
+ghost use Rattle.gtfs_tables.specs.First.{first_below, first_fault_of, no_memory};
 ghost use Rattle.gtfs_tables.specs.Names.{held_at, stop_named, trip_named};
 ghost use Rattle.gtfs_tables.specs.Order.{comes_before, first_row_of, sort_keys_by, sort_keys_in};
 ghost use Rattle.gtfs_tables.specs.Rows.{is_flex_id, lack_stops, linked_fault, linked_row, station_of};
@@ -48,11 +48,12 @@ struct Links {
 /// the stop of each stop time, the trips of frequencies, the times of each trip, and the transfers; each in the order
 /// of its file, times by trip in the order of `trips.txt`. An id stands for the first row that has it. If `strict`,
 /// each arrival must be later than the departure before it. The feed's ids are looked up by the hash of the tables.
+/// Memory may run out at any time: `OutOfMemory` of `stop_times.txt`.
 #[tactic(none)]
 pub fn join(alloc: Global, tables: Tables, strict: bool) -> Result<Feed, TableFault>
     ensures ok { IfOk result (IsJoined strict tables) }
     ensures hash { IfOk result (λ feed. feed.hash ≡ hasher_of tables.stop_times.trips) }
-    ensures err { IfErr result (λ fault. fault.kind ≢ FaultKind.OutOfMemory → IsFirstFault strict tables fault) }
+    ensures err { IfErr result (λ fault. fault ≢ no_memory → IsFirstFault strict tables fault) }
 {
     let most = u32::MAX as usize;
     if tables.stops.len() > most || tables.trips.len() > most {
@@ -71,7 +72,7 @@ fn link(alloc: Global, tables: &Tables) -> Result<Links, TableFault>
     requires trips { length tables.now.trips.items ≤ u32.MAX }
     ensures ok { IfOk result (IsLinked (stop_named tables.now.stops.items) (trip_named tables.now.trips.items)
         tables.now) }
-    ensures err { IfErr result (λ fault. fault.kind ≢ FaultKind.OutOfMemory
+    ensures err { IfErr result (λ fault. fault ≢ no_memory
         → IsNamingFault (stop_named tables.now.stops.items) (trip_named tables.now.trips.items) tables.now fault) }
 {
     let hash = *tables.stop_times.trips.hasher();
@@ -95,7 +96,7 @@ fn link_by(
     requires hashed { hash_of_names names.now ≡ hasher_of tables.now.stop_times.trips }
     requires hashed_indices { hash_of_names indices.now ≡ hasher_of tables.now.stop_times.trips }
     ensures ok { IfOk result (IsLinked (held_at names.now) (held_at indices.now) tables.now) }
-    ensures err { IfErr result (λ fault. fault.kind ≢ FaultKind.OutOfMemory
+    ensures err { IfErr result (λ fault. fault ≢ no_memory
         → IsNamingFault (held_at names.now) (held_at indices.now) tables.now fault) }
 {
     let Ok(trips) = named_each(alloc, &tables.stop_times.trips, indices) else {
@@ -148,7 +149,7 @@ fn judged_times(
         ≡ map (λ id. held_at names.now (string_bytes id)) stop_times.now.stops.keys) }
     ensures flex { IfOk result (λ judged. (id : ℕ) → id < length trips.now
         → slice_index_or judged.1.items id false ≡ is_flex_id stop_times.now.rows.items id) }
-    ensures err { IfErr result (λ fault. fault.kind ≢ FaultKind.OutOfMemory
+    ensures err { IfErr result (λ fault. fault ≢ no_memory
         → first_fault_of Table.StopTimes (λ row. linked_fault trips.now
         (map (λ id. held_at names.now (string_bytes id)) stop_times.now.stops.keys)
         (is_flex_id stop_times.now.rows.items row.trip) row) stop_times.now.rows.items ≡ Some fault) }
@@ -171,7 +172,7 @@ fn feed_of(alloc: Global, tables: Tables, links: Links, strict: bool) -> Result<
     requires { IsLinked (stop_named tables.stops.items) (trip_named tables.trips.items) tables links }
     ensures ok { IfOk result (IsJoined strict tables) }
     ensures hash { IfOk result (λ feed. feed.hash ≡ hasher_of tables.stop_times.trips) }
-    ensures err { IfErr result (λ fault. fault.kind ≢ FaultKind.OutOfMemory → IsFirstFault strict tables fault) }
+    ensures err { IfErr result (λ fault. fault ≢ no_memory → IsFirstFault strict tables fault) }
 {
     let hash = *tables.stop_times.trips.hasher();
     let skipped = skipped_in(&tables.transfers);
@@ -237,7 +238,7 @@ fn made_of(
         → IfOk result (λ made. made.stops.items ≡ map (feed_stop named) (filter is_stop stops.items)) }
     ensures frequencies { IfOk result (λ made. made.frequencies ≡ links.frequencies) }
     ensures transfers { IfOk result (λ made. links.transfers ≡ Ok made.transfers) }
-    ensures err { IfErr result (λ fault. fault.kind ≢ FaultKind.OutOfMemory
+    ensures err { IfErr result (λ fault. fault ≢ no_memory
         → (first_below (trip_fault strict (sort_keys_in links.names.trips.items links.order rows.items)
         (linked_by links.names.trips.items links.names.stops.items links.order rows.items)) (length trips.items)
         ≡ Some fault)
@@ -292,7 +293,7 @@ fn timed_rows(
         ≡ feed_trips (sort_keys_in links.now.names.trips.items links.now.order rows.items)
         (linked_by links.now.names.trips.items links.now.names.stops.items links.now.order rows.items)
         (λ t. slice_index_or links.now.repeats.items t false) 0 trips.items) }
-    ensures err { IfErr result (λ fault. fault.kind ≢ FaultKind.OutOfMemory
+    ensures err { IfErr result (λ fault. fault ≢ no_memory
         → first_below (trip_fault strict (sort_keys_in links.now.names.trips.items links.now.order rows.items)
         (linked_by links.now.names.trips.items links.now.names.stops.items links.now.order rows.items))
         (length trips.items) ≡ Some fault) }
@@ -329,7 +330,7 @@ fn timed_trips(
     ensures ok { IfOk result (λ timed. timed.items
         ≡ feed_trips (sort_keys_by order.now rows.now) rows.now (λ t. slice_index_or repeats.now t false) 0
         trips.items) }
-    ensures err { IfErr result (λ fault. fault.kind ≢ FaultKind.OutOfMemory
+    ensures err { IfErr result (λ fault. fault ≢ no_memory
         → first_below (trip_fault strict (sort_keys_by order.now rows.now) rows.now) (length trips.items)
         ≡ Some fault) }
 {
@@ -399,7 +400,7 @@ fn judge_trip(
     requires within { end ≤ length rows.now }
     ensures ok { IfOk result (λ _. option_map (fault_of_row (slice_range (sort_keys_by order.now rows.now) first end))
         (wrong_first strict (slice_range rows.now first end)) ≡ None) }
-    ensures err { IfErr result (λ fault. fault.kind ≢ FaultKind.OutOfMemory
+    ensures err { IfErr result (λ fault. fault ≢ no_memory
         → option_map (fault_of_row (slice_range (sort_keys_by order.now rows.now) first end))
         (wrong_first strict (slice_range rows.now first end)) ≡ Some fault) }
 {

@@ -17,9 +17,9 @@ mod times;
 mod trip_faults;
 
 pub use gtfs_rows::{
-    AgencyRow, CalendarDateRow, CalendarRow, DateFault, Day, Exception, FaultKind, FrequencyRow,
-    IdHash, Location, MAX_STOPS, MAX_TRIPS, RowsWithinLimit, StopRow, StopTimeRow, StopTimes,
-    Table, TableFault, TableFile, Time, TimeFault, TransferKind, TransferRow, TripRow,
+    AgencyRow, CalendarDateRow, CalendarRow, Day, Exception, FaultKind, FrequencyRow, IdHash,
+    Location, MAX_STOPS, MAX_TRIPS, RowsWithinLimit, StopRow, StopTimeRow, StopTimes, Table,
+    TableFault, TableFile, TransferKind, TransferRow, TripRow,
 };
 pub use joining::join;
 pub use names::{StopIdTarget, end_fault, parent_fault, stop_fault};

@@ -3,7 +3,7 @@
 ghost use Rattle.std.specs.Prelude.{◌≡◌, ◌≢◌, ◌<◌, ℕ, length, map, filter, IfOk, IfErr, IfSome, None, Some};
 ghost use Rattle.std.specs.Prelude.{is_some, slice_index_or, slice_set, true, false, not, count_by};
 ghost use Rattle.std.specs.List.{AllZip};
-ghost use Rattle.gtfs_tables.specs.First.{fault_at as fault_of, first_fault_of};
+ghost use Rattle.gtfs_tables.specs.First.{fault_at as fault_of, first_fault_of, no_memory};
 ghost use Rattle.gtfs_tables.specs.Names.{held_at, named_at};
 ghost use Rattle.gtfs_tables.specs.Order.{row_of, sort_keys_in};
 ghost use Rattle.gtfs_tables.specs.Rows.{IsTransferOf, ends_fault, end_fault, frequency_fault, frequency_of};
@@ -42,9 +42,9 @@ pub(crate) fn fault_at(table: Table, index: usize, kind: FaultKind) -> TableFaul
     }
 }
 
-// Returns the fault that memory ran out.
+// Returns the fault that memory ran out while tables were joined.
 pub(crate) fn out_of_memory() -> TableFault
-    ensures { result.kind ≡ FaultKind.OutOfMemory }
+    ensures { result ≡ no_memory }
 {
     TableFault {
         file: Table::StopTimes,
@@ -86,7 +86,7 @@ pub(crate) fn stations(
     ensures fine { IfOk result (λ found. first_fault_of Table.Stops (parent_fault (held_at names.now)) stops.now
         ≡ None) }
     ensures ok { IfOk result (λ found. found.items ≡ map (station_of (held_at names.now)) stops.now) }
-    ensures err { IfErr result (λ fault. fault.kind ≢ FaultKind.OutOfMemory
+    ensures err { IfErr result (λ fault. fault ≢ no_memory
         → first_fault_of Table.Stops (parent_fault (held_at names.now)) stops.now ≡ Some fault) }
 {
     let Ok(mut found) = Vec::with_capacity(alloc, stops.len()) else {
@@ -314,7 +314,7 @@ pub(crate) fn repeating(
     ensures ok { IfOk result (λ repeats. (t : ℕ) → t < trips
         → slice_index_or repeats.items t false ≡ is_repeated (held_at indices.now) frequencies.now t) }
     ensures len { IfOk result (λ repeats. length repeats.items ≡ trips) }
-    ensures err { IfErr result (λ fault. fault.kind ≢ FaultKind.OutOfMemory
+    ensures err { IfErr result (λ fault. fault ≢ no_memory
         → first_fault_of Table.Frequencies (frequency_fault (held_at indices.now)) frequencies.now ≡ Some fault) }
 {
     let Ok(mut repeats) = vec![in alloc; false; trips] else {
@@ -375,7 +375,7 @@ pub(crate) fn transfers(
     ensures fine { IfOk result (λ kept. first_fault_of Table.Transfers (transfer_fault (held_at names.now)) rows.now
         ≡ None) }
     ensures ok { IfOk result (λ kept. AllZip (IsTransferOf (held_at names.now)) (filter is_kept rows.now) kept.items) }
-    ensures err { IfErr result (λ fault. fault.kind ≢ FaultKind.OutOfMemory
+    ensures err { IfErr result (λ fault. fault ≢ no_memory
         → first_fault_of Table.Transfers (transfer_fault (held_at names.now)) rows.now ≡ Some fault) }
 {
     let mut kept = Vec::new(alloc);

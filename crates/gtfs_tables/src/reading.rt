@@ -6,7 +6,7 @@ ghost use Rattle.gtfs_rows.specs.Tables.{HoldsStopTimes, HoldsStops, HoldsTransf
 ghost use Rattle.gtfs_rows.specs.Tables.{IsStopsFault, IsTripsFault, is_stop};
 ghost use Rattle.gtfs_rows.specs.declared.fault.FaultKind.{FaultKind};
 ghost use Rattle.gtfs_rows.specs.declared.fault.Table.{Table};
-ghost use Rattle.gtfs_rows.specs.declared.read.TheConstants.{MAX_STOPS, MAX_TRIPS};
+ghost use Rattle.gtfs_rows.specs.declared.limited.TheConstants.{MAX_STOPS, MAX_TRIPS};
 
 use gtfs_rows::{
     AgencyRow, CalendarDateRow, CalendarRow, FrequencyRow, IdHash, MAX_STOPS, MAX_TRIPS, StopRow,

@@ -2,7 +2,7 @@
 
 ghost use Rattle.std.specs.Prelude.{◌≡◌};
 
-use super::texts::{CENTRAL_EUROPE, Case, Reporter, file_of, try_cases, zone_of};
+use super::texts::{CENTRAL_EUROPE, Case, Reporter, day, file_of, try_cases, zone_of};
 use gtfs_rows::{CalendarDateRow, CalendarRow, Day, Exception, FaultKind, IdHash, TableFault};
 use gtfs_tables::read_calendar;
 use service_days::{DayFault, Services, Zone, active, day_after, day_start};
@@ -10,10 +10,6 @@ use std::alloc::{AllocError, Global};
 use std::fmt::Write;
 use std::process::Abort;
 use std::test::Fail;
-
-fn day(text: &str) -> Result<Day, Fail> {
-    Ok(Day::parse(text.as_bytes())?)
-}
 
 fn add_line(reported: &mut String) -> Result<(), AllocError> {
     if reported.is_empty() {

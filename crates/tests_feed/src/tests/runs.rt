@@ -4,10 +4,10 @@ ghost use Rattle.std.specs.Prelude.{◌≡◌};
 ghost use Rattle.connections.specs.Faults.{too_many_of};
 
 use super::texts::{
-    Case, Reporter, add_rows, joined, joined_or_refused, number, try_cases, zone_of,
+    Case, Reporter, add_rows, day, joined, joined_or_refused, number, try_cases, zone_of,
 };
 use connections::{MAX_DAYS, Report, Run, RunsFault, runs_of};
-use gtfs_tables::{Day, FaultKind, Feed, Table};
+use gtfs_tables::{FaultKind, Feed, Table};
 use service_days::{DayFault, Zone};
 use std::alloc::{AllocError, Global};
 use std::process::Abort;
@@ -171,7 +171,7 @@ type Made = (Vec<Connection>, Vec<Run>, Report);
 fn made_of(alloc: Global, feed: &Feed, asked: &str) -> Result<Result<Made, RunsFault>, Fail> {
     let (first, rest) = asked.split_once(' ').unwrap_or((asked, ""));
     let (days, zone) = rest.split_once(' ').unwrap_or((rest, ""));
-    let first = Day::parse(first.as_bytes())?;
+    let first = day(first)?;
     let days = number(days)?;
     if days < 1 || days > MAX_DAYS {
         return Err(Fail::new("a number of days"));
@@ -269,7 +269,7 @@ fn is_want_of_memory(fault: RunsFault) -> bool {
 #[test]
 fn refused_growth_is_reported(rt: HostRuntime) -> Result<(), Fail> {
     let feed = joined_or_refused(&rt, rt.alloc(), "", LEVEL)?;
-    let first = Day::parse(b"20240115")?;
+    let first = day("20240115")?;
     match runs_of(rt.alloc(), &feed, first, 1, &Zone::fixed(0)) {
         Ok((connections, _runs, _report)) => assert_eq!(rt; connections.len(), 3),
         Err(fault) => {

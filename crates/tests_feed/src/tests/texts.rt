@@ -7,7 +7,8 @@
 ghost use Rattle.std.specs.Prelude.{IfOk};
 
 use feed_files::{MemoryFiles, ReadFault, read_tables};
-use gtfs_tables::{FaultKind, Feed, Table, TableFault, Tables, join};
+use gtfs_rows::values::date;
+use gtfs_tables::{Day, FaultKind, Feed, Table, TableFault, Tables, join};
 use service_days::Zone;
 use std::alloc::{AllocError, Global};
 use std::fmt::{Debug, Write};
@@ -86,6 +87,14 @@ pub(crate) fn number(text: &str) -> Result<u32, Fail> {
     match text.parse() {
         Ok(number) => Ok(number),
         Err(_) => Err(Fail::new("a number of a text")),
+    }
+}
+
+/// The day of a text YYYYMMDD.
+pub(crate) fn day(text: &str) -> Result<Day, Fail> {
+    match date(text.as_bytes()) {
+        Some(day) => Ok(day),
+        None => Err(Fail::new("a day of a text")),
     }
 }
 

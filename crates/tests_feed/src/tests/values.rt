@@ -1,7 +1,6 @@
 //! Times, dates and numbers as they are written in fields.
 
-use gtfs_rows::values::number;
-use gtfs_rows::{Day, Time};
+use gtfs_rows::values::{date, number, time};
 use std::alloc::{AllocError, Global};
 use std::process::Abort;
 use std::test::Fail;
@@ -63,16 +62,16 @@ fn none(alloc: Global) -> Result<String, AllocError> {
 }
 
 fn time_text(alloc: Global, field: &[u8]) -> Result<String, AllocError> {
-    match Time::parse(field) {
-        Ok(seconds) => format!(in alloc; "{seconds}"),
-        Err(_) => none(alloc),
+    match time(field) {
+        Some(seconds) => format!(in alloc; "{seconds}"),
+        None => none(alloc),
     }
 }
 
 fn date_text(alloc: Global, field: &[u8]) -> Result<String, AllocError> {
-    match Day::parse(field) {
-        Ok(day) => format!(in alloc; "{} {} {}", day.year, day.month, day.day),
-        Err(_) => none(alloc),
+    match date(field) {
+        Some(day) => format!(in alloc; "{} {} {}", day.year, day.month, day.day),
+        None => none(alloc),
     }
 }
 

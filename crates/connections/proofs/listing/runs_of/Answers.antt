@@ -1,4 +1,4 @@
-use Rattle.std.proofs.Common.{◌≡◌, ◌<◌, ◌⊎◌, ◌∙◌, ap, sym, subst, inr, min, ℤ, pos, List, map, length, get_or, All, Contains, lit<}
+use Rattle.std.proofs.Common.{◌≡◌, ◌<◌, ◌⊎◌, ◌∙◌, ap, sym, subst, inl, inr, min, ℤ, pos, List, map, length, get_or, All, Contains, lit<}
 use Rattle.gtfs_rows.specs.declared.fault.Table.TheVariants as tables
 use Rattle.gtfs_tables.specs.declared.tables.Trip.{Trip}
 use Rattle.service_days.specs.Zones.{IsDayStart}
@@ -6,13 +6,13 @@ use Rattle.service_days.specs.declared.zone.Zone.{Zone}
 use Rattle.timetable.specs.declared.limits.TheConstants.{MAX_CONNECTIONS, MAX_TRIPS}
 use Rattle.connections.specs.Building.{AreByRun}
 use Rattle.connections.specs.Days.{AreStarted, days_from}
-use Rattle.connections.specs.Faults.{IsWantOfMemory, run_fault, too_many_of}
+use Rattle.connections.specs.Faults.{no_memory_for_runs, run_fault, too_many_of}
 use Rattle.connections.specs.Listed.{IsFirstOutside}
 use Rattle.connections.specs.Runs.{IsTripRun, count_hops, runs_of_days}
 use Rattle.connections.specs.declared.days.ServiceDay.{ServiceDay}
 use Rattle.connections.specs.declared.runs.Run.{Run}
 use Rattle.connections.proofs.DaySteps.{first_day}
-use Rattle.connections.proofs.FinalLemmas.{connections_refused, have_digits, listing_made, runs_are_of, runs_refused, times_refused}
+use Rattle.connections.proofs.FinalLemmas.{connections_refused, have_digits, listing_made, ran_out, runs_are_of, runs_refused, times_refused}
 use Rattle.connections.proofs.listing.runs_of.Goals.{After-count_connections-count, In-Ok, In-Ok-connections_by_run, In-Ok-runs_on}
 use Rattle.connections.proofs.listing.runs_of.Goals as goal
 
@@ -63,7 +63,7 @@ pub returns-in-Err-runs_on-clause-err : goal.returns-in-Err-runs_on-clause-err
 returns-in-Err-runs_on-clause-err c =
     let fault = c.in-Err-runs_on.fault in
     runs_refused c.args.feed.now c.args.zone.now c.args.first_day c.args.days c.in-Ok.days.items fault c.in-Ok.ensures.ok
-    (subst (λ (ds : List ServiceDay). IsWantOfMemory fault
+    (subst (λ (ds : List ServiceDay). (fault ≡ no_memory_for_runs)
     ⊎ ((fault ≡ too_many_of tables.Trips) × (MAX_TRIPS < length (runs_of_days c.args.feed.now (map (λ (d : ServiceDay). d.day) ds)))))
     c.deref.ensures.value c.in-Err-runs_on.ensures.err)
 
@@ -79,6 +79,17 @@ returns-then-count-clause-err c =
     inr (connections_refused c.args.feed.now c.args.zone.now c.args.first_day c.args.days c.in-Ok.days.items c.in-Ok-runs_on.runs.items
     c.count_connections-count.result 18446744073709551615 c.too_many.result c.in-Ok.ensures.ok
     (runs_are (goal.at.returns-then-count-clause-err c).In-Ok-runs_on) c.in-Ok-runs_on.ensures.few (counted known) c.if-count.true c.too_many.ensures)
+
+-- the days have starts, and memory ran out
+pub returns-in_default-clause-err : goal.returns-in_default-clause-err
+returns-in_default-clause-err c =
+    inl (ran_out c.args.zone.now (days_from c.args.first_day c.args.days) c.in-Ok.days.items c.out_of_memory.result c.in-Ok.ensures.ok
+    c.out_of_memory.ensures)
+
+pub returns-in_default-times_of_trips-clause-err : goal.returns-in_default-times_of_trips-clause-err
+returns-in_default-times_of_trips-clause-err c =
+    inl (ran_out c.args.zone.now (days_from c.args.first_day c.args.days) c.in-Ok.days.items c.out_of_memory-in_default-times_of_trips.result
+    c.in-Ok.ensures.ok c.out_of_memory-in_default-times_of_trips.ensures)
 
 pub connections_by_run-requires-clause-trips : goal.connections_by_run-requires-clause-trips
 connections_by_run-requires-clause-trips c =
@@ -105,7 +116,7 @@ returns-in-Err-connections_by_run-clause-err c =
     18446744073709551615 base fault c.in-Ok.ensures.ok (runs_are (goal.at.returns-in-Err-connections_by_run-clause-err c).In-Ok-runs_on)
     c.in-Ok-runs_on.ensures.few (counted (goal.at.returns-in-Err-connections_by_run-clause-err c).After-count_connections-count) c.if-count.false room
     (first_starts (goal.at.returns-in-Err-connections_by_run-clause-err c).In-Ok).1
-    (subst (λ (rs : List Run). IsWantOfMemory fault
+    (subst (λ (rs : List Run). (fault ≡ no_memory_for_runs)
     ⊎ ((run : Run) × (fault ≡ run_fault run) × IsFirstOutside c.args.feed.now c.args.zone.now base rs run))
     c.deref-6.ensures.value (c.in-Err-connections_by_run.ensures.err c.args.zone.now base no_day known.0 known.1))
 

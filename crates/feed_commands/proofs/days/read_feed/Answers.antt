@@ -1,6 +1,7 @@
 -- The feed is that of the folder, and the fault is its first one.
-use Rattle.std.proofs.Common.{inl, inr, refl}
+use Rattle.std.proofs.Common.{ap, inl, inr, refl}
 use Rattle.std.proofs.lemmas.Result.{err_from_is_err_and}
+use Rattle.gtfs_rows.specs.declared.fault.TableFault.{TableFault}
 use Rattle.feed_files.specs.Reading.{HoldsTables, NoTables}
 use Rattle.feed_commands.proofs.OfFolder.{of_read_weaker}
 use Rattle.feed_commands.proofs.days.read_feed.Goals as goal
@@ -26,7 +27,7 @@ returns-in_err-feed-clause-refused g c =
       held = held;
       refusal = c.in_err-feed.field-0.0;
       is = refl;
-      first = c.in_err-feed.ensures.err unless;
+      first = c.in_err-feed.ensures.err (λ memory. unless (ap (λ (fault : TableFault). fault.kind) memory));
     })) c.in_ok-tables.ensures.held)
 
 pub returns-clause-feed : goal.returns-clause-feed

@@ -1,6 +1,7 @@
 -- The tables that are counted are those of the folder, and the fault is their first one.
-use Rattle.std.proofs.Common.{inl, inr, refl}
+use Rattle.std.proofs.Common.{ap, inl, inr, refl}
 use Rattle.std.proofs.lemmas.Result.{err_from_is_err_and}
+use Rattle.gtfs_rows.specs.declared.fault.TableFault.{TableFault}
 use Rattle.feed_files.specs.Reading.{HoldsTables, NoTables}
 use Rattle.feed_commands.proofs.OfFolder.{of_read_weaker}
 use Rattle.feed_commands.proofs.tables.count_records.Goals as goal
@@ -26,7 +27,7 @@ returns-in_err-counts-clause-refused g c =
       held = held;
       refusal = c.in_err-counts.field-0.0;
       is = refl;
-      first = c.in_err-counts.ensures.refused unless;
+      first = c.in_err-counts.ensures.refused (λ memory. unless (ap (λ (fault : TableFault). fault.kind) memory));
     })) c.in_ok-tables.ensures.held)
 
 pub returns-clause-counts : goal.returns-clause-counts

@@ -5,7 +5,7 @@ use Rattle.std.specs.declared.alloc.Global.{Global}
 use Rattle.gtfs_rows.specs.Tables.{HoldsAgencies, HoldsStopsWithin, HoldsTripsWithin, IsFaultOf, IsStopsFault, IsTripsFault}
 use Rattle.gtfs_rows.specs.declared.fault.Table.TheVariants as tables
 use Rattle.gtfs_rows.specs.declared.limited.RowsWithinLimit.{RowsWithinLimit}
-use Rattle.gtfs_rows.specs.declared.read.TheConstants.{MAX_STOPS, MAX_TRIPS}
+use Rattle.gtfs_rows.specs.declared.limited.TheConstants.{MAX_STOPS, MAX_TRIPS}
 use Rattle.gtfs_rows.specs.declared.rows.AgencyRow.{AgencyRow}
 use Rattle.gtfs_rows.specs.declared.rows.StopRow.{StopRow}
 use Rattle.gtfs_rows.specs.declared.rows.TripRow.{TripRow}

@@ -2,12 +2,11 @@ use Rattle.std.proofs.Common.{◌≡◌, ◌∙◌, List, None, Some, ap, arith,
 use Rattle.std.specs.Prelude.{IfErr, IfOk, ◌≢◌, filter}
 use Rattle.std.specs.List.{AllZip}
 use Rattle.reasoning.proofs.FirstLemmas.{option_or-some}
-use Rattle.gtfs_rows.specs.declared.fault.FaultKind.TheVariants.{OutOfMemory}
 use Rattle.gtfs_rows.specs.declared.fault.Table.TheVariants as kinds
 use Rattle.gtfs_rows.specs.declared.fault.TableFault.{TableFault}
 use Rattle.gtfs_rows.specs.declared.rows.TransferRow.{TransferRow}
 use Rattle.gtfs_tables.specs.Feeds.{IsNamingFault, naming_fault, stop_time_fault, trips_by}
-use Rattle.gtfs_tables.specs.First.{first_fault_of}
+use Rattle.gtfs_tables.specs.First.{first_fault_of, no_memory}
 use Rattle.gtfs_tables.specs.Names.{held_at}
 use Rattle.gtfs_tables.specs.Order.{IsInOrder, sort_keys_in}
 use Rattle.gtfs_tables.specs.Rows.{IsTransferOf, frequency_of, is_kept, is_repeated, parent_fault, station_of, transfer_fault}
@@ -89,6 +88,6 @@ returns-clause-ok c = record {
   transfers = subst (λ (rows : List TransferRow). IfOk c.transfers-transfers.result
       (λ kept. AllZip (IsTransferOf (held_at c.args.names.now)) (filter is_kept rows) kept.items)) c.deref-7.ensures.value c.transfers-transfers.ensures.ok;
   transfers_wrong = subst (λ (rows : List TransferRow). IfErr c.transfers-transfers.result
-      (λ fault. fault.kind ≢ OutOfMemory → first_fault_of kinds.Transfers (transfer_fault (held_at c.args.names.now)) rows ≡ Some fault))
+      (λ fault. fault ≢ no_memory → first_fault_of kinds.Transfers (transfer_fault (held_at c.args.names.now)) rows ≡ Some fault))
       c.deref-7.ensures.value c.transfers-transfers.ensures.err;
 }
