@@ -2,7 +2,7 @@
 
 ghost use Rattle.std.specs.Prelude.{◌≡◌, ◌++◌, List, ℕ, OnOk, string_bytes};
 ghost use Rattle.timetable.specs.Clocks.{clock_bytes};
-ghost use Rattle.image_facts.specs.Base.{HasBase, HasBaseMembers, IsUtc, base_line, base_member, date_text};
+ghost use Rattle.image_facts.specs.Base.{HasBase, HasBaseMembers, IsUtc, base_line, date_text};
 ghost use Rattle.image_facts.specs.Base.{moment_text, no_utc_text, sign_text};
 ghost use Rattle.image_facts.specs.Base.{utc_day, utc_second, utc_text, year_text};
 
