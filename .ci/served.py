@@ -23,6 +23,8 @@ PLAN = ["--first", FIRST, "--days", "1", "--zone", "fixed:0"]
 SECONDS = 60
 # The program that a `SampleServer` runs.
 TESTED = os.environ.get("CSA", f"{TOP}/csa")
+# Why sessions fail, as a server says at its end.
+LOST = "a connection broke, was idle for longer than --idle allows, or with --idle began like HTTP; --log shows which"
 # The servers that were started.
 STARTED = []
 
@@ -205,6 +207,10 @@ class SampleServer(Server):
         with Session(self) as one:
             one.send(b"".join(it + b"\n" for it in lines))
             return one.rest().splitlines()
+
+    def failed(self, sessions):
+        """Returns the line of its errors which says that so many of its sessions failed."""
+        return f"csa: {sessions} of {self.sessions} sessions failed: {LOST}"
 
     def rest(self, status):
         """Waits for its end, and returns all lines of its errors that weren't read yet."""

@@ -112,8 +112,9 @@ after its last, or if --until is after the day of its last; --no-warnings leaves
 Example: csa profile examples/base.csa --from A --to C --after 08:00:00 --until 08:12:00 \
 --by 10:00:00 --criterion arrival+trips\n\
 With --names a line is: dep 08:00:00 arr 08:30:00 trips 1 : ride T1 08:00:00 A 08:30:00 C\n\
-With --json it is: {\"ok\":\"profile\",\"points\":[{\"arr\":\"08:30:00\",\"dep\":\"08:00:00\",\
-\"journey\":\"ride 0 1\",\"trips\":1}],\"version\":1,\"walk\":null}\n\
+With --json it is: {\"base\":1705276800,\"utc\":\"2024-01-15T00:00:00Z\",\"ok\":\"profile\",\
+\"points\":[{\"arr\":\"08:30:00\",\"dep\":\"08:00:00\",\"journey\":\"ride 0 1\",\"trips\":1}],\
+\"version\":1,\"walk\":null}\n\
 With --picture answer.svg --rows 50 the first 50 journeys are drawn too.";
 
 pub(crate) const DEPARTURES: &str =

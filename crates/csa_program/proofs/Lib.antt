@@ -7,3 +7,4 @@ mod ServerEnds
 mod TextEnds
 mod CountedOff
 mod ServedEnds
+mod Shown

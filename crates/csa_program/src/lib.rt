@@ -15,6 +15,7 @@ mod client_sessions;
 mod draining;
 mod explaining;
 mod folders;
+pub mod laws;
 mod line_queue;
 mod listening;
 mod logging;

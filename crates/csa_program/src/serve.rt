@@ -333,7 +333,10 @@ fn serve_named<
         of: PhantomData,
     };
     match host_reported(pending, bound, image, queue, writer, errors) {
-        Some(end) => tell_served(alloc, end.ends, end.is_deaf, output),
+        Some(end) => {
+            explain_failed(end.ends, errors);
+            tell_served(alloc, end.ends, end.is_deaf, output)
+        }
         None => status::OUT_OF_MEMORY,
     }
 }
@@ -647,6 +650,19 @@ fn tell_served<O: Watched>(alloc: Global, ends: SessionCounts, is_deaf: bool, ou
         Err(_) => status::OUT_OF_MEMORY,
     }
 }
+
+// Says why the status is that of a failure, if sessions failed. It takes no memory.
+fn explain_failed<E: Write>(ends: SessionCounts, errors: &mut E) {
+    if ends.failed > 0 {
+        let (failed, all) = (ends.failed, ends.sessions());
+        let _ = write!(errors, "csa: {failed} of {all} sessions failed: {LOST}\n");
+    }
+}
+
+/// Why a session fails.
+const LOST: &str =
+    "a connection broke, was idle for longer than --idle allows, or with --idle began like HTTP; \
+--log shows which";
 
 fn served_line(alloc: Global, ends: SessionCounts) -> Result<String, AllocError>
     ensures { IfOk result (λ line. string_bytes line ≡ served_text ends) }

@@ -1,10 +1,10 @@
 //! What a terminal is shown: text in which control characters are written by their codes.
 
-ghost use Rattle.std.specs.Prelude.{◌≡◌, ◌≢◌, ◌<◌, ◌≤◌, ℕ, List, None, IfOk, false, true, drop, length};
+ghost use Rattle.std.specs.Prelude.{◌≡◌, ◌<◌, ◌≤◌, IfOk, OnOk, false, length, take, true};
 ghost use Rattle.std.specs.Io.{WritesAtMost};
-ghost use Rattle.std.specs.Io.KnownBytes.{Appends, WriteAppends};
-ghost use Rattle.csa_program.specs.Showing.{IsPlain, IsShown, control_len, escape_text, first_control, hex_digit};
-ghost use Rattle.csa_program.specs.Showing.{is_low, known_unless, upper_control};
+ghost use Rattle.std.specs.Io.KnownBytes.{Appends, Keeps, WriteAppends};
+ghost use Rattle.csa_program.specs.Showing.{IsPlain, byte_text, escape_text, hex_digit, is_held_after, is_low};
+ghost use Rattle.csa_program.specs.Showing.{is_plain, is_upper, known_unless, left_text, lone_text, shown_text};
 
 use std::io;
 use std::io::Write;
@@ -15,6 +15,8 @@ use std::io::Write;
 pub struct ShownWriter<W> {
     writer: W,
     is_terminal: bool,
+    /// Whether the last byte is held back, as it may begin a control character.
+    is_held: bool,
 }
 
 impl<W> ShownWriter<W> {
@@ -22,56 +24,106 @@ impl<W> ShownWriter<W> {
     pub fn of(writer: W, is_terminal: bool) -> ShownWriter<W>
         ensures writer { result.writer ≡ writer }
         ensures kind { result.is_terminal ≡ is_terminal }
+        ensures begins { result.is_held ≡ false }
     {
         ShownWriter {
             writer,
             is_terminal,
+            is_held: false,
         }
     }
 }
+
+/// The first byte of each control character that has two bytes.
+const LEAD: u8 = 0xC2;
 
 impl<W: Write> Write for ShownWriter<W> {
     // what a terminal holds isn't what was written to it
     ghost contents = { λ shown. known_unless shown.is_terminal (W.contents shown.writer) };
 
+    // However bytes are cut, what is shown is the text of all of them, as the law `shown_in_parts` says.
     fn write(&mut self, bytes: &[u8]) -> io::Result<usize>
         ensures bound { WritesAtMost result bytes.now }
         ensures bytes { WriteAppends (known_unless self.old.is_terminal (W.contents self.old.writer))
             (known_unless self.new.is_terminal (W.contents self.new.writer)) result bytes.now }
         ensures raw { self.old.is_terminal ≡ false
             → WriteAppends (W.contents self.old.writer) (W.contents self.new.writer) result bytes.now }
-        ensures shown { self.old.is_terminal ≡ true → IfOk result (λ n. (text : List ℕ) × IsShown bytes.now n text
-            × Appends (W.contents self.old.writer) (W.contents self.new.writer) text) }
+        ensures shown { self.old.is_terminal ≡ true → IfOk result (λ n. Appends (W.contents self.old.writer)
+            (W.contents self.new.writer) (shown_text self.old.is_held (take n bytes.now))) }
+        ensures held { self.old.is_terminal ≡ true → IfOk result (λ n.
+            self.new.is_held ≡ is_held_after self.old.is_held (take n bytes.now)) }
         ensures kind { self.new.is_terminal ≡ self.old.is_terminal }
     {
-        if self.is_terminal {
-            write_shown(&mut self.writer, bytes)
-        } else {
-            self.writer.write(bytes)
+        if !self.is_terminal {
+            return self.writer.write(bytes);
         }
+        let Some(byte) = bytes.first() else {
+            return Ok(0);
+        };
+        if !self.is_held && is_plain(*byte) {
+            return write_plain(&mut self.writer, bytes);
+        }
+        write_byte(&mut self.writer, self.is_held, *byte)?;
+        self.is_held = *byte == LEAD;
+        Ok(1)
     }
 
-    fn flush(&mut self) -> io::Result<()> {
+    // A byte that is held back is then written by its code.
+    fn flush(&mut self) -> io::Result<()>
+        ensures bytes { Keeps (known_unless self.old.is_terminal (W.contents self.old.writer))
+            (known_unless self.new.is_terminal (W.contents self.new.writer)) }
+        ensures shown { self.old.is_terminal ≡ true → OnOk result (Appends (W.contents self.old.writer)
+            (W.contents self.new.writer) (left_text self.old.is_held)) }
+        ensures held { OnOk result ((self.old.is_terminal ≡ true) → self.new.is_held ≡ false) }
+        ensures kind { self.new.is_terminal ≡ self.old.is_terminal }
+    {
+        if self.is_terminal && self.is_held {
+            write_escape(&mut self.writer, LEAD)?;
+            self.is_held = false;
+        }
         self.writer.flush()
     }
 }
 
-// Writes the first bytes up to a control character, or the control character that is first.
-fn write_shown<W: Write>(writer: &mut W, bytes: &[u8]) -> io::Result<usize>
+// Writes the first of the bytes that are shown as they are, with none before them held back.
+fn write_plain<W: Write>(writer: &mut W, bytes: &[u8]) -> io::Result<usize>
     ensures bound { WritesAtMost result bytes.now }
-    ensures shown { IfOk result (λ n. (text : List ℕ) × IsShown bytes.now n text
-        × Appends (W.contents writer.old) (W.contents writer.new) text) }
+    ensures shown { IfOk result (λ n. Appends (W.contents writer.old) (W.contents writer.new)
+        (shown_text false (take n bytes.now)) × (is_held_after false (take n bytes.now) ≡ false)) }
 {
-    match first_control(bytes) {
-        Some(code) => write_escape(writer, code),
-        None => writer.write(&bytes[..plain_len(bytes)]),
+    writer.write(&bytes[..plain_len(bytes)])
+}
+
+// Writes what is shown of a byte, before which one may be held back.
+fn write_byte<W: Write>(writer: &mut W, is_held: bool, byte: u8) -> io::Result<()>
+    ensures { OnOk result (Appends (W.contents writer.old) (W.contents writer.new) (byte_text is_held byte)) }
+{
+    if !is_held {
+        return write_lone(writer, byte);
+    }
+    if is_upper(byte) {
+        return write_escape(writer, byte);
+    }
+    writer.write_all(&[LEAD])?;
+    write_lone(writer, byte)
+}
+
+// Writes what is shown of a byte before which none is held back: nothing if it is held back itself.
+fn write_lone<W: Write>(writer: &mut W, byte: u8) -> io::Result<()>
+    ensures { OnOk result (Appends (W.contents writer.old) (W.contents writer.new) (lone_text byte)) }
+{
+    if is_low(byte) {
+        write_escape(writer, byte)
+    } else if byte == LEAD {
+        Ok(())
+    } else {
+        writer.write_all(&[byte])
     }
 }
 
-// Writes a control character by its code, and returns how many bytes it has.
-fn write_escape<W: Write>(writer: &mut W, code: u8) -> io::Result<usize>
-    ensures len { IfOk result (λ n. n ≡ control_len code) }
-    ensures shown { IfOk result (λ _. Appends (W.contents writer.old) (W.contents writer.new) (escape_text code)) }
+// Writes a control character, or the first byte of one, by its code.
+fn write_escape<W: Write>(writer: &mut W, code: u8) -> io::Result<()>
+    ensures { OnOk result (Appends (W.contents writer.old) (W.contents writer.new) (escape_text code)) }
 {
     writer.write_all(&[
         b'\\',
@@ -80,14 +132,7 @@ fn write_escape<W: Write>(writer: &mut W, code: u8) -> io::Result<usize>
         b'0',
         hex_digit(code / 16),
         hex_digit(code % 16),
-    ])?;
-    Ok(control_len(code))
-}
-
-fn control_len(code: u8) -> usize
-    ensures { result ≡ control_len code }
-{
-    if code < 128 { 1 } else { 2 }
+    ])
 }
 
 fn hex_digit(number: u8) -> u8
@@ -104,30 +149,23 @@ fn hex_digit(number: u8) -> u8
 /// How many bytes are looked through at once.
 const MOST_BYTES: usize = 4096;
 
-// How many of the bytes, at most 4096, are before the first control character.
+// How many of the bytes, at most 4096, are before the first that isn't shown as it is.
 fn plain_len(bytes: &[u8]) -> usize
     ensures within { result ≤ length bytes.now }
     ensures plain { IsPlain bytes.now result }
 {
     let mut count = 0;
-    while count < bytes.len() && count < MOST_BYTES && first_control(&bytes[count..]).is_none() {
+    while count < bytes.len() && count < MOST_BYTES && is_plain(bytes[count]) {
         count += 1;
     }
     count
 }
 
-// The code of the control character with which the bytes begin, unless that is a tab or a line feed.
-fn first_control(bytes: &[u8]) -> Option<u8>
-    ensures { result ≡ first_control bytes.now }
+// Whether a byte is shown as it is if none before it is held back.
+fn is_plain(byte: u8) -> bool
+    ensures { result ≡ is_plain byte }
 {
-    let (first, rest) = bytes.split_first()?;
-    if is_low(*first) {
-        Some(*first)
-    } else if *first == 0xC2 {
-        upper_control(rest)
-    } else {
-        None
-    }
+    !is_low(byte) && byte != LEAD
 }
 
 fn is_low(byte: u8) -> bool
@@ -136,12 +174,9 @@ fn is_low(byte: u8) -> bool
     byte < 9 || (10 < byte && byte < 32) || byte == 127
 }
 
-// The code of a control character that has two bytes, of which these are the second and what follows.
-fn upper_control(bytes: &[u8]) -> Option<u8>
-    ensures { result ≡ upper_control bytes.now }
+// Whether a byte is the second of a control character of two bytes, if the first is before it.
+fn is_upper(byte: u8) -> bool
+    ensures { result ≡ is_upper byte }
 {
-    match bytes.first() {
-        Some(byte) if 128 <= *byte && *byte < 160 => Some(*byte),
-        _ => None,
-    }
+    128 <= byte && byte < 160
 }

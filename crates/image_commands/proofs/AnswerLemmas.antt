@@ -13,7 +13,7 @@ use Rattle.station_answers.specs.Reading.{window_between}
 use Rattle.station_answers.specs.Walks.{IsDirectTime}
 use Rattle.command_requests.specs.declared.requests.ProfileRequest.{ProfileRequest}
 use Rattle.image_commands.specs.Answering.{IsShown}
-use Rattle.image_commands.specs.Listing.{form_text}
+use Rattle.image_commands.specs.Listing.{IsInForm}
 use Rattle.image_commands.specs.Picturing.{IsDrawn}
 use Rattle.image_commands.specs.declared.profile.Profile.{Profile}
 
@@ -22,7 +22,7 @@ pub answer_shown : {V : Type 0} (figures : V → Figures) (rules : Rules V) (nam
     → IsAnswerBetween rules t b (map point_of departures)
     → ((departure : Departure V) → Contains departures departure → AttainsBetween rules t b (point_of departure) departure.journey)
     → IsDirectTime t b walk → read ≡ length (window_between t b)
-    → string_bytes profile.text ≡ form_text figures names image request.form departures read walk
+    → IsInForm figures names image request.form departures read walk (string_bytes profile.text)
     → IsDrawn figures image request b departures walk profile.picture → IsShown figures rules names request image b profile
 answer_shown {V} figures rules names request image b t departures walk read profile of answer attained direct count is drawn = record {
   departures = departures;
@@ -31,7 +31,7 @@ answer_shown {V} figures rules names request image b t departures walk read prof
   attained = subst (λ (x : TimetableValue). (departure : Departure V) → Contains departures departure
       → AttainsBetween rules x b (point_of departure) departure.journey) of attained;
   direct = subst (λ (x : TimetableValue). IsDirectTime x b walk) of direct;
-  text_is = is ∙ ap (λ (n : ℕ). form_text figures names image request.form departures n walk)
-      (count ∙ ap (λ (x : TimetableValue). length (window_between x b)) of);
+  text_is = subst (λ (n : ℕ). IsInForm figures names image request.form departures n walk (string_bytes profile.text))
+      (count ∙ ap (λ (x : TimetableValue). length (window_between x b)) of) is;
   drawn = drawn;
 }

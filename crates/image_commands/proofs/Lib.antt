@@ -4,3 +4,4 @@ mod Picturing
 mod Ranges
 mod Readings
 mod StopLines
+mod Braces

@@ -22,7 +22,7 @@ use Rattle.image_files.specs.Out.{OutFiles}
 use Rattle.image_files.specs.declared.names.NameForm.{NameForm}
 use Rattle.image_commands.specs.Departing.{IsListUnreadable}
 use Rattle.image_commands.specs.Matrices.{AreListedIn, AreNoSources, AreOfList, AreSources, EndsTable, EndsUnlisted, EndsWritten, HasWindow}
-use Rattle.image_commands.specs.Matrices.{IsShownInPart, IsSpent, IsTableOf, IsTableShown, IsTableSpent, IsUnasked, IsUnlisted, IsUnlistedIn, IsWrittenAt}
+use Rattle.image_commands.specs.Matrices.{IsShownInPart, IsTableOf, IsTableShown, IsUnasked, IsUnlisted, IsUnlistedIn, IsWrittenAt}
 use Rattle.image_commands.specs.Matrices.{counts_of}
 use Rattle.image_commands.proofs.Ranges.{below_all}
 
@@ -170,15 +170,6 @@ unread_list may_hold may_fail path image kind status (inr is) memory why = recor
   unread = λ e. absurd (omega (arith, is, e));
 }
 
--- what was printed of a table if memory ran out
-pub spent_table : (may_hold : List ℕ → Option (List ℕ) → Type 0) (names : NameForm) (image : ImageValue) (request : MatrixRequest)
-    (before after : Option (List ℕ))
-    → HasWindow request
-    → (after ≡ before) ⊎ ((table : TravelTable) × IsTableOf may_hold names image request table × IsSpent table request.out.now before after)
-    → IsTableSpent may_hold names image request before after
-spent_table may_hold names image request before after window (inl same) = inl same
-spent_table may_hold names image request before after window (inr spent) = inr (window, spent)
-
 -- what holds of a call that failed, by the status that was made of it
 pub at_failure : {T E : Type 0} (P : Type 0) (outcome : Result T E) (status : ℕ) → IfOk outcome (λ _. status ≡ ACCEPTED) → OnErr outcome P
     → status ≡ INPUT_OUTPUT → P
@@ -205,8 +196,9 @@ begun_all table before after (text, is, whole) = record {
 }
 
 pub shown_in_part : (disk : OutFiles) (table : TravelTable) (out : List ℕ) (before after : Option (List ℕ)) → IsTableShown disk table out before after
-    → IsShownInPart table out before after
+    → IsShownInPart disk table out before after
 shown_in_part disk table out before after shown = record {
   begun = λ here. begun_all table before after (shown.shown here);
+  put = shown.put;
   counted = λ elsewhere. begun_by_all before after (counts_of table) (shown.counted elsewhere);
 }

@@ -22,7 +22,7 @@ use Rattle.station_answers.specs.Walks.{IsDirectTime}
 use Rattle.station_answers.specs.declared.naming.NoQuestion.{NoQuestion}
 use Rattle.station_answers.specs.declared.naming.NoQuestion.TheVariants.{Bad, OutOfMemory}
 use Rattle.command_requests.specs.declared.requests.ProfileRequest.{ProfileRequest}
-use Rattle.image_commands.specs.Listing.{form_text}
+use Rattle.image_commands.specs.Listing.{IsInForm}
 use Rattle.image_commands.specs.Picturing.{IsDrawn}
 use Rattle.image_commands.specs.Refusing.{refusal_line}
 use Rattle.image_commands.specs.declared.profile.Profile.{Profile}
@@ -40,7 +40,7 @@ pub record IsShown {V : Type 0} (figures : V → Figures) (rules : Rules V) (nam
   pub attained : (departure : Departure V) → Contains departures departure
       → AttainsBetween rules image.timetable b (point_of departure) departure.journey
   pub direct : IsDirectTime image.timetable b walk
-  pub text_is : string_bytes profile.text ≡ form_text figures names image request.form departures (length (window_between image.timetable b)) walk
+  pub text_is : IsInForm figures names image request.form departures (length (window_between image.timetable b)) walk (string_bytes profile.text)
   pub drawn : IsDrawn figures image request b departures walk profile.picture
 
 -- the question is answered under the criterion of this name

@@ -1,5 +1,5 @@
 -- The lines of `csa profile` and of `csa journey`.
-use Rattle.std.specs.Prelude.{ℕ, List, [], ◌++◌, codes, decimal, length, slice_get, Option, None, Some}
+use Rattle.std.specs.Prelude.{◌≡◌, ◌==◌, ℕ, List, [], ◌∷◌, ◌++◌, if◌then◌else◌, codes, decimal, length, slice_get, Option, None, Some}
 use Rattle.std.specs.List.{flat_map}
 use Rattle.criteria.specs.declared.figures.Figures.{Figures}
 use Rattle.departure_lines.specs.Words.{departure_line, numbered_text, walk_word}
@@ -9,6 +9,7 @@ use Rattle.timetable.specs.NamesValue.{NamesValue}
 use Rattle.timetable.specs.declared.network.Connection.{Connection}
 use Rattle.timetable.specs.declared.network.Footpath.{Footpath}
 use Rattle.image_layout.specs.Image.{ImageValue}
+use Rattle.image_facts.specs.Base.{HasBaseMembers}
 use Rattle.image_facts.specs.Naming.{stop_bytes, trip_bytes}
 use Rattle.image_files.specs.Naming.{printed}
 use Rattle.image_files.specs.declared.names.NameForm.{NameForm}
@@ -60,13 +61,21 @@ abbrev pub lines_text : {V : Type 0} → (V → Figures) → (JourneyValue → L
 lines_text figures words departures read walk =
     flat_map (departure_line figures words) departures ++ end_line (length departures) read walk
 
--- a session's reply over the image as version 1
-abbrev pub reply_text : {V : Type 0} → PointForm → (V → Figures) → ImageValue → List (Departure V) → Option ℕ → List ℕ
-reply_text form figures image departures walk = line_of (profile_data (departures_data form image figures departures) 1 walk)
+-- an object of JSON without the brace (123) with which it begins
+abbrev pub without_brace : List ℕ → List ℕ
+without_brace [] = []
+without_brace (first ∷ rest) = if first == 123 then rest else first ∷ rest
+
+-- the base, in seconds and as a date and a time, and the members of a session's reply over the image as version 1
+abbrev pub IsReply : {V : Type 0} → PointForm → (V → Figures) → ImageValue → List (Departure V) → Option ℕ → List ℕ → Type 0
+IsReply form figures image departures walk text =
+    (base : List ℕ) × HasBaseMembers image.names.base base
+    × (text ≡ (base ++ codes ",") ++ without_brace (line_of (profile_data (departures_data form image figures departures) 1 walk)))
 
 -- an answer in a form: lines with the journeys' numbers, or their names as they are written in lines, or a session's reply
-abbrev pub form_text : {V : Type 0} → (V → Figures) → NameForm → ImageValue → AnswerForm → List (Departure V) → ℕ → Option ℕ → List ℕ
-form_text figures names image AnswerForm.Numbers departures read walk = lines_text figures numbered_text departures read walk
-form_text figures names image AnswerForm.Names departures read walk = lines_text figures (named_text (printed names image)) departures read walk
-form_text figures names image AnswerForm.Json departures read walk = reply_text PointForm.Bare figures image departures walk
-form_text figures names image AnswerForm.JsonLegs departures read walk = reply_text PointForm.WithLegs figures image departures walk
+abbrev pub IsInForm : {V : Type 0} → (V → Figures) → NameForm → ImageValue → AnswerForm → List (Departure V) → ℕ → Option ℕ → List ℕ → Type 0
+IsInForm figures names image AnswerForm.Numbers departures read walk text = text ≡ lines_text figures numbered_text departures read walk
+IsInForm figures names image AnswerForm.Names departures read walk text =
+    text ≡ lines_text figures (named_text (printed names image)) departures read walk
+IsInForm figures names image AnswerForm.Json departures read walk text = IsReply PointForm.Bare figures image departures walk text
+IsInForm figures names image AnswerForm.JsonLegs departures read walk text = IsReply PointForm.WithLegs figures image departures walk text

@@ -153,9 +153,10 @@ pub record IsTableShown (disk : OutFiles) (table : TravelTable) (out : List ℕ)
   pub put : out ≢ codes "-" → (text : List ℕ) × IsTable table text × IsPut disk out text
   pub counted : out ≢ codes "-" → Appends before after (counts_of table)
 
--- a first part of that
-pub record IsShownInPart (table : TravelTable) (out : List ℕ) (before after : Option (List ℕ)) : Type 0 where
+-- a first part of that was printed; a table in a file is there before its counts are printed
+pub record IsShownInPart (disk : OutFiles) (table : TravelTable) (out : List ℕ) (before after : Option (List ℕ)) : Type 0 where
   pub begun : out ≡ codes "-" → IsTableBegun table before after
+  pub put : out ≢ codes "-" → (text : List ℕ) × IsTable table text × IsPut disk out text
   pub counted : out ≢ codes "-" → IsBegun before after (counts_of table)
 
 -- a table is asked for whose times make a window, and it was printed, or put at its path
@@ -185,7 +186,7 @@ IsTableUnwritable disk request = (request.out.now ≢ codes "-") × (IsOverRead 
 -- what was printed of a table if it can't be written: nothing, since its file may not be; or, since the output has a fault, a first part of what is printed
 abbrev pub IsCutShort : OutFiles → MatrixRequest → TravelTable → Option ErrorKind → Option (List ℕ) → Option (List ℕ) → Type 0
 IsCutShort disk request table fault before after =
-    (IsTableUnwritable disk request × (after ≡ before)) ⊎ (HasFault fault × IsShownInPart table request.out.now before after)
+    (IsTableUnwritable disk request × (after ≡ before)) ⊎ (HasFault fault × IsShownInPart disk table request.out.now before after)
 
 -- the same of the table that is asked for; or nothing, since a list may not be read, or has what is no stop_id while the output has a fault
 abbrev pub IsReadCutShort : (List ℕ → Option (List ℕ) → Type 0) → (List ℕ → Type 0) → OutFiles → NameForm → ImageValue → MatrixRequest

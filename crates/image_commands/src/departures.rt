@@ -5,11 +5,7 @@ ghost use Rattle.std.specs.Prelude.{◌≡◌, ℕ, [], IfOk, MatchResult, strin
 ghost use Rattle.profile_scan.specs.SetQuery.{IsAskableBetween, question};
 ghost use Rattle.profile_scan.specs.Destinations.{question_to_any};
 ghost use Rattle.station_answers.specs.Naming.{IsNoQuestion};
-ghost use Rattle.std.specs.Io.KnownBytes.{Appends};
-ghost use Rattle.command_requests.specs.declared.statuses.TheConstants.{INPUT_OUTPUT, OUT_OF_MEMORY, REFUSED};
-ghost use Rattle.image_files.specs.Watching.{HasFault, IsBegun};
-ghost use Rattle.image_commands.specs.Refusing.{refusal_line};
-ghost use Rattle.image_commands.specs.declared.refusal.CommandRefusal.TheVariants.{Query as OfQuery};
+ghost use Rattle.command_requests.specs.declared.statuses.TheConstants.{REFUSED};
 ghost use Rattle.departure_lines.specs.Showing.{names_of};
 ghost use Rattle.image_files.specs.Naming.{printed};
 ghost use Rattle.image_commands.specs.declared.wanted_stops.NoList.TheVariants.{UnknownStop};
@@ -53,7 +49,13 @@ pub fn run<H: Files + ImageDisk<Image = H::File> + AllocGlobal, O: Watched, E: W
 {
     match destinations_asked(rt.alloc(), image, request) {
         Ok(destinations) => print_wanted(rt, image, &destinations, request, names, output, errors),
-        Err(NoQuestion::Bad(fault)) => refuse(rt.alloc(), image, request, fault, output, errors),
+        Err(NoQuestion::Bad(fault)) => {
+            let status = print_refusal(rt.alloc(), output, CommandRefusal::Query(fault));
+            if status == status::REFUSED {
+                explain_fault(image, request, fault, errors);
+            }
+            status
+        }
         Err(NoQuestion::OutOfMemory) => status::OUT_OF_MEMORY,
     }
 }
@@ -107,30 +109,6 @@ fn print_all<O: Watched>(
         Ok(text) => status::write_text(output, text.as_str(), status::ACCEPTED),
         Err(_) => status::OUT_OF_MEMORY,
     }
-}
-
-// Prints why the queries can't be asked, and says in `errors` which stops or clocks are at fault.
-fn refuse<O: Watched, E: Write>(
-    alloc: Global,
-    image: &Verified,
-    request: &DeparturesRequest<'_>,
-    fault: QueryFault,
-    output: &mut O,
-    errors: &mut E,
-) -> u8
-    ensures status { EndsUndone result }
-    ensures printed { result ≡ REFUSED
-        → Appends (O.contents output.old) (O.contents output.new) (refusal_line (OfQuery fault)) }
-    ensures silent { result ≡ OUT_OF_MEMORY → O.contents output.new ≡ O.contents output.old }
-    ensures begun { result ≡ INPUT_OUTPUT
-        → IsBegun (O.contents output.old) (O.contents output.new) (refusal_line (OfQuery fault)) }
-    ensures failed { result ≡ INPUT_OUTPUT → HasFault (O.noted output.new) }
-{
-    let status = print_refusal(alloc, output, CommandRefusal::Query(fault));
-    if status == status::REFUSED {
-        explain_fault(image, request, fault, errors);
-    }
-    status
 }
 
 // Says which targets are no stops of the image, or what is wrong with the window.

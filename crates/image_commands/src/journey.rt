@@ -4,7 +4,7 @@ ghost use Rattle.std.specs.Prelude.{◌≡◌, IfOk, string_bytes};
 ghost use Rattle.command_endings.specs.Ending.{IsOutcome, Prints};
 ghost use Rattle.image_commands.specs.Judging.{IsAccepted, IsFaulty, IsVerdict, times_line};
 
-use crate::question::{query_asked, refuse_question};
+use crate::question::{explain_question, query_asked};
 use crate::refusal::{CommandRefusal, print_refusal};
 use command_endings::status;
 use command_requests::JourneyRequest;
@@ -49,7 +49,11 @@ pub fn run<O: Watched, E: Write>(
             Err(_) => status::OUT_OF_MEMORY,
         },
         Err(Failure::BadQuery(fault)) => {
-            refuse_question(alloc, image, &request.question, fault, output, errors)
+            let status = print_refusal(alloc, output, CommandRefusal::Query(fault));
+            if status == status::REFUSED {
+                explain_question(image, &request.question, fault, errors);
+            }
+            status
         }
         Err(Failure::BadText) => {
             let status = print_refusal(alloc, output, CommandRefusal::BadText);

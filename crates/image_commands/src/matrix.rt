@@ -1,7 +1,7 @@
 //! `csa matrix IMAGE OUT --to FILE [--from FILE] --after .. --until .. --by .. --criterion NAME [--each] [--workers N]
 //! [--progress] [--no-warnings]`.
 
-ghost use Rattle.std.specs.Prelude.{◌≡◌, ◌≢◌, ◌⊎◌, ℕ, List, Contains, IfErr, IfOk, IfSome, OnErr, OnOk};
+ghost use Rattle.std.specs.Prelude.{◌≡◌, ◌≢◌, ℕ, List, Contains, IfErr, IfOk, IfSome, OnErr, OnOk};
 ghost use Rattle.std.specs.Prelude.{MatchBool, MatchResult, codes, string_bytes};
 ghost use Rattle.std.specs.Global.{Vec};
 ghost use Rattle.std.specs.Io.KnownBytes.{Appends};
@@ -12,16 +12,11 @@ ghost use Rattle.image_files.specs.Watching.{HasFault, IsBegun};
 ghost use Rattle.std.specs.IoError.{error_kind};
 ghost use Rattle.std.specs.declared.io.ErrorKind.TheVariants.{OutOfMemory as WasOutOfMemory};
 ghost use Rattle.matrix_rows.specs.Tables.{CanBeMade, IsTable, IsTableBegun};
-ghost use Rattle.command_endings.specs.Ending.{EndsUndone};
 ghost use Rattle.image_commands.specs.Matrices.{AreNoSources, AreOfList, AreSources, EndsTable, EndsWritten};
-ghost use Rattle.image_commands.specs.Matrices.{HasNoWindow, HasWindow, IsCutShort, IsOverRead, IsReadCutShort};
+ghost use Rattle.image_commands.specs.Matrices.{HasNoWindow, HasWindow, IsCutShort, IsOverRead};
 ghost use Rattle.image_commands.specs.Matrices.{IsSpent, IsTableCutShort, IsTablePrinted, IsTableSpent};
 ghost use Rattle.image_commands.specs.Matrices.{IsTableRefused, IsTableShown, IsTableUnlisted, IsUnasked, IsUnlisted};
-ghost use Rattle.image_commands.specs.Matrices.{HasUnknown, HoldsOfList, IsNoList, IsTableOf, IsWrittenAt, counts_of};
-ghost use Rattle.image_commands.specs.Matrices.{counts_text};
-ghost use Rattle.image_commands.specs.Refusing.{refusal_line};
-ghost use Rattle.image_commands.specs.declared.refusal.CommandRefusal.TheVariants.{Query};
-ghost use Rattle.timetable.specs.declared.query.QueryFault.TheVariants.{BadWindow};
+ghost use Rattle.image_commands.specs.Matrices.{IsWrittenAt, counts_of, counts_text};
 
 use crate::matrix_lists::{ListOption, all_stops, sets_of_file};
 use crate::matrix_progress::TableProgress;
@@ -33,7 +28,7 @@ use command_requests::{MatrixRequest, TableWorkers};
 use feed_messages::{explain, is_file, shown_path};
 use image_files::{ImageDisk, NameForm, OutDisk, Watched, new_file, settle};
 use image_verifier::Verified;
-use matrix_rows::{TableReports, TravelTable, write_table};
+use matrix_rows::{TravelTable, write_table};
 use std::alloc::{AllocError, Global};
 use std::io;
 use std::io::{ErrorKind, Write};
@@ -85,9 +80,21 @@ pub fn run<
         (O.contents output.old) (O.contents output.new) }
 {
     if !has_window(&request) {
-        return refuse_window(rt.alloc(), &request, output, errors);
+        let refusal = CommandRefusal::Query(QueryFault::BadWindow);
+        let status = print_refusal(rt.alloc(), output, refusal);
+        if status == status::REFUSED {
+            let reason = window_reason(request.after, request.until, request.by);
+            explain(errors, &["csa: ", reason]);
+        }
+        return status;
     }
-    make_table(rt, image, request, names, output, errors, notes)
+    match stops_asked(rt, image, request, errors) {
+        Ok(stops) => {
+            let table = table_of(image, &stops.targets, &stops.sources, request, names);
+            write_unread(rt, &table, request, output, errors, notes)
+        }
+        Err(status) => status,
+    }
 }
 
 // Whether the times make a window: neither the latest departure nor the latest arrival is before the earliest
@@ -133,44 +140,6 @@ fn stops_asked<H: Files + ImageDisk<Image = H::File> + AllocGlobal, E: Write>(
     let targets = targets_asked(rt, image, request, errors)?;
     let sources = sources_asked(rt, image, request, errors)?;
     Ok(AskedStops { targets, sources })
-}
-
-// Reads the lists and writes the table that is asked for.
-fn make_table<
-    H: OutDisk + ImageDisk<Image = H::File> + AllocGlobal + Clock + Threads + Sync,
-    O: Watched,
-    E: Write,
->(
-    rt: &H,
-    image: &Verified,
-    request: MatrixRequest<'_>,
-    names: NameForm,
-    output: &mut O,
-    errors: &mut E,
-    notes: TableNotes,
-) -> u8
-    requires { HasWindow request }
-    ensures status { EndsTable result }
-    ensures printed { result ≡ ACCEPTED → (table : TravelTable) × IsTableOf (H.may_hold rt.now) names image.now
-        request.entry table × IsTableShown (H.files rt.now) table request.entry.out.now
-        (O.contents output.old) (O.contents output.new) }
-    ensures refused { result ≡ REFUSED → HoldsOfList (H.may_hold rt.now) request.entry image.now (HasUnknown image.now)
-        × (O.contents output.new ≡ O.contents output.old) }
-    ensures unlisted { result ≡ COMMAND_LINE → HoldsOfList (H.may_hold rt.now) request.entry image.now
-        (IsNoList image.now) × (O.contents output.new ≡ O.contents output.old) }
-    ensures cut { result ≡ INPUT_OUTPUT → IsReadCutShort (H.may_hold rt.now) (H.may_fail rt.now) (H.files rt.now)
-        names image.now request.entry (O.noted output.new) (O.contents output.old) (O.contents output.new) }
-    ensures spent { result ≡ OUT_OF_MEMORY → (O.contents output.new ≡ O.contents output.old)
-        ⊎ ((table : TravelTable) × IsTableOf (H.may_hold rt.now) names image.now request.entry table
-        × IsSpent table request.entry.out.now (O.contents output.old) (O.contents output.new)) }
-{
-    match stops_asked(rt, image, request, errors) {
-        Ok(stops) => {
-            let table = table_of(image, &stops.targets, &stops.sources, request, names);
-            write_unread(rt, &table, request, output, errors, notes)
-        }
-        Err(status) => status,
-    }
 }
 
 // Writes the table, if its file isn't one that is read.
@@ -312,30 +281,6 @@ fn sources_asked<H: Files + ImageDisk<Image = H::File> + AllocGlobal, E: Write>(
     }
 }
 
-// Prints the refusal of a window, and says what is wrong.
-fn refuse_window<O: Watched, E: Write>(
-    alloc: Global,
-    request: &MatrixRequest<'_>,
-    output: &mut O,
-    errors: &mut E,
-) -> u8
-    ensures status { EndsUndone result }
-    ensures printed { result ≡ REFUSED
-        → Appends (O.contents output.old) (O.contents output.new) (refusal_line (Query BadWindow)) }
-    ensures begun { result ≡ INPUT_OUTPUT
-        → IsBegun (O.contents output.old) (O.contents output.new) (refusal_line (Query BadWindow)) }
-    ensures silent { result ≡ OUT_OF_MEMORY → O.contents output.new ≡ O.contents output.old }
-    ensures failed { result ≡ INPUT_OUTPUT → HasFault (O.noted output.new) }
-{
-    let refusal = CommandRefusal::Query(QueryFault::BadWindow);
-    let status = print_refusal(alloc, output, refusal);
-    if status == status::REFUSED {
-        let reason = window_reason(request.after, request.until, request.by);
-        explain(errors, &["csa: ", reason]);
-    }
-    status
-}
-
 // Writes the table to where it is asked for, and says how that ended.
 fn write_asked<H: OutDisk + AllocGlobal + Clock + Threads + Sync, O: Watched, E: Write>(
     rt: &H,
@@ -361,18 +306,17 @@ fn write_asked<H: OutDisk + AllocGlobal + Clock + Threads + Sync, O: Watched, E:
     } else {
         None
     };
-    let outcome = put_reported(rt, table, request, output, log, is_terminal);
     if request.out == "-" {
-        return printed(outcome);
+        return printed(print_table(rt, table, request, output, log, is_terminal));
     }
-    match outcome {
+    match put_table(rt, table, request, log, is_terminal) {
         Ok(()) => print_counts(rt.alloc(), table, output),
         Err(error) => status::report_unwritten(errors, request.out, error.kind()),
     }
 }
 
-// Writes the table to where it is asked for, and reports progress to `log`, if there is one.
-fn put_reported<'c, H: OutDisk + AllocGlobal + Clock + Threads + Sync, O: Watched, E: Write>(
+// Prints the table, and reports progress to `log`, if there is one.
+fn print_table<'c, H: AllocGlobal + Clock + Threads + Sync, O: Watched, E: Write>(
     rt: &'c H,
     table: &TravelTable<'_>,
     request: MatrixRequest<'_>,
@@ -382,54 +326,35 @@ fn put_reported<'c, H: OutDisk + AllocGlobal + Clock + Threads + Sync, O: Watche
 ) -> io::Result<()>
     requires can { (targets : Vec ℕ) → Contains table.now.targets.now targets
         → CanBeMade table.now targets.items }
-    ensures shown { request.entry.out.now ≡ codes "-" → OnOk result ((text : List ℕ) × IsTable table.now text
+    ensures shown { OnOk result ((text : List ℕ) × IsTable table.now text
         × Appends (O.contents output.old) (O.contents output.new) text) }
-    ensures put { request.entry.out.now ≢ codes "-" → OnOk result ((text : List ℕ) × IsTable table.now text
-        × IsPut (H.files rt.now) request.entry.out.now text) }
-    ensures begun { request.entry.out.now ≡ codes "-"
-        → OnErr result (IsTableBegun table.now (O.contents output.old) (O.contents output.new)) }
-    ensures kept { request.entry.out.now ≢ codes "-" → O.contents output.new ≡ O.contents output.old }
-    ensures failed { request.entry.out.now ≡ codes "-"
-        → IfErr result (λ error. error_kind error ≢ WasOutOfMemory → HasFault (O.noted output.new)) }
-    ensures unwritten { request.entry.out.now ≢ codes "-"
-        → IfErr result (λ error. error_kind error ≢ WasOutOfMemory
-        → IsUnwritable (H.files rt.now) request.entry.out.now) }
+    ensures begun { OnErr result (IsTableBegun table.now (O.contents output.old) (O.contents output.new)) }
+    ensures failed { IfErr result (λ error. error_kind error ≢ WasOutOfMemory → HasFault (O.noted output.new)) }
 {
     let mut progress = TableProgress::new(rt.alloc(), rt, log, is_terminal, table.targets.len());
     let workers = workers_of(rt, request.workers);
-    let outcome = put_table(rt, table, workers, request.out, output, &mut progress);
+    let outcome = write_table(rt, table, workers.number, output, &mut progress);
     progress.close();
     outcome
 }
 
-// Writes the table to a path, or to `output` if that is `-`.
-fn put_table<H: OutDisk + AllocGlobal + Threads + Sync, O: Watched, P: TableReports>(
-    rt: &H,
+// Puts the table at its path, and reports progress to `log`, if there is one.
+fn put_table<'c, H: OutDisk + AllocGlobal + Clock + Threads + Sync, E: Write>(
+    rt: &'c H,
     table: &TravelTable<'_>,
-    workers: TableWorkers,
-    path: &str,
-    output: &mut O,
-    reports: &mut P,
+    request: MatrixRequest<'_>,
+    log: Option<&'c mut E>,
+    is_terminal: bool,
 ) -> io::Result<()>
     requires can { (targets : Vec ℕ) → Contains table.now.targets.now targets
         → CanBeMade table.now targets.items }
-    ensures shown { path.now ≡ codes "-" → OnOk result ((text : List ℕ) × IsTable table.now text
-        × Appends (O.contents output.old) (O.contents output.new) text) }
-    ensures put { path.now ≢ codes "-" → OnOk result ((text : List ℕ) × IsTable table.now text
-        × IsPut (H.files rt.now) path.now text) }
-    ensures begun { path.now ≡ codes "-"
-        → OnErr result (IsTableBegun table.now (O.contents output.old) (O.contents output.new)) }
-    ensures kept { path.now ≢ codes "-" → O.contents output.new ≡ O.contents output.old }
-    ensures failed { path.now ≡ codes "-"
-        → IfErr result (λ error. error_kind error ≢ WasOutOfMemory → HasFault (O.noted output.new)) }
-    ensures unwritten { path.now ≢ codes "-"
-        → IfErr result (λ error. error_kind error ≢ WasOutOfMemory → IsUnwritable (H.files rt.now) path.now) }
+    ensures put { OnOk result ((text : List ℕ) × IsTable table.now text
+        × IsPut (H.files rt.now) request.entry.out.now text) }
+    ensures unwritten { IfErr result (λ error. error_kind error ≢ WasOutOfMemory
+        → IsUnwritable (H.files rt.now) request.entry.out.now) }
 {
-    if path == "-" {
-        return write_table(rt, table, workers.number, output, reports);
-    }
-    let mut file = new_file(rt, path)?;
-    let outcome = write_table(rt, table, workers.number, &mut file.file, reports);
+    let mut file = new_file(rt, request.out)?;
+    let outcome = print_table(rt, table, request, &mut file.file, log, is_terminal);
     settle(rt, file, outcome)
 }
 

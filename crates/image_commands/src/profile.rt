@@ -2,17 +2,12 @@
 //! [--names | --json [--legs]] [--picture FILE [--rows N]]`.
 
 ghost use Rattle.std.specs.Prelude.{◌≡◌, IfOk, OnErr, OnOk, string_bytes, true};
-ghost use Rattle.std.specs.Io.KnownBytes.{Appends};
 ghost use Rattle.profile_scan.specs.SetQuery.{IsAskableBetween, question};
-ghost use Rattle.command_requests.specs.declared.statuses.TheConstants.{INPUT_OUTPUT, OUT_OF_MEMORY, REFUSED};
 ghost use Rattle.image_commands.specs.Answering.{IsPicturePut, IsPictureUnwritable, IsProfile, IsShown, IsShownBy};
 ghost use Rattle.image_commands.specs.Answering.{IsOverFile, IsPictureUnwritten, LacksPicture};
-ghost use Rattle.image_files.specs.Watching.{HasFault, IsBegun};
 ghost use Rattle.image_commands.specs.Commands.{PrintsProfile};
-ghost use Rattle.command_endings.specs.Ending.{EndsUndone, IsOutcome, PrintsOnly};
-ghost use Rattle.image_commands.specs.Listing.{form_text};
-ghost use Rattle.image_commands.specs.Refusing.{refusal_line};
-ghost use Rattle.image_commands.specs.declared.refusal.CommandRefusal.TheVariants.{Query as OfQuery};
+ghost use Rattle.command_endings.specs.Ending.{IsOutcome, PrintsOnly};
+ghost use Rattle.image_commands.specs.Listing.{IsInForm};
 
 use crate::listing::{named_lines, numbered_lines};
 use crate::pictured::picture_asked;
@@ -59,7 +54,13 @@ pub fn run<H: OutDisk + AllocGlobal, O: Watched, E: Write>(
 {
     match profile_asked(rt.alloc(), image, request, names) {
         Ok(profile) => print_profile(rt, &profile, request, output, errors),
-        Err(NoQuestion::Bad(fault)) => refuse(rt.alloc(), image, request, fault, output, errors),
+        Err(NoQuestion::Bad(fault)) => {
+            let status = print_refusal(rt.alloc(), output, CommandRefusal::Query(fault));
+            if status == status::REFUSED {
+                explain_profile(image, request, fault, errors);
+            }
+            status
+        }
         Err(NoQuestion::OutOfMemory) => status::OUT_OF_MEMORY,
     }
 }
@@ -199,8 +200,8 @@ pub(crate) fn text_in_form<C: ShowsFigures>(
     answer: &Answer<C>,
     form: AnswerForm,
 ) -> Result<String, AllocError>
-    ensures { IfOk result (λ text. string_bytes text ≡
-        form_text C.figures names image.now form answer.now.departures.items answer.now.read answer.now.walk) }
+    ensures { IfOk result (λ text. IsInForm C.figures names image.now form answer.now.departures.items
+        answer.now.read answer.now.walk (string_bytes text)) }
 {
     match form {
         AnswerForm::Numbers => numbered_lines(alloc, criterion, answer),
@@ -208,30 +209,6 @@ pub(crate) fn text_in_form<C: ShowsFigures>(
         AnswerForm::Json => reply_line(alloc, PointForm::Bare, image, criterion, answer),
         AnswerForm::JsonLegs => reply_line(alloc, PointForm::WithLegs, image, criterion, answer),
     }
-}
-
-/// Prints why a question can't be asked of an image, and says in `errors` which stops or clocks are at fault.
-fn refuse<O: Watched, E: Write>(
-    alloc: Global,
-    image: &Verified,
-    request: &ProfileRequest<'_>,
-    fault: QueryFault,
-    output: &mut O,
-    errors: &mut E,
-) -> u8
-    ensures status { EndsUndone result }
-    ensures printed { result ≡ REFUSED
-        → Appends (O.contents output.old) (O.contents output.new) (refusal_line (OfQuery fault)) }
-    ensures silent { result ≡ OUT_OF_MEMORY → O.contents output.new ≡ O.contents output.old }
-    ensures begun { result ≡ INPUT_OUTPUT
-        → IsBegun (O.contents output.old) (O.contents output.new) (refusal_line (OfQuery fault)) }
-    ensures failed { result ≡ INPUT_OUTPUT → HasFault (O.noted output.new) }
-{
-    let status = print_refusal(alloc, output, CommandRefusal::Query(fault));
-    if status == status::REFUSED {
-        explain_profile(image, request, fault, errors);
-    }
-    status
 }
 
 /// Says which stops the image doesn't have or are on both sides, or what is wrong with the window.

@@ -1,21 +1,12 @@
 //! The query that the command line asks of an image, or what is wrong with it.
 
-ghost use Rattle.std.specs.Prelude.{◌≡◌, MatchResult};
-ghost use Rattle.std.specs.Io.KnownBytes.{Appends};
+ghost use Rattle.std.specs.Prelude.{MatchResult};
 ghost use Rattle.timetable.specs.Queries.{IsAskable};
 ghost use Rattle.journeys.specs.Questions.{Asks, IsRefused};
-ghost use Rattle.command_requests.specs.declared.statuses.TheConstants.{INPUT_OUTPUT, OUT_OF_MEMORY, REFUSED};
 ghost use Rattle.image_commands.specs.Asking.{window_of};
-ghost use Rattle.command_endings.specs.Ending.{EndsUndone};
-ghost use Rattle.image_files.specs.Watching.{HasFault, IsBegun};
-ghost use Rattle.image_commands.specs.Refusing.{refusal_line};
-ghost use Rattle.image_commands.specs.declared.refusal.CommandRefusal.TheVariants.{Query as OfQuery};
 
-use crate::refusal::{CommandRefusal, print_refusal};
-use command_endings::status;
 use command_requests::Question;
 use feed_messages::{explain, quoted};
-use image_files::Watched;
 use image_verifier::Verified;
 use journeys::{Window, query_of};
 use std::alloc::Global;
@@ -42,35 +33,11 @@ pub fn query_asked(image: &Verified, question: &Question<'_>) -> Result<Query, Q
     )
 }
 
-/// Prints why a question makes no query of an image, and says in `errors` which end or clock is at fault.
-pub fn refuse_question<O: Watched, E: Write>(
-    alloc: Global,
-    image: &Verified,
-    question: &Question<'_>,
-    fault: QueryFault,
-    output: &mut O,
-    errors: &mut E,
-) -> u8
-    ensures status { EndsUndone result }
-    ensures printed { result ≡ REFUSED
-        → Appends (O.contents output.old) (O.contents output.new) (refusal_line (OfQuery fault)) }
-    ensures silent { result ≡ OUT_OF_MEMORY → O.contents output.new ≡ O.contents output.old }
-    ensures begun { result ≡ INPUT_OUTPUT
-        → IsBegun (O.contents output.old) (O.contents output.new) (refusal_line (OfQuery fault)) }
-    ensures failed { result ≡ INPUT_OUTPUT → HasFault (O.noted output.new) }
-{
-    let status = print_refusal(alloc, output, CommandRefusal::Query(fault));
-    if status == status::REFUSED {
-        explain_question(image, question, fault, errors);
-    }
-    status
-}
-
 /// What is wrong with a question from a stop to itself.
 pub const SAME_STOP: &str = "csa: --from and --to are the same stop";
 
 /// Says which end is no stop of the image, that both ends are the same, or what is wrong with the window.
-fn explain_question<E: Write>(
+pub fn explain_question<E: Write>(
     image: &Verified,
     question: &Question<'_>,
     fault: QueryFault,

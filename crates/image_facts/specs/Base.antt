@@ -53,3 +53,11 @@ IsUtc form instant text =
 -- the base as a number, and as a date and a time
 abbrev pub HasBase : ℤ → List ℕ → Type 0
 HasBase base lines = (utc : List ℕ) × IsUtc Form.Lines base utc × (lines ≡ base_line base ++ utc)
+
+-- the base in seconds, as the first member of an object of JSON
+abbrev pub base_member : ℤ → List ℕ
+base_member base = codes "{\"base\":" ++ signed_decimal base
+
+-- the same, and then as a date and a time
+abbrev pub HasBaseMembers : ℤ → List ℕ → Type 0
+HasBaseMembers base text = (utc : List ℕ) × IsUtc Form.Json base utc × (text ≡ base_member base ++ utc)

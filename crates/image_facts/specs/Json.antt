@@ -1,9 +1,8 @@
 -- What an image has, as an object of JSON on one line: its keys are the words of the lines, in the order of their bytes.
 use Rattle.std.specs.Prelude.{◌≡◌, ◌++◌, List, ℕ, codes, decimal, length}
-use Rattle.std.specs.Fmt.{signed_decimal}
 use Rattle.image_layout.specs.Image.{ImageValue}
 use Rattle.image_layout.specs.Spelling.{text}
-use Rattle.image_facts.specs.Base.{IsUtc}
+use Rattle.image_facts.specs.Base.{IsUtc, base_member}
 use Rattle.image_facts.specs.Days.{HasDays, trip_days}
 use Rattle.image_facts.specs.Facts.{file_bytes}
 use Rattle.text_pieces.specs.declared.form.Form.{Form}
@@ -11,7 +10,7 @@ use Rattle.text_pieces.specs.declared.form.Form.{Form}
 -- the base in seconds, the bytes of the file, and how many connections and footpaths there are
 unfoldable pub sizes_json : ImageValue → List ℕ
 sizes_json image =
-    (((codes "{\"base\":" ++ signed_decimal image.names.base) ++ (codes ",\"bytes\":" ++ decimal (file_bytes image)))
+    ((base_member image.names.base ++ (codes ",\"bytes\":" ++ decimal (file_bytes image)))
     ++ (codes ",\"connections\":" ++ decimal (length image.timetable.connections)))
     ++ (codes ",\"footpaths\":" ++ decimal (length image.timetable.footpaths))
 

@@ -2,7 +2,8 @@
 
 ghost use Rattle.std.specs.Prelude.{◌≡◌, ◌++◌, List, ℕ, OnOk, string_bytes};
 ghost use Rattle.timetable.specs.Clocks.{clock_bytes};
-ghost use Rattle.image_facts.specs.Base.{HasBase, IsUtc, base_line, date_text, moment_text, no_utc_text, sign_text};
+ghost use Rattle.image_facts.specs.Base.{HasBase, HasBaseMembers, IsUtc, base_line, date_text};
+ghost use Rattle.image_facts.specs.Base.{moment_text, no_utc_text, sign_text};
 ghost use Rattle.image_facts.specs.Base.{utc_day, utc_second, utc_text, year_text};
 
 use crate::putting::put_signed;
@@ -23,6 +24,17 @@ pub fn append_base(lines: &mut String, base: i64) -> Result<(), AllocError>
 {
     append_seconds(lines, base)?;
     append_utc(lines, Form::Lines, base)?;
+    Ok(())
+}
+
+/// Begins an object of JSON with an instant: in seconds after 1970-01-01T00:00:00Z, and as a date and a time of UTC, or
+/// null if its year isn't one of -9999 to 9999.
+pub fn begin_with_base(json: &mut String, base: i64) -> Result<(), AllocError>
+    ensures { OnOk result ((text : List ℕ) × HasBaseMembers base text
+        × (string_bytes json.new ≡ string_bytes json.old ++ text)) }
+{
+    put_signed(json, "{\"base\":", base)?;
+    append_utc(json, Form::Json, base)?;
     Ok(())
 }
 

@@ -9,6 +9,7 @@ mod json;
 mod naming;
 mod putting;
 
+pub use base::begin_with_base;
 pub use facts::facts_of;
 pub use json::json_of;
 pub use naming::{connection_at, stop_name, trip_name};

@@ -227,6 +227,27 @@ fn terminals_get_no_control_characters(rt: HostRuntime) -> io::Result<()> {
     Ok(())
 }
 
+/// A terminal gets the same text byte by byte. The first byte of a control character waits for the second; at a flush
+/// it is written by its code.
+#[test]
+fn terminals_get_the_same_of_single_bytes(rt: HostRuntime) -> io::Result<()> {
+    let text = "Z\u{fc}rich\t\u{1b}[2J \u{9b}H \u{a9}\n";
+    let mut held: Vec<u8> = Vec::new(rt.alloc());
+    let mut shown = ShownWriter::of(&mut held, true);
+    for byte in text.as_bytes() {
+        shown.write_all(&[*byte])?;
+    }
+    shown.write_all(&[0xC2])?;
+    shown.flush()?;
+    shown.write_all(&[0xC2, 0xC2, 0x9B])?;
+    let wanted = "Z\u{fc}rich\t\\u001b[2J \\u009bH \u{a9}\n\\u00c2";
+    assert!(rt; held.len() == wanted.len() + 7);
+    let (first, last) = held.split_at(wanted.len());
+    assert!(rt; first == wanted.as_bytes());
+    assert!(rt; last == b"\xC2\\u009b".as_slice());
+    Ok(())
+}
+
 /// Standard error says why there are no words of a command line.
 #[test]
 fn words_that_cannot_be_read_are_reported(rt: HostRuntime) {

@@ -1,6 +1,7 @@
 //! `csa info` and `csa days`: what an image has, and which service days a feed has.
 
 use crate::tests::transcript::try_transcripts;
+use std::fs;
 use std::test::Fail;
 
 const IMAGES: &str = "
@@ -184,6 +185,13 @@ shows profile days.csa --from A --to C --after 08:00:00 --until 08:12:00 --by 10
 prints dep 08:00:00 arr 08:20:00 : ride T1 08:00:00 A 08:10:00 B\\u000a1 walk B\\u000a1 B\\u000a1 0 \
 ride T\\u000a2 08:12:00 B\\u000a1 08:20:00 C
 answers points 1 read 3 walk none
+shows profile days.csa --from A --to C --after 08:00:00 --until 08:12:00 --by 10:00:00 --criterion arrival --json \
+--legs
+answers {\"base\":1705276800,\"utc\":\"2024-01-15T00:00:00Z\",\"ok\":\"profile\",\"points\":[{\"arr\":\"08:20:00\",\
+\"dep\":\"08:00:00\",\"journey\":\"ride 0 0 walk 1 1 0 ride 2 2\",\"legs\":[{\"arr\":\"08:10:00\",\"day\":20240115,\
+\"dep\":\"08:00:00\",\"from\":\"A\",\"to\":\"B\\n1\",\"trip\":\"T1\"},{\"from\":\"B\\n1\",\"secs\":0,\"to\":\"B\\n1\"},\
+{\"arr\":\"08:20:00\",\"day\":20240115,\"dep\":\"08:12:00\",\"from\":\"B\\n1\",\"to\":\"C\",\"trip\":\"T\\n2\"}]}],\
+\"version\":1,\"walk\":null}
 shows departures days.csa --to C --after 08:00:00 --until 08:12:00 --by 10:00:00 --criterion arrival
 prints A dep 08:00:00 arr 08:20:00 : ride 0 0 walk 1 1 0 ride 2 2
 prints B\\u000a1 dep 08:12:00 arr 08:20:00 : ride 2 2
@@ -205,6 +213,9 @@ shows matrix days.csa - --to targets --after 08:00:00 --until 08:12:00 --by 10:0
 prints from,to,points,first_departure,last_departure,least_seconds,mean_seconds,walk
 prints A,C,1,08:00:00,08:00:00,1200,,
 answers B\\u000a1,C,1,08:12:00,08:12:00,480,840,
+shows matrix days.csa shown.csv --to targets --after 08:00:00 --until 08:12:00 --by 10:00:00 --criterion arrival \
+--no-warnings
+answers targets 1 sources 3
 asks matrix days.csa - --to targets --after 08:00:00 --until 08:12:00 --by 10:00:00 --criterion arrival
 prints from,to,points,first_departure,last_departure,least_seconds,mean_seconds,walk
 prints A,C,1,08:00:00,08:00:00,1200,,
@@ -305,5 +316,14 @@ answers refused 1 MissingFile agency.txt 0
 
 #[test]
 fn images_and_feeds_are_described(rt: HostRuntime) -> Result<(), Fail> {
-    try_transcripts(&rt, &[IMAGES, DAYS])
+    try_transcripts(&rt, &[IMAGES, DAYS])?;
+    // a table in a file has ids as they are, also if a terminal gets its counts
+    let table = fs::read_to_string(&rt, "shown.csv")?;
+    assert!(rt;
+        table
+            .as_str()
+            .ends_with("\n\"B\n1\",C,1,08:12:00,08:12:00,480,840,\n")
+    );
+    fs::remove_file(&rt, "shown.csv")?;
+    Ok(())
 }

@@ -68,7 +68,7 @@ prints dep 08:30:00 arr 08:40:00 : ride 3 3
 prints dep 08:40:00 arr 08:50:00 : ride 4 4
 answers points 5 read 5 walk none
 asks profile - --from A --to B --after 07:00:00 --until 09:00:00 --by 10:00:00 --criterion arrival --json
-answers {\"ok\":\"profile\",\"points\":[{\"arr\":\"08:10:00\",\"dep\":\"08:00:00\",\"journey\":\"ride 0 0\"},{\"arr\":\"08:20:00\",\"dep\":\"08:10:00\",\"journey\":\"ride 1 1\"},{\"arr\":\"08:30:00\",\"dep\":\"08:20:00\",\"journey\":\"ride 2 2\"},{\"arr\":\"08:40:00\",\"dep\":\"08:30:00\",\"journey\":\"ride 3 3\"},{\"arr\":\"08:50:00\",\"dep\":\"08:40:00\",\"journey\":\"ride 4 4\"}],\"version\":1,\"walk\":null}
+answers {\"base\":1705276800,\"utc\":\"2024-01-15T00:00:00Z\",\"ok\":\"profile\",\"points\":[{\"arr\":\"08:10:00\",\"dep\":\"08:00:00\",\"journey\":\"ride 0 0\"},{\"arr\":\"08:20:00\",\"dep\":\"08:10:00\",\"journey\":\"ride 1 1\"},{\"arr\":\"08:30:00\",\"dep\":\"08:20:00\",\"journey\":\"ride 2 2\"},{\"arr\":\"08:40:00\",\"dep\":\"08:30:00\",\"journey\":\"ride 3 3\"},{\"arr\":\"08:50:00\",\"dep\":\"08:40:00\",\"journey\":\"ride 4 4\"}],\"version\":1,\"walk\":null}
 asks profile - --from A --to B --after 08:10:00 --until 09:00:00 --by 10:00:00 --criterion arrival+trips --names
 prints dep 08:10:00 arr 08:20:00 trips 1 : ride T2 08:10:00 A 08:20:00 B
 prints dep 08:20:00 arr 08:30:00 trips 1 : ride T3 08:20:00 A 08:30:00 B
@@ -174,13 +174,13 @@ judge A C 07:00:00 09:00:00 10:00:00 walk 0 1 60 ride 2 2 | ok dep 08:11:00 arr 
 
 # As a reply of a session, which has no names.
 asks profile - --from A --to C --after 07:00:00 --until 09:00:00 --by 10:00:00 --criterion arrival+trips --json
-answers {\"ok\":\"profile\",\"points\":[{\"arr\":\"08:11:00\",\"dep\":\"08:00:00\",\"journey\":\"ride 0 0 walk 1 2 60\",\"trips\":1},{\"arr\":\"08:20:00\",\"dep\":\"08:11:00\",\"journey\":\"walk 0 1 60 ride 2 2\",\"trips\":1}],\"version\":1,\"walk\":120}
+answers {\"base\":1705276800,\"utc\":\"2024-01-15T00:00:00Z\",\"ok\":\"profile\",\"points\":[{\"arr\":\"08:11:00\",\"dep\":\"08:00:00\",\"journey\":\"ride 0 0 walk 1 2 60\",\"trips\":1},{\"arr\":\"08:20:00\",\"dep\":\"08:11:00\",\"journey\":\"walk 0 1 60 ride 2 2\",\"trips\":1}],\"version\":1,\"walk\":120}
 asks profile - --from A --to C --after 07:00:00 --until 09:00:00 --by 10:00:00 --criterion arrival+trips --json --names
 complains 64
 
 # With the legs of each journey, by their ids; only in that reply.
 asks profile - --from A --to C --after 07:00:00 --until 09:00:00 --by 10:00:00 --criterion arrival+trips --json --legs
-answers {\"ok\":\"profile\",\"points\":[{\"arr\":\"08:11:00\",\"dep\":\"08:00:00\",\"journey\":\"ride 0 0 walk 1 2 60\",\"legs\":[{\"arr\":\"08:10:00\",\"day\":20240115,\"dep\":\"08:00:00\",\"from\":\"A\",\"to\":\"B\",\"trip\":\"T1\"},{\"from\":\"B\",\"secs\":60,\"to\":\"C\"}],\"trips\":1},{\"arr\":\"08:20:00\",\"dep\":\"08:11:00\",\"journey\":\"walk 0 1 60 ride 2 2\",\"legs\":[{\"from\":\"A\",\"secs\":60,\"to\":\"B\"},{\"arr\":\"08:20:00\",\"day\":20240115,\"dep\":\"08:12:00\",\"from\":\"B\",\"to\":\"C\",\"trip\":\"T2\"}],\"trips\":1}],\"version\":1,\"walk\":120}
+answers {\"base\":1705276800,\"utc\":\"2024-01-15T00:00:00Z\",\"ok\":\"profile\",\"points\":[{\"arr\":\"08:11:00\",\"dep\":\"08:00:00\",\"journey\":\"ride 0 0 walk 1 2 60\",\"legs\":[{\"arr\":\"08:10:00\",\"day\":20240115,\"dep\":\"08:00:00\",\"from\":\"A\",\"to\":\"B\",\"trip\":\"T1\"},{\"from\":\"B\",\"secs\":60,\"to\":\"C\"}],\"trips\":1},{\"arr\":\"08:20:00\",\"dep\":\"08:11:00\",\"journey\":\"walk 0 1 60 ride 2 2\",\"legs\":[{\"from\":\"A\",\"secs\":60,\"to\":\"B\"},{\"arr\":\"08:20:00\",\"day\":20240115,\"dep\":\"08:12:00\",\"from\":\"B\",\"to\":\"C\",\"trip\":\"T2\"}],\"trips\":1}],\"version\":1,\"walk\":120}
 asks profile - --from A --to C --after 07:00:00 --until 09:00:00 --by 10:00:00 --criterion arrival+trips --legs
 complains 64
 asks profile - --from A --to C --after 07:00:00 --until 09:00:00 --by 10:00:00 --criterion arrival+trips --names --legs

@@ -51,12 +51,13 @@ answers points 2 read 3 walk none
 # As JSON, and with legs.
 asks profile swiss.csa --from ch:1:sloid:3000:500:31 --from 8503000 --to ch:1:sloid:1008:2:3 --after 08:00:00 \
 --until 08:40:00 --by 12:00:00 --criterion arrival --json
-answers {\"ok\":\"profile\",\"points\":[{\"arr\":\"11:15:00\",\"dep\":\"08:32:00\",\"journey\":\"ride 1 \
-1\"}],\"version\":1,\"walk\":null}
+answers {\"base\":1705276800,\"utc\":\"2024-01-15T00:00:00Z\",\"ok\":\"profile\",\
+\"points\":[{\"arr\":\"11:15:00\",\"dep\":\"08:32:00\",\"journey\":\"ride 1 1\"}],\"version\":1,\"walk\":null}
 asks profile swiss.csa --from ch:1:sloid:3000:500:31 --from 8503000 --to ch:1:sloid:1008:2:3 --after 08:00:00 \
 --until 08:40:00 --by 12:00:00 --criterion arrival --json --legs
-answers {\"ok\":\"profile\",\"points\":[{\"arr\":\"11:15:00\",\"dep\":\"08:32:00\",\"journey\":\"ride 1 \
-1\",\"legs\":[{\"arr\":\"11:15:00\",\"day\":20240115,\"dep\":\"08:32:00\",\"from\":\"ch:1:sloid:3000:500:31\",\"\
+answers {\"base\":1705276800,\"utc\":\"2024-01-15T00:00:00Z\",\"ok\":\"profile\",\
+\"points\":[{\"arr\":\"11:15:00\",\"dep\":\"08:32:00\",\"journey\":\"ride 1 1\",\"legs\":[{\"arr\":\"11:15:00\",\
+\"day\":20240115,\"dep\":\"08:32:00\",\"from\":\"ch:1:sloid:3000:500:31\",\"\
 to\":\"ch:1:sloid:1008:2:3\",\"trip\":\"IC5\"}]}],\"version\":1,\"walk\":null}
 
 # The shortest walk of any pair: two minutes from Bern 7 to Bern 8, none to Genève.

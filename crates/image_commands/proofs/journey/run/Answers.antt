@@ -17,29 +17,29 @@ returns-in-Ok-line_of g c =
     written_or (IsAccepted image question text) (IsFaulty image question text) _ _ c.as_str.result.now _ _ (c.in-Ok.times, c.in-Ok.ensures, same)
     wrote.status wrote.written wrote.begun wrote.failed
 
-pub returns-in-Err-BadQuery : goal.returns-in-Err-BadQuery
-returns-in-Err-BadQuery g c =
-    let image = c.args.image.now in
-    let question = c.args.request.question in
-    let text = c.args.request.text.now in
-    let fault = c.in-Err-BadQuery.fault in
-    let verdict : IsVerdict image question text (Err (BadQuery fault)) = search rules in
-    let done = c.refuse_question.ensures in
-    refused_or (IsAccepted image question text) (IsFaulty image question text) _ _ (refusal_line (OfQuery fault)) _ _
-    (BadQuery fault, OfQuery fault, verdict, refl, refl) done.status done.printed done.silent done.begun done.failed
-
 pub returns-else-status-eq-REFUSED : goal.returns-else-status-eq-REFUSED
 returns-else-status-eq-REFUSED g c =
     let image = c.args.image.now in
     let question = c.args.request.question in
     let text = c.args.request.text.now in
-    let verdict : IsVerdict image question text (Err BadText) = search rules in
+    let fault = c.in-Err-BadQuery.fault in
+    let verdict : IsVerdict image question text (Err (BadQuery fault)) = search rules in
     let done = c.print_refusal-status.ensures in
-    refused_or (IsAccepted image question text) (IsFaulty image question text) _ _ (refusal_line OfText) _ _
-    (BadText, OfText, verdict, refl, refl) done.status done.printed done.silent done.begun done.failed
+    refused_or (IsAccepted image question text) (IsFaulty image question text) _ _ (refusal_line (OfQuery fault)) _ _
+    (BadQuery fault, OfQuery fault, verdict, refl, refl) done.status done.printed done.silent done.begun done.failed
 
 pub returns-else-status-eq-REFUSED-2 : goal.returns-else-status-eq-REFUSED-2
 returns-else-status-eq-REFUSED-2 g c =
+    let image = c.args.image.now in
+    let question = c.args.request.question in
+    let text = c.args.request.text.now in
+    let verdict : IsVerdict image question text (Err BadText) = search rules in
+    let done = c.print_refusal-status-in-Err-BadText.ensures in
+    refused_or (IsAccepted image question text) (IsFaulty image question text) _ _ (refusal_line OfText) _ _
+    (BadText, OfText, verdict, refl, refl) done.status done.printed done.silent done.begun done.failed
+
+pub returns-else-status-eq-REFUSED-3 : goal.returns-else-status-eq-REFUSED-3
+returns-else-status-eq-REFUSED-3 g c =
     let image = c.args.image.now in
     let question = c.args.request.question in
     let text = c.args.request.text.now in

@@ -18,13 +18,13 @@ returns-in-Ok g c =
     (PrintsProfile disk names image request) _ _ _ _ _ _
     (λ s text is. inl (is.0, (profile, c.in-Ok.ensures, is.1.0, is.1.1))) (λ can. (can, (names, profile, c.in-Ok.ensures))) c.print_profile.ensures
 
-pub returns-in-Err-Bad : goal.returns-in-Err-Bad
-returns-in-Err-Bad g c =
+pub returns-else-status-eq-REFUSED : goal.returns-else-status-eq-REFUSED
+returns-else-status-eq-REFUSED g c =
     let image = c.args.image.now in
     let request = c.args.request.now in
     let fault = c.in-Err-Bad.fault in
     let bad : HasFault image request fault = search rules in
-    let done = c.refuse.ensures in
+    let done = c.print_refusal-status.ensures in
     outcome_of _ _ _ _ _ _ _ _ (λ s text is. is) (λ none. absurd none)
     (refused_or (IsAnswered (g.H.OutDisk.files c.args.rt.now) c.args.names image request) (IsNoRequest image request) _ _ (refusal_line (Query fault)) _ _
     (fault, bad, refl) done.status done.printed done.silent done.begun done.failed)
