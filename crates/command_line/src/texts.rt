@@ -1,7 +1,7 @@
 //! What the help prints below the arguments of each command.
 
 /// The program's version, as `--version` prints it.
-pub(crate) const VERSION: &str = "1.19.0";
+pub(crate) const VERSION: &str = "1.20.0";
 
 pub(crate) const STATUSES: &str = "Exit status:\n\
 \x20 0   accepted\n\

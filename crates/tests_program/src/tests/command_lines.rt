@@ -178,7 +178,7 @@ helps Usage: csa serve [OPTIONS] --image <IMAGE> | Example: csa serve --image ex
 run help verify
 helps Usage: csa verify <IMAGE> | Example: csa verify examples/base.csa
 run --version
-answers csa 1.19.0
+answers csa 1.20.0
 
 # Days, dates and zones of a wrong form.
 run build no_such_feed none.csa --first 20240115 --days 0 --zone fixed:0
