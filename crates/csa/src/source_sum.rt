@@ -2,4 +2,4 @@
 
 /// The sum of all sources but this file, as `release/sources --program` prints it. `release/stamp` writes it, and
 /// `.ci/run` compares it with the sources.
-pub const SOURCES: &str = "3321ba1d583c137aa485072d3ce8c2d274f23313c3998564e58d81188d69fe95";
+pub const SOURCES: &str = "955c0719f47396c5cc6dd8ace589f50967f65f3530d50ab629595ebd0f94b271";

@@ -36,7 +36,7 @@ impl<I: Drop, P: TakeRule<I>> Model for TakeEnd<I, P> {
     ghost invariant = { λ s. IsSeatAt (receives_on s.receiver) s.pass × IsTakingSide s.closed (view_of s.pass) };
 }
 
-/// An end at which items were taken, once it is back. It takes no bytes. Contracts see what it was.
+/// An end at which items were taken, once it is back. Contracts see what it was.
 #[derive(Drop)]
 pub struct UsedTakeEnd<I: Drop> {
     known: GhostValue<Pass<Message<I>, EndView<I>>>,

@@ -52,7 +52,7 @@ impl<N: Drop, V, P: TakeRule<Order<N>>> Model for LoaderOrders<N, V, P> {
     } };
 }
 
-/// The loader's end once it has come back, with what it took and answered. It takes no bytes.
+/// The loader's end once it has come back. Contracts see what it took and answered.
 #[derive(Drop)]
 pub struct UsedLoader<N: Drop> {
     pub(crate) end: UsedTakeEnd<Order<N>>,

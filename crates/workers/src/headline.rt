@@ -31,7 +31,7 @@ use std::thread::Threads;
 ///
 /// - `ready`: 1 to 16 seats and the loader's are of these shelves.
 /// - `closes`: a client's reader and writer may be closed in any state in which a session at one of these seats may
-///   leave them, with that session's end. A reader or writer can't be dropped, so each is closed in the end.
+///   leave them, with that session's end. Nothing else takes a reader or writer, so each is closed in the end.
 /// - `left`: no further client comes, and what held of their source holds still; the seats are of these shelves. By a
 ///   law, in any one state of the table that has the loader and a seat, the histories that `loaded` and `served` speak
 ///   of are beginnings of one. After an `Err`, either no client was taken from the source, or no further one comes; of

@@ -14,7 +14,7 @@ use std::marker::Model;
 pub enum SessionEnd {
     /// All its lines were answered.
     Ended,
-    /// Its client couldn't be opened, or a read or a write failed.
+    /// Its client couldn't be opened, a read or a write failed, or a line was too long.
     Failed,
     /// It had too many requests.
     Spent,
