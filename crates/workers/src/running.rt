@@ -33,7 +33,8 @@ use thiserror::Error;
 /// Why clients weren't served, or why nothing is known of their sessions; with the clients' source.
 #[derive(Debug, Drop, Error)]
 pub enum WorkersFault<K> {
-    /// There was no memory or no thread for the workers, the loader or their queues. No client was taken from the source.
+    /// There was no memory or no thread for the workers, the loader or their queues. No client was taken from the
+    /// source.
     #[error("there is no memory or no thread for the workers")]
     NotStarted { clients: K },
     /// All clients were dealt; but a worker or the loader returned before its queue was closed for it, or there was no
