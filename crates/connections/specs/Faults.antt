@@ -1,5 +1,4 @@
 -- Why runs are refused.
-use Rattle.std.specs.Prelude.{◌≡◌}
 use Rattle.gtfs_rows.specs.declared.fault.FaultKind.TheVariants.{OutOfMemory as TableMemory, TooMany}
 use Rattle.gtfs_rows.specs.declared.fault.Table.{Table}
 use Rattle.gtfs_rows.specs.declared.fault.Table.TheVariants as tables

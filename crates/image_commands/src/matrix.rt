@@ -315,7 +315,7 @@ fn write_asked<H: OutDisk + AllocGlobal + Clock + Threads + Sync, O: Watched, E:
     }
 }
 
-// Prints the table, and reports progress to `log`, if there is one.
+// Writes the table to `output`, which may be its file, and reports progress to `log`, if there is one.
 fn print_table<'c, H: AllocGlobal + Clock + Threads + Sync, O: Watched, E: Write>(
     rt: &'c H,
     table: &TravelTable<'_>,
