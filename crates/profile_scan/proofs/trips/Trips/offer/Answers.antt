@@ -12,7 +12,11 @@ pub returns-in_ok-append : goal.returns-in_ok-append
 returns-in_ok-append g c = record {
   trip =
       record {
-        labels = record { labels = c.in_ok-stands.ensures.labels.sound; long = c.in_ok-stands.ensures.labels.long; same = c.in_ok-stands.ensures.taken.elsewhere };
+        labels = record {
+          labels = c.in_ok-stands.ensures.labels.sound;
+          long = c.in_ok-stands.ensures.labels.long;
+          same = c.in_ok-stands.ensures.taken.elsewhere;
+        };
         exits = extends_one c.args.self.now.exits.items c.append.new.items.items c.args.exit c.in_ok-append.ensures.added;
       };
   takes = λ walks steps set_outs before all ext_before ext.
@@ -32,7 +36,11 @@ pub returns-else-stands : goal.returns-else-stands
 returns-else-stands g c = record {
   trip =
       record {
-        labels = record { labels = c.in_ok-stands.ensures.labels.sound; long = c.in_ok-stands.ensures.labels.long; same = c.in_ok-stands.ensures.taken.elsewhere };
+        labels = record {
+          labels = c.in_ok-stands.ensures.labels.sound;
+          long = c.in_ok-stands.ensures.labels.long;
+          same = c.in_ok-stands.ensures.taken.elsewhere;
+        };
         exits = extends_none c.args.self.now.exits.items;
       };
   takes = λ walks steps set_outs before all ext_before ext.
