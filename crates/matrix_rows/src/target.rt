@@ -435,7 +435,7 @@ fn put_points_from<C: ShowsFigures + Scanned>(
 }
 
 // Adds the row of each of the points from the stops called `from`.
-fn put_points<C: ShowsFigures>(
+fn put_points<C: ShowsFigures + Scanned>(
     rows: &mut Rows,
     answered: &Answered<'_, C>,
     from: &str,
