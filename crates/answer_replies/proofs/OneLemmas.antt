@@ -9,8 +9,8 @@ use Rattle.timetable.specs.TimetableValue.{TimetableValue}
 use Rattle.timetable.specs.JourneyValue.{JourneyValue}
 use Rattle.timetable.specs.declared.network.Footpath.{Footpath}
 use Rattle.timetable.specs.declared.query.Query.{Query}
-use Rattle.profile_scan.specs.SetQuery.{IsDirectWalk, single_set_query, pair_of, secs_of}
-use Rattle.profile_scan.specs.ScanState.{IsDirectSecs}
+use Rattle.scan_state.specs.SetQuery.{IsDirectWalk, single_set_query, pair_of, secs_of}
+use Rattle.scan_state.specs.ScanState.{IsDirectSecs}
 use Rattle.profile_scan.proofs.Single.{answer_from}
 use Rattle.journeys.specs.Answer.{point_of}
 use Rattle.journeys.specs.Extracted.{Attains, AttainsBetween}

@@ -4,8 +4,8 @@ use Rattle.criteria.specs.Laws.{Rules}
 use Rattle.criteria.specs.declared.name.CriterionName.{CriterionName}
 use Rattle.criteria.specs.declared.figures.Figures.{Figures}
 use Rattle.timetable.specs.declared.query.Query.{Query}
-use Rattle.profile_scan.specs.ScanState.{IsDirectSecs}
-use Rattle.profile_scan.specs.Points.{IsAnswer}
+use Rattle.scan_state.specs.ScanState.{IsDirectSecs}
+use Rattle.scan_state.specs.Points.{IsAnswer}
 use Rattle.journeys.specs.Answer.{point_of}
 use Rattle.journeys.specs.Extracted.{Attains}
 use Rattle.journeys.specs.declared.answering.Departure.{Departure}

@@ -3,7 +3,7 @@
 ghost use Rattle.std.specs.Prelude.{ℕ, List};
 ghost use Rattle.criteria.specs.declared.name.CriterionName.{CriterionName};
 ghost use Rattle.timetable.specs.declared.query.Query.{Query};
-ghost use Rattle.profile_scan.specs.SetQuery.{single_set_query};
+ghost use Rattle.scan_state.specs.SetQuery.{single_set_query};
 ghost use Rattle.answer_replies.specs.OneStop.{IsAnsweredOneBy};
 ghost use Rattle.answer_replies.specs.Replying.{IsAnsweredBy, Subject};
 

@@ -1,7 +1,7 @@
 //! A query's answer as a line of reply.
 
 ghost use Rattle.std.specs.Prelude.{◌≡◌, ◌++◌, ℕ, IfOk, OnOk, map, reverse, string_bytes, take};
-ghost use Rattle.profile_scan.specs.SetQuery.{IsAskableBetween, question};
+ghost use Rattle.scan_state.specs.SetQuery.{IsAskableBetween, question};
 ghost use Rattle.session_texts.specs.Replies.{line_of, profile_data};
 ghost use Rattle.session_texts.specs.Telling.{points_of};
 ghost use Rattle.station_answers.specs.Reading.{window_between};

@@ -1,15 +1,15 @@
 -- The points along a list of entries, and what stays as entries are added.
 use Rattle.std.proofs.Common.{◌≡◌, ◌⊎◌, ℕ, zero, suc, ◌+◌, ◌<◌, ◌≤◌, List, [], ◌∷◌, ◌++◌, length, length-append, Contains, inl, inr}
 use Rattle.std.proofs.Common.{slice_get, Option, Some, None, refl, sym, ◌∙◌, ap, ap₂, subst, arith}
-use Rattle.std.proofs.lemmas.List.Elements.{Contains-append_left, Contains-append_right, Contains-append_cases}
 use Rattle.std.proofs.lemmas.Bool.{cases_lt}
 use Rattle.std.proofs.lemmas.Option.{slice_get_cases, slice_get_within, same_Some}
 use Rattle.reasoning.specs.Lists.{Extends}
-use Rattle.reasoning.proofs.ListLemmas.{not_in_nil, contains_first, contains_rest, contains_cases, slice_get-front, slice_get-last, at_below, extends_one}
+use Rattle.reasoning.proofs.ListLemmas.{not_in_nil, contains_first, contains_cases, slice_get-front, slice_get-last, at_below, extends_one}
 use Rattle.criteria.specs.Laws.{IsTime}
 use Rattle.bags.specs.declared.point.Point.{Point}
-use Rattle.arrival_lists.specs.Lists.{AreEntries, Precedes, next_in, never, point_of, points_in, points_from, points_to}
+use Rattle.arrival_lists.specs.Lists.{AreEntries, Precedes, next_in, next_of, never, point_of, points_at, points_in, points_from}
 use Rattle.arrival_lists.specs.declared.entry.Entry.{Entry}
+use Rattle.fronts.proofs.Chains as chain
 
 module _ (entries : List Entry) (are : AreEntries entries) where
   -- the next entry of one is older
@@ -20,29 +20,11 @@ module _ (entries : List Entry) (are : AreEntries entries) where
       back None is = omega arith
       back (Some e) is = are.back m e is
 
-  fuel : (n k m : ℕ) → m ≤ n → m ≤ k → points_to entries n m ≡ points_to entries k m
-  unfolding points_to
-  fuel zero zero m a b = refl
-  fuel zero (suc k) zero a b = refl
-  fuel zero (suc k) (suc m) a b = absurd (omega (arith, a))
-  fuel (suc n) zero zero a b = refl
-  fuel (suc n) zero (suc m) a b = absurd (omega (arith, b))
-  fuel (suc n) (suc k) zero a b = refl
-  fuel (suc n) (suc k) (suc m) a b =
-      let back = next_back m in
-      ap (λ xs. points_in (slice_get entries (suc m)) ++ xs)
-      (fuel n k (next_in (slice_get entries (suc m))) (omega (arith, a, back)) (omega (arith, b, back)))
-
   pub none_at_end : points_from entries 0 ≡ []
-  unfolding points_to
-  none_at_end = refl
+  none_at_end = chain.none_at_end (next_of entries) (points_at entries)
 
   unrolled : (m : ℕ) → points_from entries (suc m) ≡ points_in (slice_get entries (suc m)) ++ points_from entries (next_in (slice_get entries (suc m)))
-  unfolding points_to
-  unrolled m =
-      let back = next_back m in
-      ap (λ xs. points_in (slice_get entries (suc m)) ++ xs)
-      (fuel m (next_in (slice_get entries (suc m))) (next_in (slice_get entries (suc m))) back (omega arith))
+  unrolled m = chain.unrolled (next_of entries) (points_at entries) next_back m
 
   -- a list's points are its first and those of the rest
   pub first_and_rest : (m : ℕ) (e : Entry) → slice_get entries (suc m) ≡ Some e
@@ -100,19 +82,23 @@ module _ (old new : List Entry) (are : AreEntries old) (more : Extends old new) 
   same_entry : (m : ℕ) → m < length old → slice_get new m ≡ slice_get old m
   same_entry m lt = ap (λ xs. slice_get xs m) more.1 ∙ slice_get-front old more.0 m lt
 
-  same_to : (n m : ℕ) → m < length old → points_to new n m ≡ points_to old n m
-  unfolding points_to
-  same_to zero m lt = refl
-  same_to (suc n) zero lt = refl
-  same_to (suc n) (suc m) lt =
-      let back = next_back old are m in
-      ap₂ (λ xs ys. xs ++ ys) (ap points_in (same_entry (suc m) lt))
-      (ap (λ o. points_to new n (next_in o)) (same_entry (suc m) lt)
-      ∙ same_to n (next_in (slice_get old (suc m))) (omega (arith, back, lt)))
-
   -- lists stay as they were
   pub same_points : (m : ℕ) → m < length old → points_from new m ≡ points_from old m
-  same_points m lt = same_to m m lt
+  same_points m lt =
+      chain.same_along (next_of old) (points_at old) (next_back old are) (next_of new) (points_at new) (length old)
+      (λ k within. ap next_in (same_entry k within)) (λ k within. ap points_in (same_entry k within)) m lt
+
+-- what is at an index of a list to which an element was added
+pub pushed_at : {X : Type 0} (xs : List X) (x y : X) (i : ℕ) → slice_get (xs ++ x ∷ []) i ≡ Some y
+    → ((i < length xs) × (slice_get xs i ≡ Some y)) ⊎ ((i ≡ length xs) × (y ≡ x))
+pushed_at xs x y i at = elim (cases_lt i (length xs)) [
+  | inl lt ↦ inl (lt, sym (slice_get-front xs (x ∷ []) i lt) ∙ at)
+  | inr ge ↦
+      let within = slice_get_within (xs ++ x ∷ []) i y at in
+      let long = length-append xs (x ∷ []) in
+      let last : i ≡ length xs = omega (arith, within, long, ge) in
+      inr (last, same_Some y x (sym at ∙ ap (slice_get (xs ++ x ∷ [])) last ∙ slice_get-last xs x))
+]
 
 -- an entry is put before a list
 module _ (old new : List Entry) (are : AreEntries old) (e : Entry) (added : new ≡ old ++ e ∷ []) (within : e.next < length old)
@@ -128,14 +114,7 @@ module _ (old new : List Entry) (are : AreEntries old) (e : Entry) (added : new 
 
   -- each entry was there, or is the new one
   was_or_new : (m : ℕ) (x : Entry) → slice_get new m ≡ Some x → ((m < length old) × (slice_get old m ≡ Some x)) ⊎ ((m ≡ length old) × (x ≡ e))
-  was_or_new m x at = elim (cases_lt m (length old)) [
-    | inl lt ↦ inl (lt, sym (was m lt) ∙ at)
-    | inr ge ↦
-        let in_range = slice_get_within new m x at in
-        let long_is = long in
-        let last : m ≡ length old = omega (arith, in_range, long_is, ge) in
-        inr (last, same_Some x e (sym at ∙ ap (slice_get new) last ∙ at_last))
-  ]
+  was_or_new m x at = pushed_at old e x m (sym (ap (λ xs. slice_get xs m) added) ∙ at)
 
   pub put_entries : AreEntries new
   put_entries = record {

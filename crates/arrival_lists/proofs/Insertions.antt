@@ -1,9 +1,9 @@
 -- Insertions: entries put before a list.
-use Rattle.std.proofs.Common.{◌≡◌, ◌⊎◌, ℕ, zero, suc, ◌<◌, ◌≤◌, List, [], ◌∷◌, ◌++◌, length, map, Contains, inl, inr}
-use Rattle.std.proofs.Common.{slice_get, Some, Result, Ok, Err, IfOk, MatchResult, refl, sym, ◌∙◌, ap, subst, arith}
+use Rattle.std.proofs.Common.{◌≡◌, ◌⊎◌, ℕ, suc, ◌<◌, ◌≤◌, List, [], ◌∷◌, ◌++◌, length, map, Contains, inl, inr}
+use Rattle.std.proofs.Common.{slice_get, Some, option_map, refl, sym, ◌∙◌, ap, subst, arith}
 use Rattle.std.proofs.lemmas.Bool.{cases_lt}
 use Rattle.std.proofs.lemmas.List.Elements.{Contains-append_left, Contains-push}
-use Rattle.std.proofs.lemmas.Option.{slice_get_within, same_Some, none-some}
+use Rattle.std.proofs.lemmas.Option.{slice_get_within, slice_get-map, same_Some}
 use Rattle.reasoning.specs.Lists.{Extends}
 use Rattle.reasoning.proofs.ListLemmas.{not_in_nil, contains_first, contains_rest, contains_cases, extends_none, extends_on, extends_one}
 use Rattle.reasoning.proofs.ListLemmas.{slice_get-append, slice_get-last}
@@ -11,7 +11,7 @@ use Rattle.criteria.specs.Laws.{IsTime}
 use Rattle.bags.specs.declared.point.Point.{Point}
 use Rattle.fronts.specs.declared.entry.Step.{Step}
 use Rattle.arrival_lists.specs.Lists.{AreAllPassed, AreEntries, AreMoreLists, AreSorted, HasFirst, HasTaken, IsEmptyAlone, IsFirstOf, IsJoined, IsLate, IsPut}
-use Rattle.arrival_lists.specs.Lists.{MayJoin, MayPut, Precedes, Reaches, TakesPoint, entries_of, list_points, never, passed_of, point_before, point_of}
+use Rattle.arrival_lists.specs.Lists.{MayJoin, MayPut, Precedes, Reaches, entries_of, list_points, never, passed_of, point_before, point_of}
 use Rattle.arrival_lists.specs.Lists.{points_from, steps_of}
 use Rattle.arrival_lists.specs.declared.arrival_lists.ArrivalLists.{ArrivalLists}
 use Rattle.arrival_lists.specs.declared.entry.Entry.{Entry}
@@ -56,9 +56,6 @@ is_put old new e may added head head_is = record {
       ∙ put_points (entries_of old) (entries_of new) may.sound e added may.within may.precedes may.time;
 }
 
-pub put_more : (old new : ArrivalLists) (e : Entry) (first : FirstPoint) → IsPut old e new first → AreMoreLists old new
-put_more old new e first put = record { sound = put.sound; entries = extends_one (entries_of old) (entries_of new) e put.added }
-
 pub put_first : (old new : ArrivalLists) (e : Entry) (first : FirstPoint) → IsPut old e new first → IsFirstOf new first.head first
 put_first old new e first put =
     let head_is : first.head ≡ length (entries_of old) = ap (λ (f : FirstPoint). f.head) put.is_first in
@@ -67,10 +64,6 @@ put_first old new e first put =
       at = ap (slice_get (entries_of new)) head_is ∙ ap (λ xs. slice_get xs (length (entries_of old))) put.added ∙ slice_get-last (entries_of old) e;
       is = put.is_first ∙ sym (ap (λ n. record { time = e.time; departure = e.departure; tag = e.tag; head = n }) head_is);
     }
-
--- lists grow, and then grow again
-pub more_on : (old mid new : ArrivalLists) → AreMoreLists old mid → AreMoreLists mid new → AreMoreLists old new
-more_on old mid new a b = record { sound = b.sound; entries = extends_on (entries_of old) (entries_of mid) (entries_of new) a.entries b.entries }
 
 pub more_none : (lists : ArrivalLists) → AreEntries (entries_of lists) → AreMoreLists lists lists
 more_none lists sound = record { sound = sound; entries = extends_none (entries_of lists) }
@@ -82,16 +75,9 @@ more_same old now new more same = record {
   entries = subst (Extends (entries_of old)) (sym same) more.entries;
 }
 
--- what holds if a call succeeds
-pub ok_of_match : {T E : Type 0} {P R : T → Type 0} (Q : E → Type 0) (result : Result T E) → ((x : T) → P x → R x) → MatchResult result P Q → IfOk result R
-ok_of_match Q (Ok x) from h = from x h
-ok_of_match Q (Err e) from h = tt
-
 -- the step of an entry
 step_at : (entries : List Entry) (m : ℕ) (e : Entry) → slice_get entries m ≡ Some e → slice_get (map (λ (x : Entry). x.step) entries) m ≡ Some e.step
-step_at [] m e at = absurd (none-some e at)
-step_at (x ∷ xs) zero e at = ap (λ (y : Entry). Some y.step) (same_Some x e at)
-step_at (x ∷ xs) (suc m) e at = step_at xs m e at
+step_at entries m e at = slice_get-map (λ (x : Entry). x.step) entries m ∙ ap (option_map (λ (x : Entry). x.step)) at
 
 module _ (old : ArrivalLists) (first : FirstPoint) (has : HasFirst old first) (departure time : ℕ) (step : Step) (in_time : IsTime time) where
   -- a point of the list departs no earlier and arrives no later

@@ -1,7 +1,6 @@
 -- Searches along a list: for its first late entry, and for those that come before a point.
-use Rattle.std.proofs.Common.{◌≡◌, ◌⊎◌, ℕ, suc, ◌<◌, ◌≤◌, List, [], ◌∷◌, ◌++◌, length, length-append, map, Contains, inl, inr}
-use Rattle.std.proofs.Common.{slice_get, Some, refl, sym, ◌∙◌, ap, subst, arith}
-use Rattle.std.proofs.lemmas.Bool.{cases_lt}
+use Rattle.std.proofs.Common.{◌≡◌, ◌⊎◌, ℕ, suc, ◌<◌, ◌≤◌, List, [], ◌∷◌, ◌++◌, length, map, Contains, inl, inr}
+use Rattle.std.proofs.Common.{slice_get, Some, sym, ◌∙◌, ap, subst, arith}
 use Rattle.std.proofs.lemmas.List.{map-append}
 use Rattle.std.proofs.lemmas.List.Elements.{Contains-append_left, Contains-append_cases, Contains-push}
 use Rattle.std.proofs.lemmas.Option.{slice_get_within, same_Some}
@@ -14,7 +13,7 @@ use Rattle.arrival_lists.specs.declared.arrival_lists.ArrivalLists.{ArrivalLists
 use Rattle.reasoning.specs.Lists.{Extends}
 use Rattle.arrival_lists.specs.declared.entry.Entry.{Entry}
 use Rattle.arrival_lists.specs.declared.entry.FirstPoint.{FirstPoint}
-use Rattle.arrival_lists.proofs.Entries.{first_and_rest, first_in, low, not_end}
+use Rattle.arrival_lists.proofs.Entries.{first_and_rest, first_in, low, not_end, pushed_at}
 
 -- on the way to the first late entry
 pub record LeadsTo (entries : List Entry) (head time m : ℕ) (e : Entry) : Type 0 where
@@ -136,18 +135,6 @@ pub pushed_cases : {X : Type 0} (xs new : List X) (x y : X) → new ≡ xs ++ x 
 pushed_cases xs new x y is h = elim (Contains-append_cases xs (x ∷ []) y (subst (λ zs. Contains zs y) is h)) [
   | inl before ↦ inl before
   | inr last ↦ inr (contains_only x y last)
-]
-
--- at an index
-pushed_at : {X : Type 0} (xs : List X) (x y : X) (i : ℕ) → slice_get (xs ++ x ∷ []) i ≡ Some y
-    → ((i < length xs) × (slice_get xs i ≡ Some y)) ⊎ ((i ≡ length xs) × (y ≡ x))
-pushed_at xs x y i at = elim (cases_lt i (length xs)) [
-  | inl lt ↦ inl (lt, sym (slice_get-front xs (x ∷ []) i lt) ∙ at)
-  | inr ge ↦
-      let within = slice_get_within (xs ++ x ∷ []) i y at in
-      let long = length-append xs (x ∷ []) in
-      let last : i ≡ length xs = omega (arith, within, long, ge) in
-      inr (last, same_Some y x (sym at ∙ ap (slice_get (xs ++ x ∷ [])) last ∙ slice_get-middle xs x []))
 ]
 
 -- sorted entries, and one that all of them precede

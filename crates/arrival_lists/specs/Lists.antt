@@ -3,6 +3,8 @@ use Rattle.std.specs.Prelude.{◌≡◌, ◌⊎◌, ℕ, zero, suc, ◌<◌, ◌
 use Rattle.reasoning.specs.Lists.{Extends}
 use Rattle.criteria.specs.Laws.{IsTime}
 use Rattle.bags.specs.declared.point.Point.{Point}
+use Rattle.fronts.specs.Chains.{points_along}
+use Rattle.fronts.specs.Vectors.{HasNoRoom, IsFull}
 use Rattle.fronts.specs.declared.entry.Step.{Step}
 use Rattle.arrival_lists.specs.declared.arrival_lists.ArrivalLists.{ArrivalLists}
 use Rattle.arrival_lists.specs.declared.entry.Entry.{Entry}
@@ -27,16 +29,20 @@ abbrev pub points_in : Option Entry → List (Point ℕ)
 points_in None = []
 points_in (Some e) = point_of e ∷ []
 
--- the points along the list from entry m on, of at most n entries; entry 0 ends each list
-unfoldable pub points_to : List Entry → ℕ → ℕ → List (Point ℕ)
-points_to entries zero m = []
-points_to entries (suc n) zero = []
-points_to entries (suc n) (suc m) =
-    points_in (slice_get entries (suc m)) ++ points_to entries n (next_in (slice_get entries (suc m)))
+-- no entry can be put in or noted: there is no room for it, or no index of 32 bits
+abbrev pub HasNoRoomLeft : ArrivalLists → Type 0
+HasNoRoomLeft lists = HasNoRoom lists.entries ⊎ IsFull lists.passed
+
+-- the index of the next entry on the list, and the entry's point, by its index
+abbrev pub next_of : List Entry → ℕ → ℕ
+next_of entries m = next_in (slice_get entries m)
+
+abbrev pub points_at : List Entry → ℕ → List (Point ℕ)
+points_at entries m = points_in (slice_get entries m)
 
 -- the points of the list that begins at an entry
 abbrev pub points_from : List Entry → ℕ → List (Point ℕ)
-points_from entries head = points_to entries head head
+points_from entries head = points_along (next_of entries) (points_at entries) head
 
 abbrev pub list_points : ArrivalLists → ℕ → List (Point ℕ)
 list_points lists head = points_from lists.entries.items head

@@ -18,11 +18,11 @@ pub struct ArrivalLists {
 }
 
 impl ArrivalLists {
-    ghost use Rattle.std.specs.Prelude.{◌≡◌, IfOk, OnOk, MatchResult, Ok, length, slice_get};
+    ghost use Rattle.std.specs.Prelude.{◌≡◌, IfOk, OnOk, OnErr, MatchResult, Ok, length, slice_get};
     ghost use Rattle.criteria.specs.Laws.{IsTime};
-    ghost use Rattle.arrival_lists.specs.Lists.{AreAllPassed, AreMoreLists, HasFirst, HasList, HasTaken, IsFirstFrom};
-    ghost use Rattle.arrival_lists.specs.Lists.{IsEmptyAlone, IsFirstOf, IsJoined, IsLate, IsPut, MayJoin, MayPut};
-    ghost use Rattle.arrival_lists.specs.Lists.{Reaches, entries_of, list_points, point_before, steps_of};
+    ghost use Rattle.arrival_lists.specs.Lists.{AreAllPassed, AreMoreLists, HasFirst, HasList, HasNoRoomLeft, HasTaken};
+    ghost use Rattle.arrival_lists.specs.Lists.{IsEmptyAlone, IsFirstFrom, IsFirstOf, IsJoined, IsLate, IsPut, MayJoin};
+    ghost use Rattle.arrival_lists.specs.Lists.{MayPut, Reaches, entries_of, list_points, point_before, steps_of};
 
     /// Makes the empty list, and no other, with room for what a scan of `expected` connections mostly adds.
     pub fn new(alloc: Global, expected: usize) -> Result<Self, AllocError>
@@ -125,6 +125,7 @@ impl ArrivalLists {
         ensures taken { IfOk result (HasTaken departure time step self.old first.head self.new) }
         ensures known { Reaches (list_points self.old first.head) departure time
             → (result ≡ Ok first) × (self.new ≡ self.old) }
+        ensures full { OnErr result (HasNoRoomLeft self.new) }
     {
         // In most insertions the list begins no earlier, and then no entry has to be passed.
         if first.departure < departure {
@@ -151,6 +152,7 @@ impl ArrivalLists {
         ensures taken { IfOk result (HasTaken departure time step self.old first.head self.new) }
         ensures known { Reaches (list_points self.old first.head) departure time
             → (result ≡ Ok first) × (self.new ≡ self.old) }
+        ensures full { OnErr result (HasNoRoomLeft self.new) }
     {
         let after = self.late(first.head, departure);
         let next = self.entries[after as usize];
@@ -176,6 +178,7 @@ impl ArrivalLists {
         ensures put { MatchResult result
             (IsPut self.old (point_before departure time step next (length (entries_of self.old))) self.new)
             (λ _. entries_of self.new ≡ entries_of self.old) }
+        ensures full { OnErr result (HasNoRoomLeft self.new) }
     {
         let tag = index_of(self.entries.len())?;
         self.put(Entry {
@@ -194,6 +197,7 @@ impl ArrivalLists {
         ensures passed { self.new.passed ≡ self.old.passed }
         ensures put { MatchResult result (IsPut self.old entry self.new)
             (λ _. entries_of self.new ≡ entries_of self.old) }
+        ensures full { OnErr result (HasNoRoomLeft self.new) }
     {
         let head = index_of(self.entries.len())?;
         append(&mut self.entries, entry)?;
@@ -211,12 +215,13 @@ impl ArrivalLists {
         ensures entries { self.new.entries ≡ self.old.entries }
         ensures all { OnOk result
             (AreAllPassed self.old.entries.items head departure time self.new.passed.items) }
+        ensures full { OnErr result (HasNoRoomLeft self.new) }
     {
         self.passed.clear();
         let mut index = head;
         let mut entry = self.entries[index as usize];
         while comes_before(entry, departure, time) {
-            self.passed.push(entry)?;
+            append(&mut self.passed, entry)?;
             index = entry.next;
             entry = self.entries[index as usize];
         }
@@ -228,6 +233,7 @@ impl ArrivalLists {
         requires { MayJoin self.old first }
         ensures more { AreMoreLists self.old self.new }
         ensures joined { IfOk result (IsJoined self.old first.head self.new) }
+        ensures full { OnErr result (HasNoRoomLeft self.new) }
     {
         let mut new = first;
         while let Some(entry) = self.passed.pop() {

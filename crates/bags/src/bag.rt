@@ -28,7 +28,7 @@ impl<C: Criterion> Bag<C> {
     ghost use Rattle.bags.specs.Dominance.{Stands, Inserted};
     ghost use Rattle.bags.specs.Arrangement.{AreLate};
     ghost use Rattle.bags.specs.Best.{is_best};
-    ghost use Rattle.bags.specs.Bag.{criterion_of, points_of};
+    ghost use Rattle.bags.specs.Bag.{IsFull, criterion_of, points_of};
 
     /// An empty bag under a criterion. It takes no memory.
     pub fn new(alloc: Global, criterion: C) -> Self
@@ -58,8 +58,8 @@ impl<C: Criterion> Bag<C> {
 
     /// Adds a point, unless one of the bag dominates it, and drops those that it dominates. Returns whether it was
     /// added: a point of the same departure and value that is there already stays, with its tag. If memory runs out,
-    /// the bag stays as it was; a point that isn't added needs none. The value must be one that the criterion admits,
-    /// as all values of journeys are.
+    /// the bag was full and stays as it was; a point that isn't added needs none. The value must be one that the
+    /// criterion admits, as all values of journeys are.
     #[inline(always)]
     pub fn insert(&mut self, departure: u32, value: C::V, tag: usize) -> Result<bool, AllocError>
         requires { Admits (C.rules (criterion_of self.old)) value }
@@ -76,6 +76,7 @@ impl<C: Criterion> Bag<C> {
         ensures err { OnErr result (points_of self.new ≡ points_of self.old) }
         ensures err_stands { OnErr result (Stands (C.rules (criterion_of self.old)) (points_of self.old)
             (record { departure = departure; value = value; tag = tag }) true) }
+        ensures full { OnErr result (IsFull self.old) }
     {
         let point = Point {
             departure,

@@ -34,9 +34,6 @@ read_fresh rules entries met items met_items m v test met_is items_are is fresh 
     ∙ sym is ∙ fresh
 
 module _ {V : Type 0} (rules : Rules V) (ride : RiddenLabel V) where
-  pub fair_one : Admits rules ride.value → (r : RiddenLabel V) → Contains (ride ∷ []) r → Admits rules r.value
-  fair_one fair r h = subst (λ (z : RiddenLabel V). Admits rules z.value) (sym (contains_only ride r h)) fair
-
   one_walked : (secs : ℕ) (points kept : List (Item V))
       → Betters rules kept (rules.walk secs ride.value) ⊎ Betters rules points (rules.walk secs ride.value)
       → AllWalked rules points secs (ride ∷ []) (length (ride ∷ [])) kept

@@ -6,10 +6,11 @@ use Rattle.reasoning.proofs.ListLemmas.{slice_get-front, extends_none, extends_o
 use Rattle.criteria.specs.Laws.{Rules}
 use Rattle.fronts.specs.declared.entry.Item.{Item}
 use Rattle.fronts.specs.declared.entry.FrontEntry.{FrontEntry}
-use Rattle.fronts.specs.Front.{own, front_of, front, next_in, next_of, departure_in, departure_of, points_to, points_from, Extends}
+use Rattle.fronts.specs.Front.{own, front_of, front, next_in, next_of, departure_in, departure_of, points_from, Extends}
 use Rattle.fronts.specs.declared.front_lists.FrontLists.{FrontLists}
 use Rattle.fronts.specs.Entries.{AreEntries, AreMore, IsLinked}
 use Rattle.fronts.specs.Lists.{lists_criterion, entries_of, items_of, steps_of, point_of, list_points, IsSound, AreMoreLists}
+use Rattle.fronts.proofs.Chains as chain
 
 pub extends_long : {X : Type 0} (old new : List X) → Extends old new → length old ≤ length new
 extends_long old new ext = let e = ap length ext.1 ∙ length-append old ext.0 in omega arith
@@ -67,17 +68,10 @@ module _ {V : Type 0} (rules : Rules V) (old_entries new_entries : List (FrontEn
   pub same_departure : (m : ℕ) → m < length old_entries → departure_of new_entries m ≡ departure_of old_entries m
   same_departure m lt = ap departure_in (same_at old_entries new_entries entries m lt)
 
-  same_to : (n m : ℕ) → m < length old_entries → points_to new_entries new_items n m ≡ points_to old_entries old_items n m
-  unfolding points_to
-  same_to zero m lt = refl
-  same_to (suc n) zero lt = refl
-  same_to (suc n) (suc m) lt =
-      let back = are.back m in
-      ap₂ (λ xs ys. xs ++ ys) (same_front (suc m) lt)
-      (ap (points_to new_entries new_items n) (same_next (suc m) lt) ∙ same_to n (next_of old_entries (suc m)) (omega arith))
-
   pub same_points : (m : ℕ) → m < length old_entries → points_from new_entries new_items m ≡ points_from old_entries old_items m
-  same_points m lt = same_to m m lt
+  same_points m lt =
+      chain.same_along (next_of old_entries) (front old_entries old_items) are.back (next_of new_entries) (front new_entries new_items)
+      (length old_entries) same_next same_front m lt
 
 -- nothing is added
 pub same_entries : {V : Type 0} (rules : Rules V) (entries : List (FrontEntry V)) (items : List (Item V))
@@ -119,16 +113,6 @@ module _ {K V : Type 0} (rules_of : K → Rules V) where
     entries = more.entries_more;
     items = more.items_more;
     steps = steps;
-  }
-
-  pub more_on : (old mid new : FrontLists K V) → AreMoreLists rules_of old mid → AreMoreLists rules_of mid new
-      → AreMoreLists rules_of old new
-  more_on old mid new before after = record {
-    sound = after.sound;
-    criterion = after.criterion ∙ before.criterion;
-    entries = extends_on (entries_of old) (entries_of mid) (entries_of new) before.entries after.entries;
-    items = extends_on (items_of old) (items_of mid) (items_of new) before.items after.items;
-    steps = extends_on (steps_of old) (steps_of mid) (steps_of new) before.steps after.steps;
   }
 
   -- the lists that were there stay as they were

@@ -12,6 +12,7 @@ use Rattle.fronts.specs.Entries.{AreEntries}
 use Rattle.fronts.specs.Putting.{IsLate, IsPath, DepartBefore, CoversAll, MayPut, IsUnion}
 use Rattle.fronts.specs.Walking.{MayInsert, AreKept, TakesBoardings}
 use Rattle.fronts.proofs.Growth.{extends_long, same_points, same_departure, same_next}
+use Rattle.fronts.proofs.Chains as chain
 use Rattle.fronts.proofs.Joining.{joined_here}
 use Rattle.fronts.proofs.Points.{of_front}
 
@@ -25,17 +26,9 @@ path_within entries head (x ∷ xs) m b path h = elim (contains_cases b x xs h) 
 module _ {V : Type 0} (rules : Rules V) (old mid : List (FrontEntry V)) (old_items mid_items : List (Item V))
     (are : AreEntries rules old old_items) (more : Extends old mid) (more_items : Extends old_items mid_items) where
   pub path_more : (head : ℕ) (bs : List ℕ) (m : ℕ) → IsPath old head bs m → IsPath mid head bs m
-  path_more head [] m path = path
-  path_more head (x ∷ xs) m path =
-      let grows = extends_long old mid more in
-      let lt = path.2 in (
-        path.0,
-        path.1,
-        omega arith,
-        subst (λ n. IsPath mid n xs m)
-            (sym (same_next rules old mid old_items mid_items are more more_items x path.2))
-            (path_more (next_of old x) xs m path.3),
-      )
+  path_more =
+      chain.path_more (next_of old) (length old) (next_of mid) (length mid) (extends_long old mid more)
+      (same_next rules old mid old_items mid_items are more more_items)
 
   pub before_more : (head : ℕ) (bs : List ℕ) (m time later : ℕ) → IsPath old head bs m → DepartBefore old time bs → later ≡ time → DepartBefore mid later bs
   before_more head bs m time later path before e b h =

@@ -1,7 +1,7 @@
+pub mod Chains
 pub mod Early
 pub mod Growth
 pub mod Points
-pub mod Paths
 pub mod Leaving
 pub mod Pushing
 pub mod OnePut

@@ -1,4 +1,4 @@
--- Items as points.
+-- Mapped lists, and items as points.
 use Rattle.std.proofs.Common.{◌≡◌, ℕ, ◌<◌, ◌≤◌, true, List, [], ◌∷◌, length, map, Contains, Result, Ok, Err, IfOk, inl, inr}
 use Rattle.std.proofs.Common.{sym, subst}
 use Rattle.reasoning.proofs.ListLemmas.{contains_cases, contains_first, contains_rest, not_in_nil}
@@ -18,27 +18,28 @@ use Rattle.fronts.specs.declared.front_lists.FrontLists.{FrontLists}
 use Rattle.fronts.specs.Lists.{point_of, lists_criterion, entries_of, items_of, steps_of, IsBettered, TakesRidden, HasTaken}
 use Rattle.fronts.proofs.Points.{front_from, points_admitted}
 
+-- elements of a list that is mapped
+pub from_map : {X Y : Type 0} (f : X → Y) (xs : List X) (y : Y) → Contains (map f xs) y → (x : X) × Contains xs x × (f x ≡ y)
+from_map f [] y h = absurd (not_in_nil y h)
+from_map f (x ∷ xs) y h = elim (contains_cases y (f x) (map f xs) h) [
+  | inl e ↦ (x, contains_first x xs, e)
+  | inr r ↦ let s = from_map f xs y r in (s.0, contains_rest s.0 x xs s.1, s.2)
+]
+
+pub into_map : {X Y : Type 0} (f : X → Y) (xs : List X) (x : X) → Contains xs x → Contains (map f xs) (f x)
+into_map f [] x h = absurd (not_in_nil x h)
+into_map f (y ∷ ys) x h = elim (contains_cases x y ys h) [
+  | inl e ↦ subst (λ z. Contains (map f (y ∷ ys)) (f z)) e (contains_first (f y) (map f ys))
+  | inr r ↦ contains_rest (f x) (f y) (map f ys) (into_map f ys x r)
+]
+
 module _ {V : Type 0} where
-  pub into_points : (xs : List (Item V)) (x : Item V) → Contains xs x → Contains (map point_of xs) (point_of x)
-  into_points [] x h = absurd (not_in_nil x h)
-  into_points (y ∷ ys) x h = elim (contains_cases x y ys h) [
-    | inl e ↦ subst (λ z. Contains (map point_of (y ∷ ys)) (point_of z)) e (contains_first (point_of y) (map point_of ys))
-    | inr b ↦ contains_rest (point_of x) (point_of y) (map point_of ys) (into_points ys x b)
-  ]
-
-  pub from_points : (xs : List (Item V)) (p : Point V) → Contains (map point_of xs) p → (x : Item V) × Contains xs x × (point_of x ≡ p)
-  from_points [] p h = absurd (not_in_nil p h)
-  from_points (y ∷ ys) p h = elim (contains_cases p (point_of y) (map point_of ys) h) [
-    | inl e ↦ (y, contains_first y ys, e)
-    | inr b ↦ (let x = from_points ys p b in (x.0, contains_rest x.0 y ys x.1, x.2))
-  ]
-
   covered_points : (rules : Rules V) (xs : List (Item V)) (d : ℕ) (v : V) → Covers rules xs d v → IsCovered rules (map point_of xs) d v
-  covered_points rules xs d v (x, h, late, w) = (point_of x, into_points xs x h, late, w)
+  covered_points rules xs d v (x, h, late, w) = (point_of x, into_map point_of xs x h, late, w)
 
   covered_items : (rules : Rules V) (xs : List (Item V)) (d : ℕ) (v : V) → IsCovered rules (map point_of xs) d v → Covers rules xs d v
   covered_items rules xs d v (p, h, late, w) =
-      let x = from_points xs p h in
+      let x = from_map point_of xs p h in
       (x.0, x.1, subst (λ (z : Point V). d ≤ z.departure) (sym x.2) late, subst (λ (z : Point V). rules.no_worse z.value v ≡ true) (sym x.2) w)
 
   pub takes_points : (rules : Rules V) (steps : List Step) (boarding : Boarding) (ridden : List (RiddenLabel V))
@@ -46,9 +47,9 @@ module _ {V : Type 0} where
       → TakesRidden rules steps boarding ridden (map point_of old) (map point_of new)
   takes_points rules steps boarding ridden old new takes = record {
     only = λ p h.
-        let x = from_points new p h in
+        let x = from_map point_of new p h in
         elim (takes.only x.0 x.1) [
-          | inl was ↦ inl (subst (Contains (map point_of old)) x.2 (into_points old x.0 was))
+          | inl was ↦ inl (subst (Contains (map point_of old)) x.2 (into_map point_of old x.0 was))
           | inr b ↦ inr (x.0, x.2, b)
         ];
     kept = λ d v a c. covered_points rules new d v (takes.kept d v a (covered_items rules old d v c));
@@ -73,9 +74,9 @@ module _ {V : Type 0} where
       → (p : Point V) → Contains (map point_of (front entries items m)) p
       → Contains (map point_of (points_from entries items head)) p × (time ≤ p.departure) × Admits rules p.value
   points_made_of rules laws entries items are head time m late p h =
-      let x = from_points (front entries items m) p h in
+      let x = from_map point_of (front entries items m) p h in
       let made = (front_from rules entries items are laws head time m late).0 x.0 x.1 in (
-        subst (Contains (map point_of (points_from entries items head))) x.2 (into_points (points_from entries items head) x.0 made.0),
+        subst (Contains (map point_of (points_from entries items head))) x.2 (into_map point_of (points_from entries items head) x.0 made.0),
         subst (λ (z : Point V). time ≤ z.departure) x.2 made.1,
         subst (λ (z : Point V). Admits rules z.value) x.2 ((are.each m).admitted x.0 x.1),
       )
@@ -85,13 +86,13 @@ module _ {V : Type 0} where
       → (p : Point V) → Contains (map point_of (points_from entries items head)) p → time ≤ p.departure
       → IsBettered rules (map point_of (front entries items m)) p.value
   points_bettered rules laws entries items are head time m late p h after =
-      let x = from_points (points_from entries items head) p h in
+      let x = from_map point_of (points_from entries items head) p h in
       let b = (front_from rules entries items are laws head time m late).1 x.0 x.1 (subst (λ (z : Point V). time ≤ z.departure) (sym x.2) after) in
-      (point_of b.0, into_points (front entries items m) b.0 b.1, subst (λ (z : Point V). rules.no_worse b.0.value z.value ≡ true) x.2 b.2)
+      (point_of b.0, into_map point_of (front entries items m) b.0 b.1, subst (λ (z : Point V). rules.no_worse b.0.value z.value ≡ true) x.2 b.2)
 
   pub list_admitted : (rules : Rules V) (entries : List (FrontEntry V)) (items : List (Item V))
       → AreEntries rules entries items → (head : ℕ) (p : Point V)
       → Contains (map point_of (points_from entries items head)) p → Admits rules p.value
   list_admitted rules entries items are head p h =
-      let x = from_points (points_from entries items head) p h in
+      let x = from_map point_of (points_from entries items head) p h in
       subst (λ (z : Point V). Admits rules z.value) x.2 (points_admitted rules entries items are head x.0 x.1)

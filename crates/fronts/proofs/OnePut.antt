@@ -162,6 +162,10 @@ module _ {V : Type 0} (rules : Rules V) (laws : Laws rules) (entries : List (Fro
   pub put_departs : departure_of (entries ++ e ∷ []) (length entries) ≡ departure
   put_departs = ap departure_in (slice_get-middle entries e []) ∙ departs
 
+  put_carries : front (entries ++ e ∷ []) more (length entries) ≡ points ++ left_by rules points (front entries items m)
+  unfolding put_front
+  put_carries = let some = are.some in front_new entries more e some ∙ put_whole
+
   pub put_union : IsUnion rules points (points_from entries items m) (points_from (entries ++ e ∷ []) more (length entries))
   put_union = record {
     only = λ p h. elim (Contains-append_cases put_front (points_from entries items e.next) p (subst (λ ps. Contains ps p) put_points h)) [
@@ -236,6 +240,7 @@ is_put {V} rules laws entries items more departure m points may e first departs 
     subst (λ n. IsPut rules entries now items more departure m points n) (sym index_is)
     (subst (λ (es : List (FrontEntry V)). IsPut rules entries es items more departure m points (length entries)) (sym pushed_is) (record {
       departs = put_departs rules laws entries items more may.sound departure m points may e first departs f filled part room;
+      carries = put_carries rules laws entries items more may.sound departure m points may e first departs f filled part room;
       joined = record {
         more_are = record {
           sound = put_are rules laws entries items more may.sound departure m points may e first departs f filled part room;

@@ -8,9 +8,10 @@ use Rattle.reasoning.proofs.ListLemmas.{not_in_nil, contains_first, contains_res
 use Rattle.criteria.specs.Laws.{Rules, Laws, Admits}
 use Rattle.fronts.specs.declared.entry.Item.{Item}
 use Rattle.fronts.specs.declared.entry.FrontEntry.{FrontEntry}
-use Rattle.fronts.specs.Front.{own, front_of, front, next_in, departure_in, next_of, departure_of, points_to, points_from, Betters}
+use Rattle.fronts.specs.Front.{own, front_of, front, next_in, departure_in, next_of, departure_of, points_from, Betters}
 use Rattle.fronts.specs.Entries.{AreEntries}
 use Rattle.fronts.specs.Putting.{IsLate, betters, outdoes_alone}
+use Rattle.fronts.proofs.Chains as chain
 
 -- on the way to the first late entry
 pub record LeadsTo {V : Type 0} (entries : List (FrontEntry V)) (items : List (Item V)) (head time m : ℕ) : Type 0 where
@@ -26,32 +27,13 @@ pub next_at : {V : Type 0} (entries : List (FrontEntry V)) (m : ℕ) (e : FrontE
 next_at entries m e lt is = ap next_in (slice_get-get_or entries m e lt ∙ ap Some (sym is))
 
 module _ {V : Type 0} (rules : Rules V) (entries : List (FrontEntry V)) (items : List (Item V)) (are : AreEntries rules entries items) where
-  fuel : (n k m : ℕ) → m ≤ n → m ≤ k → points_to entries items n m ≡ points_to entries items k m
-  unfolding points_to
-  fuel zero zero m a b = refl
-  fuel zero (suc k) zero a b = refl
-  fuel zero (suc k) (suc m) a b = absurd (omega arith)
-  fuel (suc n) zero zero a b = refl
-  fuel (suc n) zero (suc m) a b = absurd (omega arith)
-  fuel (suc n) (suc k) zero a b = refl
-  fuel (suc n) (suc k) (suc m) a b =
-      let back = are.back m in
-      ap (λ xs. front entries items (suc m) ++ xs) (fuel n k (next_of entries (suc m)) (omega arith) (omega arith))
-
-  unrolled_suc : (m : ℕ) → points_from entries items (suc m) ≡ front entries items (suc m) ++ points_from entries items (next_of entries (suc m))
-  unfolding points_to
-  unrolled_suc m =
-      let back = are.back m in
-      ap (λ xs. front entries items (suc m) ++ xs) (fuel m (next_of entries (suc m)) (next_of entries (suc m)) back (omega arith))
-
   pub none_at_end : points_from entries items 0 ≡ []
-  unfolding points_to
-  none_at_end = refl
+  none_at_end = chain.none_at_end (next_of entries) (front entries items)
 
   -- a list's points are those of its first front, and those of the rest
   pub unrolled : (m : ℕ) → points_from entries items m ≡ front entries items m ++ points_from entries items (next_of entries m)
   unrolled zero = none_at_end ∙ sym (ap (points_from entries items) are.ends ∙ none_at_end)
-  unrolled (suc m) = unrolled_suc m
+  unrolled (suc m) = chain.unrolled (next_of entries) (front entries items) are.back m
 
   pub of_front : (m : ℕ) (p : Item V) → Contains (front entries items m) p → Contains (points_from entries items m) p
   of_front m p h = subst (λ xs. Contains xs p) (sym (unrolled m))

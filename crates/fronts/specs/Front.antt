@@ -2,6 +2,7 @@
 use Rattle.std.specs.Prelude.{ℕ, zero, suc, ◌≤◌, List, [], ◌∷◌, ◌++◌, take, drop, slice_get, Contains}
 use Rattle.std.specs.Prelude.{Option, Some, None}
 pub use Rattle.reasoning.specs.Lists.{Extends}
+use Rattle.fronts.specs.Chains.{points_along}
 use Rattle.criteria.specs.Laws.{Rules, NoWorse}
 use Rattle.fronts.specs.declared.entry.Item.{Item}
 use Rattle.fronts.specs.declared.entry.FrontEntry.{FrontEntry}
@@ -36,16 +37,9 @@ departure_in (Some e) = e.departure
 abbrev pub departure_of : {V : Type 0} → List (FrontEntry V) → ℕ → ℕ
 departure_of entries m = departure_in (slice_get entries m)
 
--- the points of the fronts along the list from entry m on, of at most n entries
-unfoldable pub points_to : {V : Type 0} → List (FrontEntry V) → List (Item V) → ℕ → ℕ → List (Item V)
-points_to entries items zero m = []
-points_to entries items (suc n) zero = []
-points_to entries items (suc n) (suc m) =
-    front entries items (suc m) ++ points_to entries items n (next_of entries (suc m))
-
--- the points of the list that begins at an entry
+-- the points of the list that begins at an entry: those of the fronts along it
 abbrev pub points_from : {V : Type 0} → List (FrontEntry V) → List (Item V) → ℕ → List (Item V)
-points_from entries items head = points_to entries items head head
+points_from entries items head = points_along (next_of entries) (front entries items) head
 
 -- a point of the list is no worse than v (an equal one counts)
 abbrev pub Betters : {V : Type 0} → Rules V → List (Item V) → V → Type 0

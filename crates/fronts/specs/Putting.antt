@@ -3,6 +3,7 @@ use Rattle.std.specs.Prelude.{◌≡◌, ◌⊎◌, ℕ, ◌<◌, ◌≤◌, Lis
 use Rattle.std.specs.Prelude.{Contains, length, Result, MatchResult}
 use Rattle.std.specs.List.{list_any}
 use Rattle.criteria.specs.Laws.{Rules, Admits}
+use Rattle.fronts.specs.Chains.{IsChainPath}
 use Rattle.fronts.specs.declared.entry.Item.{Item}
 use Rattle.fronts.specs.declared.entry.FrontEntry.{FrontEntry}
 use Rattle.fronts.specs.Front.{front, next_of, departure_of, points_from, Covers, Extends}
@@ -36,8 +37,7 @@ pub record IsLate {V : Type 0} (entries : List (FrontEntry V)) (items : List (It
 
 -- these entries, one after the other, lead from `head` to m along a list
 abbrev pub IsPath : {V : Type 0} → List (FrontEntry V) → ℕ → List ℕ → ℕ → Type 0
-IsPath entries head [] m = head ≡ m
-IsPath entries head (b ∷ bs) m = (head ≡ b) × (0 < b) × (b < length entries) × IsPath entries (next_of entries b) bs m
+IsPath entries head passed m = IsChainPath (next_of entries) (length entries) head passed m
 
 -- these entries depart before a time
 abbrev pub DepartBefore : {V : Type 0} → List (FrontEntry V) → ℕ → List ℕ → Type 0
@@ -79,10 +79,12 @@ pub record IsJoined {V : Type 0} (rules : Rules V) (a b : List (Item V)) (old no
   pub within : head < length now
   pub union : IsUnion rules a b (points_from now more head)
 
--- a front is put before the list from entry m on: the new list begins at `index`, with these points of one departure
+-- a front is put before the list from entry m on: the new list begins at `index`, with these points of one departure, and those of the old front that they
+-- don't better
 pub record IsPut {V : Type 0} (rules : Rules V) (old now : List (FrontEntry V)) (items more : List (Item V))
     (departure m : ℕ) (points : List (Item V)) (index : ℕ) : Type 0 where
   pub departs : departure_of now index ≡ departure
+  pub carries : front now more index ≡ points ++ left_by rules points (front old items m)
   pub joined : IsJoined rules points (points_from old items m) old now items more index
 
 -- the list from `head` on has what entry `from`'s list and that from `index` on had, and begins no earlier than `from`

@@ -136,9 +136,9 @@ impl<C: Criterion> FrontLists<C> {
         )
     }
 
-    /// Takes one ridden value, after a footpath, into a list, as [`FrontLists::insert`] takes several.
+    // Takes one ridden value, after a footpath, into a list, as `FrontLists::insert` takes several.
     #[inline(always)]
-    pub fn insert_one(
+    fn insert_one(
         &mut self,
         head: u32,
         boarding: Boarding,

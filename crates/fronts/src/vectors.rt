@@ -1,7 +1,8 @@
 //! Vectors of copies, and how they grow.
 
-ghost use Rattle.std.specs.Prelude.{◌≡◌, ◌≤◌, ◌<◌, ◌++◌, ◌∷◌, [], IfOk, OnErr, OnOk};
+ghost use Rattle.std.specs.Prelude.{◌≡◌, ◌<◌, ◌++◌, ◌∷◌, [], IfOk, OnErr, OnOk};
 ghost use Rattle.std.specs.Prelude.{replicate, vec_capacity, vec_len};
+ghost use Rattle.fronts.specs.Vectors.{IsFull};
 
 use std::alloc::{AllocError, Global};
 
@@ -17,12 +18,12 @@ pub fn copies<T: Copy>(alloc: Global, item: T, count: usize) -> Result<Vec<T>, A
 }
 
 /// Appends an item. Mostly there is room for it, and then nothing is called, nor is the item written anywhere else. If
-/// memory runs out, the vector was full and the items stay.
+/// memory runs out, the vector is full and the items stay.
 #[inline(always)]
 pub fn append<T: Copy>(items: &mut Vec<T>, item: T) -> Result<(), AllocError>
     ensures added { OnOk result (items.new.items ≡ items.old.items ++ item ∷ []) }
     ensures same { OnErr result (items.new.items ≡ items.old.items) }
-    ensures full { OnErr result (vec_capacity items.old ≤ vec_len items.old) }
+    ensures full { OnErr result (IsFull items.new) }
 {
     make_room(items)?;
     items.push_reserved(item);
@@ -34,7 +35,7 @@ pub fn append<T: Copy>(items: &mut Vec<T>, item: T) -> Result<(), AllocError>
 fn make_room<T>(items: &mut Vec<T>) -> Result<(), AllocError>
     ensures items { items.new.items ≡ items.old.items }
     ensures room { OnOk result (vec_len items.new < vec_capacity items.new) }
-    ensures full { OnErr result (vec_capacity items.old ≤ vec_len items.old) }
+    ensures full { OnErr result (IsFull items.new) }
 {
     if items.len() < items.capacity() {
         return Ok(());
@@ -45,9 +46,10 @@ fn make_room<T>(items: &mut Vec<T>) -> Result<(), AllocError>
 // Makes room for more items in a vector that is full. It is rare, so it is a call and never inlined.
 #[inline(never)]
 fn grow<T>(items: &mut Vec<T>) -> Result<(), AllocError>
-    requires { vec_capacity items.old ≤ vec_len items.old }
+    requires { IsFull items.old }
     ensures items { items.new.items ≡ items.old.items }
     ensures room { OnOk result (vec_len items.new < vec_capacity items.new) }
+    ensures full { OnErr result (IsFull items.new) }
 {
     items.reserve(1)
 }

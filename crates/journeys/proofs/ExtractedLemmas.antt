@@ -10,8 +10,8 @@ use Rattle.bags.specs.declared.point.Point.{Point}
 use Rattle.timetable.specs.TimetableValue.{TimetableValue}
 use Rattle.timetable.specs.JourneyValue.{JourneyValue}
 use Rattle.timetable.specs.declared.query.Query.{Query}
-use Rattle.profile_scan.specs.SetQuery.{SetQueryValue, query_of_pair}
-use Rattle.profile_scan.specs.Points.{IsAnswerOf, untagged}
+use Rattle.scan_state.specs.SetQuery.{SetQueryValue, query_of_pair}
+use Rattle.scan_state.specs.Points.{IsAnswerOf, untagged}
 use Rattle.profile_scan.proofs.AnsweredLemmas.{spelled_again_answer}
 use Rattle.journeys.specs.Answer.{point_of}
 use Rattle.journeys.specs.Extracted.{Attains, AttainsBetween}

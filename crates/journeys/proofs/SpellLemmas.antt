@@ -11,15 +11,16 @@ use Rattle.timetable.specs.declared.query.Query.{Query}
 use Rattle.timetable.specs.TimetableValue.{TimetableValue}
 use Rattle.timetable.specs.Journeys.{start_end}
 use Rattle.profile_scan.specs.Answered.{IsAnswered, IsAnsweredBetween}
-use Rattle.profile_scan.specs.SetQuery.{SetQueryValue}
+use Rattle.scan_state.specs.SetQuery.{SetQueryValue}
 use Rattle.profile_scan.specs.Found.{Answers, criterion_of_found, listed, nodes_of, query_of, timetable_of, walk_of_found}
 use Rattle.profile_scan.specs.Found.{AnswersBetween, criterion_between, listed_between, nodes_between, query_between, timetable_between, walk_between}
 use Rattle.profile_scan.specs.declared.found.Found.{Found}
 use Rattle.profile_scan.specs.declared.found_between.FoundBetween.{FoundBetween}
 use Rattle.timetable.specs.JourneyValue.{RideValue, JourneyValue}
-use Rattle.profile_scan.specs.Continuations.{Aboard}
-use Rattle.profile_scan.specs.Steps.{boarded}
-use Rattle.profile_scan.specs.Nodes.{Spelled, nothing, spelled, spelling, spells, changed_at, boarded_after, set_out_by, walk_of}
+use Rattle.scan_state.specs.Continuations.{Aboard}
+use Rattle.scan_state.specs.Steps.{boarded}
+use Rattle.profile_scan.specs.Nodes.{Spelled, nothing, spelled, spelling, spells}
+use Rattle.scan_state.specs.ScanRecords.{changed_at, boarded_after, set_out_by, walk_of}
 use Rattle.profile_scan.specs.declared.nodes.Node.{Node}
 use Rattle.profile_scan.specs.declared.nodes.Node.TheVariants.{Ends, Changes, Boards, SetsOut}
 use Rattle.profile_scan.proofs.NodeLemmas.{spelled_at, spelled_past}

@@ -6,12 +6,13 @@ use Rattle.timetable.specs.TimetableValue.{TimetableValue}
 use Rattle.timetable.specs.JourneyValue.{RideValue, JourneyValue}
 use Rattle.timetable.specs.Journeys.{Counts}
 use Rattle.timetable.specs.declared.query.Query.{Query}
-use Rattle.profile_scan.specs.Values.{journey_value}
-use Rattle.profile_scan.specs.SetQuery.{SetQueryValue, Pair, query_of_pair}
-use Rattle.profile_scan.specs.Plain.{IsPlain, IsPlainOf}
-use Rattle.profile_scan.specs.Continuations.{Aboard}
-use Rattle.profile_scan.specs.Steps.{boarded}
-use Rattle.profile_scan.specs.Nodes.{spelled, changed_at, boarded_after, walk_of}
+use Rattle.scan_state.specs.Values.{journey_value}
+use Rattle.scan_state.specs.SetQuery.{SetQueryValue, Pair, query_of_pair}
+use Rattle.scan_state.specs.Plain.{IsPlain, IsPlainOf}
+use Rattle.scan_state.specs.Continuations.{Aboard}
+use Rattle.scan_state.specs.Steps.{boarded}
+use Rattle.profile_scan.specs.Nodes.{spelled}
+use Rattle.scan_state.specs.ScanRecords.{changed_at, boarded_after, walk_of}
 use Rattle.profile_scan.specs.declared.nodes.Node.{Node}
 use Rattle.journeys.specs.declared.extraction.BoardingNode.{BoardingNode}
 use Rattle.journeys.specs.declared.extraction.Alighting.{Alighting}

@@ -2,9 +2,9 @@
 
 ghost use Rattle.std.specs.Prelude.{◌<◌, Contains, IfOk, map};
 ghost use Rattle.timetable.specs.TimetableValue.{TimetableValue};
-ghost use Rattle.profile_scan.specs.SetQuery.{SetQueryValue, IsAnswerBetween};
+ghost use Rattle.scan_state.specs.SetQuery.{SetQueryValue, IsAnswerBetween};
 ghost use Rattle.profile_scan.specs.Found.{AnswersBetween};
-ghost use Rattle.profile_scan.specs.Origins.{from_stop};
+ghost use Rattle.scan_state.specs.Origins.{from_stop};
 ghost use Rattle.profile_scan.specs.Everywhere.{AnswerToAny, asked_to_any, criterion_to_any};
 ghost use Rattle.journeys.specs.Answer.{point_of};
 ghost use Rattle.journeys.specs.Extracted.{AttainsBetween};

@@ -4,12 +4,13 @@ ghost use Rattle.std.specs.Prelude.{◌≡◌, ◌<◌, ◌++◌, ◌∷◌, [],
 ghost use Rattle.std.specs.Prelude.{slice_get};
 ghost use Rattle.timetable.specs.TimetableValue.{TimetableValue};
 ghost use Rattle.timetable.specs.declared.query.Query.{Query};
-ghost use Rattle.profile_scan.specs.Continuations.{Aboard};
-ghost use Rattle.profile_scan.specs.SetQuery.{SetQueryValue};
+ghost use Rattle.scan_state.specs.Continuations.{Aboard};
+ghost use Rattle.scan_state.specs.SetQuery.{SetQueryValue};
 ghost use Rattle.profile_scan.specs.Found.{Answers, criterion_of_found, listed, nodes_of, query_of, timetable_of};
 ghost use Rattle.profile_scan.specs.Found.{AnswersBetween, criterion_between, listed_between, nodes_between};
 ghost use Rattle.profile_scan.specs.Found.{query_between, timetable_between};
-ghost use Rattle.profile_scan.specs.Nodes.{spelled, walk_of};
+ghost use Rattle.profile_scan.specs.Nodes.{spelled};
+ghost use Rattle.scan_state.specs.ScanRecords.{walk_of};
 ghost use Rattle.profile_scan.specs.declared.nodes.Node.{Node};
 ghost use Rattle.journeys.specs.Extracted.{Attains, AttainsBetween, IsAlighting, IsBoarding, or_none, rides_on};
 

@@ -2,35 +2,18 @@
 use Rattle.std.proofs.Common.{◌≡◌, ◌⊎◌, ℕ, zero, suc, ◌<◌, ◌≤◌, nat_lt, List, [], ◌∷◌, ◌++◌, filter, map, length, Contains, slice_get, slice_index}
 use Rattle.std.proofs.Common.{Option, Some, get_or, inl, inr, refl, sym, ap, ◌∙◌, subst, arith}
 use Rattle.std.proofs.lemmas.Bool.{ltb-true, lt-ltb}
-use Rattle.std.proofs.lemmas.List.Elements.{Contains-append_left, Contains-append_right, Contains-append_cases, Contains-push_cases}
+use Rattle.std.proofs.lemmas.List.Elements.{Contains-append_left, Contains-append_right, Contains-append_cases}
 use Rattle.std.proofs.lemmas.Option.{slice_get-get_or}
 use Rattle.reasoning.proofs.ListLemmas.{not_in_nil, contains_cases, contains_first, contains_rest, from_filter, into_filter, at_below}
 use Rattle.criteria.specs.declared.arrival_trips.TimeTrips.{TimeTrips}
 use Rattle.bags.specs.declared.point.Point.{Point}
 use Rattle.fronts.specs.declared.labels.Label.{Label}
+use Rattle.fronts.proofs.Chains as chain
+pub use Rattle.fronts.proofs.Mapped.{from_map, into_map}
 use Rattle.lanes.specs.Lanes.{never}
 use Rattle.lanes.specs.LaneLists.{word_tag, departure_in, next_in, words_in, tags_in, departure_of, next_of, word_of, tag_of, labels_of, point_of}
-use Rattle.lanes.specs.LaneLists.{own_points, points_to, points_from, AreLists, IsPath, DepartBefore}
+use Rattle.lanes.specs.LaneLists.{own_points, points_from, AreLists, IsPath, DepartBefore}
 use Rattle.lanes.specs.declared.lane_lists.LaneEntry.{LaneEntry}
-
--- what an index gives is there
-pub there : (entries : List LaneEntry) (m : ℕ) (e : LaneEntry) → m < length entries → e ≡ get_or entries m e → slice_get entries m ≡ Some e
-there entries m e below is = slice_get-get_or entries m e below ∙ ap Some (sym is)
-
--- elements of a list that is mapped
-pub from_map : {X Y : Type 0} (f : X → Y) (xs : List X) (y : Y) → Contains (map f xs) y → (x : X) × Contains xs x × (f x ≡ y)
-from_map f [] y h = absurd (not_in_nil y h)
-from_map f (x ∷ xs) y h = elim (contains_cases y (f x) (map f xs) h) [
-  | inl e ↦ (x, contains_first x xs, e)
-  | inr r ↦ let s = from_map f xs y r in (s.0, contains_rest s.0 x xs s.1, s.2)
-]
-
-pub into_map : {X Y : Type 0} (f : X → Y) (xs : List X) (x : X) → Contains xs x → Contains (map f xs) (f x)
-into_map f [] x h = absurd (not_in_nil x h)
-into_map {X} {Y} f (y ∷ ys) x h = elim (contains_cases x y ys h) [
-  | inl e ↦ subst (λ z. Contains (map f (y ∷ ys)) (f z)) e (contains_first (f y) (map f ys))
-  | inr r ↦ contains_rest (f x) (f y) (map f ys) (into_map f ys x r)
-]
 
 -- a point of an entry
 pub record IsOwn (entries : List LaneEntry) (m : ℕ) (p : Point TimeTrips) : Type 0 where
@@ -54,27 +37,11 @@ own_is entries m l is less =
     (into_filter test (labels_of (slice_get entries m)) l is (lt-ltb l.value.time (word_of entries (next_of entries m) l.value.trips) less))
 
 module _ (entries : List LaneEntry) (are : AreLists entries) where
-  fuel : (n k m : ℕ) → m ≤ n → m ≤ k → points_to entries n m ≡ points_to entries k m
-  unfolding points_to
-  fuel zero zero m a b = refl
-  fuel zero (suc k) zero a b = refl
-  fuel zero (suc k) (suc m) a b = absurd (omega arith)
-  fuel (suc n) zero zero a b = refl
-  fuel (suc n) zero (suc m) a b = absurd (omega arith)
-  fuel (suc n) (suc k) zero a b = refl
-  fuel (suc n) (suc k) (suc m) a b =
-      let back = are.back m in
-      ap (λ xs. own_points entries (suc m) ++ xs) (fuel n k (next_of entries (suc m)) (omega arith) (omega arith))
-
   unrolled : (m : ℕ) → points_from entries (suc m) ≡ own_points entries (suc m) ++ points_from entries (next_of entries (suc m))
-  unfolding points_to
-  unrolled m =
-      let back = are.back m in
-      ap (λ xs. own_points entries (suc m) ++ xs) (fuel m (next_of entries (suc m)) (next_of entries (suc m)) back (omega arith))
+  unrolled m = chain.unrolled (next_of entries) (own_points entries) are.back m
 
   none_at_end : points_from entries 0 ≡ []
-  unfolding points_to
-  none_at_end = refl
+  none_at_end = chain.none_at_end (next_of entries) (own_points entries)
 
   pub of_own : (m : ℕ) (p : Point TimeTrips) → 0 < m → Contains (own_points entries m) p → Contains (points_from entries m) p
   of_own zero p some h = absurd (omega (arith, some))
@@ -164,23 +131,3 @@ module _ (entries : List LaneEntry) (are : AreLists entries) where
       let is : c ≡ b = sym other.0 ∙ path.0 in
       path_one time bs cs (next_of entries b) m n path.3 (subst (λ x. IsPath entries (next_of entries x) cs n) is other.3)
       (λ x h. early x (contains_rest x b bs h)) (λ x h. before x (contains_rest x c cs h)) late later
-
-pub path_push : (entries : List LaneEntry) (head : ℕ) (bs : List ℕ) (b n : ℕ) → IsPath entries head bs b → 0 < b → b < length entries
-    → next_of entries b ≡ n → IsPath entries head (bs ++ b ∷ []) n
-path_push entries head [] b n path some within next = (path, some, within, next)
-path_push entries head (x ∷ xs) b n path some within next =
-    (path.0, path.1, path.2, path_push entries (next_of entries x) xs b n path.3 some within next)
-
-pub path_pop : (entries : List LaneEntry) (head : ℕ) (bs : List ℕ) (b m : ℕ) → IsPath entries head (bs ++ b ∷ []) m
-    → IsPath entries head bs b × (0 < b) × (b < length entries) × (next_of entries b ≡ m)
-path_pop entries head [] b m path = (path.0, path.1, path.2, path.3)
-path_pop entries head (x ∷ xs) b m path =
-    let rest = path_pop entries (next_of entries x) xs b m path.3 in
-    ((path.0, path.1, path.2, rest.0), rest.1, rest.2, rest.3)
-
-pub before_push : (entries : List LaneEntry) (time : ℕ) (bs : List ℕ) (b : ℕ) → DepartBefore entries time bs → departure_of entries b < time
-    → DepartBefore entries time (bs ++ b ∷ [])
-before_push entries time bs b before early x h = elim (Contains-push_cases bs b x h) [
-  | inl a ↦ before x a
-  | inr e ↦ subst (λ k. departure_of entries k < time) e early
-]

@@ -11,7 +11,8 @@ use Rattle.lanes.specs.Lanes.{trip_rules}
 use Rattle.lanes.specs.LaneLists.{departure_in, next_in, words_in, departure_of, next_of, word_of, points_from}
 use Rattle.lanes.specs.LaneLists.{AreLists, IsPath, DepartBefore, CoversAll, IsUnder, MayJoin, AreJoined, IsOneJoined, MayJoinAll, ArePassed}
 use Rattle.lanes.specs.declared.lane_lists.LaneEntry.{LaneEntry}
-use Rattle.lanes.proofs.EntryLemmas.{rises, of_next, path_pop, path_one}
+use Rattle.fronts.proofs.Chains.{path_pop}
+use Rattle.lanes.proofs.EntryLemmas.{rises, of_next, path_one}
 use Rattle.lanes.proofs.PushLemmas.{same_entry, same_points, longer}
 
 -- what is joined so far: all from entry `was` on; `rest` are the entries before it
@@ -52,7 +53,7 @@ module _ (old : List LaneEntry) (are : AreLists old) (head index : ℕ) (now : L
   more = so_far.joined.more.more
 
   last : IsPath old head rest from × (0 < from) × (from < length old) × (next_of old from ≡ was)
-  last = path_pop old head rest from was (subst (λ bs. IsPath old head bs was) popped so_far.path)
+  last = path_pop (next_of old) (length old) head rest from was (subst (λ bs. IsPath old head bs was) popped so_far.path)
 
   from_same : slice_get now from ≡ slice_get old from
   from_same = same_entry old now more from last.2

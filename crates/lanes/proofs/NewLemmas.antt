@@ -6,26 +6,12 @@ use Rattle.reasoning.proofs.ListLemmas.{not_in_nil, same_at}
 use Rattle.criteria.specs.declared.arrival_trips.TimeTrips.{TimeTrips}
 use Rattle.fronts.specs.declared.labels.Label.{Label}
 use Rattle.lanes.specs.Lanes.{never, AreLanes, labels_from, lane_labels}
-use Rattle.lanes.specs.LaneLists.{departure_in, words_in, tags_in, word_tag, points_to, points_from, IsLinked, AreLists}
+use Rattle.lanes.specs.LaneLists.{departure_in, words_in, tags_in, word_tag, next_of, own_points, points_from, IsLinked, AreLists}
 use Rattle.lanes.specs.declared.lane_lists.LaneEntry.{LaneEntry}
+use Rattle.fronts.proofs.Chains.{none_at_end}
 use Rattle.lanes.proofs.LaneLemmas.{label_below}
 
--- lanes that are never stand for no labels
-none_from : (tag : ℕ → ℕ) (k : ℕ) (ts : List ℕ) → ((i : ℕ) → i < length ts → never ≤ slice_index ts i) → labels_from tag k never ts ≡ []
-none_from tag k [] all = refl
-none_from tag k (t ∷ ts) all =
-    cond-false (nat_lt t never) (record { value = record { time = t; trips = k }; tag = tag k } ∷ labels_from tag (suc k) t ts)
-    (labels_from tag (suc k) never ts)
-    (le-ltb t never (all 0 (omega arith)))
-    ∙ none_from tag (suc k) ts (λ i lt. all (suc i) (omega (arith, lt)))
-
--- and so do eight lanes of which the last is never
-pub no_labels : (tag : ℕ → ℕ) (lanes : List ℕ) → AreLanes 8 lanes → never ≤ slice_index lanes 7 → lane_labels tag lanes ≡ []
-no_labels tag lanes are last =
-    let long = are.long in
-    none_from tag 0 lanes (λ i lt. let f = are.falls i 7 (omega (arith, lt, long)) (omega arith) in omega (arith, f, last))
-
--- the other way round
+-- lanes that stand for no labels are never
 pub none_words : (tag : ℕ → ℕ) (words : List ℕ) → AreLanes 9 words → lane_labels tag words ≡ [] → (k : ℕ) → k < 9 → slice_index words k ≡ never
 none_words tag words are none k lt =
     let long = are.long in
@@ -38,8 +24,7 @@ none_words tag words are none k lt =
     ]
 
 pub no_points : (entries : List LaneEntry) → points_from entries 0 ≡ []
-unfolding points_to
-no_points entries = refl
+no_points entries = none_at_end (next_of entries) (own_points entries)
 
 -- the entry that ends each list, alone
 pub end_lists : (entries : List LaneEntry) (e : LaneEntry) → entries ≡ e ∷ [] → e.departure ≡ 4294967295 → e.next ≡ 0 → length e.tags ≡ 8

@@ -8,8 +8,9 @@ use Rattle.reasoning.proofs.ListLemmas.{slice_get-front, slice_get-last, same_at
 use Rattle.criteria.specs.declared.arrival_trips.TimeTrips.{TimeTrips}
 use Rattle.bags.specs.declared.point.Point.{Point}
 use Rattle.lanes.specs.LaneLists.{word_tag, departure_in, next_in, words_in, tags_in, next_of, labels_of, point_of}
-use Rattle.lanes.specs.LaneLists.{own_points, points_to, points_from, IsLinked, AreLists, IsPath, AreMore}
+use Rattle.lanes.specs.LaneLists.{own_points, points_from, IsLinked, AreLists, IsPath, AreMore}
 use Rattle.lanes.specs.declared.lane_lists.LaneEntry.{LaneEntry}
+use Rattle.fronts.proofs.Chains as chain
 use Rattle.lanes.proofs.EntryLemmas.{next_within}
 
 pub same_entry : (old new : List LaneEntry) → Extends old new → (m : ℕ) → m < length old → slice_get new m ≡ slice_get old m
@@ -29,29 +30,16 @@ module _ (old new : List LaneEntry) (are : AreLists old) (more : Extends old new
       ap (λ o. own_by o (words_in (slice_get new (next_in o)))) here
       ∙ ap (λ o. own_by (slice_get old m) (words_in o)) (same_entry old new more (next_of old m) (next_within old are m within))
 
-  same_to : (n m : ℕ) → m < length old → points_to new n m ≡ points_to old n m
-  unfolding points_to
-  same_to zero m within = refl
-  same_to (suc n) zero within = refl
-  same_to (suc n) (suc m) within =
-      ap (λ xs. xs ++ points_to new n (next_of new (suc m))) (same_own (suc m) within)
-      ∙ ap (λ k. own_points old (suc m) ++ points_to new n k) (ap next_in (same_entry old new more (suc m) within))
-      ∙ ap (λ xs. own_points old (suc m) ++ xs) (same_to n (next_of old (suc m)) (next_within old are (suc m) within))
+  same_next : (m : ℕ) → m < length old → next_of new m ≡ next_of old m
+  same_next m within = ap next_in (same_entry old new more m within)
 
   -- a list has the points that it had
   pub same_points : (m : ℕ) → m < length old → points_from new m ≡ points_from old m
-  same_points m within = same_to m m within
+  same_points m within =
+      chain.same_along (next_of old) (own_points old) are.back (next_of new) (own_points new) (length old) same_next same_own m within
 
   pub path_more : (head : ℕ) (bs : List ℕ) (m : ℕ) → IsPath old head bs m → IsPath new head bs m
-  path_more head [] m path = path
-  path_more head (x ∷ xs) m path =
-      let l = longer old new more in
-      let lt = path.2 in (
-        path.0,
-        path.1,
-        omega (arith, l, lt),
-        subst (λ n. IsPath new n xs m) (sym (ap next_in (same_entry old new more x path.2))) (path_more (next_of old x) xs m path.3),
-      )
+  path_more = chain.path_more (next_of old) (length old) (next_of new) (length new) (longer old new more) same_next
 
 linked_more : (old new : List LaneEntry) (e : LaneEntry) → Extends old new → e.next < length old → IsLinked old e → IsLinked new e
 linked_more old new e more within is =

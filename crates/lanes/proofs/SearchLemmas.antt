@@ -10,7 +10,8 @@ use Rattle.lanes.specs.LaneLists.{AreLists, HasList, IsPath, DepartBefore, Passe
 use Rattle.lanes.specs.declared.lane_lists.LaneEntry.{LaneEntry}
 use Rattle.lanes.proofs.LaneLemmas.{beaten_at}
 use Rattle.std.proofs.lemmas.Option.{slice_get-get_or}
-use Rattle.lanes.proofs.EntryLemmas.{next_within, next_less, not_end, path_on, path_past, path_push, before_push}
+use Rattle.fronts.proofs.Chains.{path_push, before_push}
+use Rattle.lanes.proofs.EntryLemmas.{next_within, next_less, not_end, path_on, path_past}
 use Rattle.lanes.proofs.CoverLemmas.{nine, owner, along}
 
 -- on the way from `head` to the first entry that departs at a time or later
@@ -33,8 +34,8 @@ leads_on entries head time passed m e f are leads early most =
     let some = not_end entries are m time departs most in (
       record {
         within = subst (λ n. n < length entries) next (next_within entries are m leads.within);
-        path = path_push entries head passed m (get_or entries m f).next leads.path some leads.within next;
-        early = before_push entries time passed m leads.early departs;
+        path = path_push (next_of entries) (length entries) head passed m (get_or entries m f).next leads.path some leads.within next;
+        early = before_push (departure_of entries) time passed m leads.early departs;
       },
       subst (λ n. n < m) next (next_less entries are m some),
     )

@@ -16,10 +16,6 @@ use Rattle.lanes.specs.declared.trip_lanes.TripLanes.{TripLanes}
 use Rattle.lanes.specs.declared.words.Words.{Words}
 use Rattle.lanes.proofs.TakeLemmas as take
 
--- what an index gives is there
-pub there_at : {X : Type 0} (xs : List X) (i : ℕ) (x : X) → i < length xs → x ≡ get_or xs i x → slice_get xs i ≡ Some x
-there_at xs i x below is = slice_get-get_or xs i x below ∙ ap Some (sym is)
-
 pub tagged_set : (all : List Lanes) (trip : ℕ) (lanes : Lanes) → trip < length all → AreAllTagged all → AreTagged lanes
     → AreAllTagged (slice_set all trip lanes)
 tagged_set all trip lanes there each are k other at =

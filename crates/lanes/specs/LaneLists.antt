@@ -5,6 +5,7 @@ use Rattle.reasoning.specs.Lists.{Extends}
 use Rattle.criteria.specs.declared.arrival_trips.TimeTrips.{TimeTrips}
 use Rattle.bags.specs.Dominance.{IsCovered}
 use Rattle.bags.specs.declared.point.Point.{Point}
+use Rattle.fronts.specs.Chains.{points_along, IsChainPath}
 use Rattle.fronts.specs.declared.labels.Label.{Label}
 use Rattle.lanes.specs.Lanes.{never, trip_rules, lane_labels}
 use Rattle.lanes.specs.LanesWithTags.{labels_in}
@@ -59,15 +60,9 @@ own_points entries m =
     map (point_of (departure_of entries m))
     (filter (λ l. nat_lt l.value.time (word_of entries (next_of entries m) l.value.trips)) (labels_of (slice_get entries m)))
 
--- the own points of the entries along the list from entry m on, of at most n entries; entry 0 ends each list
-unfoldable pub points_to : List LaneEntry → ℕ → ℕ → List (Point TimeTrips)
-points_to entries zero m = []
-points_to entries (suc n) zero = []
-points_to entries (suc n) (suc m) = own_points entries (suc m) ++ points_to entries n (next_of entries (suc m))
-
--- the points of the list that begins at an entry
+-- the points of the list that begins at an entry: the own points of the entries along it
 abbrev pub points_from : List LaneEntry → ℕ → List (Point TimeTrips)
-points_from entries head = points_to entries head head
+points_from entries head = points_along (next_of entries) (own_points entries) head
 
 -- an entry departs no later than the next one, and no word of its front is greater; an equal one has the same tag
 pub record IsLinked (entries : List LaneEntry) (e : LaneEntry) : Type 0 where
@@ -92,8 +87,7 @@ pub record HasList (entries : List LaneEntry) (head : ℕ) : Type 0 where
 
 -- these entries, one after the other, lead from `head` to m along a list
 abbrev pub IsPath : List LaneEntry → ℕ → List ℕ → ℕ → Type 0
-IsPath entries head [] m = head ≡ m
-IsPath entries head (b ∷ bs) m = (head ≡ b) × (0 < b) × (b < length entries) × IsPath entries (next_of entries b) bs m
+IsPath entries head passed m = IsChainPath (next_of entries) (length entries) head passed m
 
 -- these entries depart before a time
 abbrev pub DepartBefore : List LaneEntry → ℕ → List ℕ → Type 0

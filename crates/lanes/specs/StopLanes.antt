@@ -7,6 +7,7 @@ use Rattle.bags.specs.declared.point.Point.{Point}
 use Rattle.fronts.specs.declared.entry.Boarding.{Boarding}
 use Rattle.fronts.specs.declared.entry.Step.{Step}
 use Rattle.fronts.specs.declared.labels.Label.{Label}
+use Rattle.fronts.specs.Vectors.{IsFull}
 use Rattle.lanes.specs.Lanes.{trip_rules, IsBeaten, IsOutdone}
 use Rattle.lanes.specs.LaneLists.{AreLists, AreMore, CoversAll, labels_of, points_from, tags_in}
 use Rattle.lanes.specs.declared.lane_lists.LaneEntry.{LaneEntry}
@@ -58,6 +59,10 @@ pub record HasStepBeyond (boarding : Boarding) (label : ℕ) (old new : StopLane
   pub entries : new.entries ≡ old.entries
   pub more : Extends (steps_of old) (steps_of new)
   pub step : slice_get (steps_of new) (length (steps_of old)) ≡ Some (record { first = boarding.first; label = label; walk = boarding.walk })
+
+-- no step can be added: there is no room for it, or no tag of 32 bits
+abbrev pub HasNoStepLeft : StopLanes → Type 0
+HasNoStepLeft stops = IsFull stops.steps ⊎ (4294967295 < length (steps_of stops))
 
 -- there is a list for each stop
 pub record AreStopLanes (stops : StopLanes) : Type 0 where

@@ -3,7 +3,8 @@
 //! Entries are only pushed, never changed, so the index of an entry names the same list for ever. Entry 0 ends each
 //! list.
 
-ghost use Rattle.std.specs.Prelude.{◌+◌, ◌≤◌, IfOk, OnOk, length};
+ghost use Rattle.std.specs.Prelude.{◌+◌, ◌≤◌, IfOk, MatchResult, OnOk};
+ghost use Rattle.fronts.specs.Vectors.{HasNoRoom};
 ghost use Rattle.lanes.specs.LanesWithTags.{AreTagged};
 ghost use Rattle.lanes.specs.LaneLists.{AreJoined, ArePassed, HasList, IsLate, IsOnePut, IsPushed, MayJoin, MayJoinAll};
 ghost use Rattle.lanes.specs.LaneLists.{MayPut, IsOneJoined};
@@ -58,7 +59,7 @@ fn pass(
 // Adds an entry, and returns its index. Past 2^32 entries it fails, as if memory had run out.
 #[inline(always)]
 fn push(entries: &mut Vec<LaneEntry>, entry: LaneEntry) -> Result<u32, AllocError>
-    ensures { IfOk result (IsPushed entries.old.items entry entries.new.items) }
+    ensures { MatchResult result (IsPushed entries.old.items entry entries.new.items) (λ _. HasNoRoom entries.old) }
 {
     let index = entries.len();
     if index > u32::MAX as usize {
@@ -81,7 +82,8 @@ pub fn put(
     requires may { MayPut entries.old.items after departure }
     requires lanes { AreTagged lanes.now }
     requires tags { first + 7 ≤ 4294967295 }
-    ensures { IfOk result (IsOnePut entries.old.items after departure lanes.now first entries.new.items) }
+    ensures { MatchResult result (IsOnePut entries.old.items after departure lanes.now first entries.new.items)
+        (λ _. HasNoRoom entries.old) }
 {
     let behind = entries[after as usize];
     let entry = LaneEntry {
@@ -101,7 +103,8 @@ pub fn put(
 #[inline(always)]
 fn join_one(entries: &mut Vec<LaneEntry>, from: u32, index: u32) -> Result<u32, AllocError>
     requires { MayJoin entries.old.items from index }
-    ensures { IfOk result (IsOneJoined entries.old.items from index entries.new.items) }
+    ensures { MatchResult result (IsOneJoined entries.old.items from index entries.new.items)
+        (λ _. HasNoRoom entries.old) }
 {
     let old = entries[from as usize];
     let behind = entries[index as usize];

@@ -1,6 +1,7 @@
 //! The points of stops as lanes.
 
-ghost use Rattle.std.specs.Prelude.{◌≡◌, ◌+◌, ◌≤◌, IfOk, Some, length};
+ghost use Rattle.std.specs.Prelude.{◌≡◌, ◌⊎◌, ◌+◌, ◌<◌, ◌≤◌, IfOk, MatchResult, Some, length};
+ghost use Rattle.fronts.specs.Vectors.{IsFull};
 ghost use Rattle.lanes.specs.LanesWithTags.{AreTagged, labels_in};
 ghost use Rattle.lanes.specs.LaneLists.{HasList};
 ghost use Rattle.lanes.specs.TripLanes.{front_labels};
@@ -33,10 +34,10 @@ pub struct StopLanes {
 }
 
 impl StopLanes {
-    ghost use Rattle.std.specs.Prelude.{◌≡◌, ◌<◌, [], ℕ, IfOk, OnOk, false, true, length, slice_get, slice_index};
-    ghost use Rattle.lanes.specs.TripLanes.{front_labels, labels_at, trips_of};
+    ghost use Rattle.std.specs.Prelude.{[], ℕ, OnOk, false, true, slice_get};
+    ghost use Rattle.lanes.specs.TripLanes.{labels_at, trips_of};
     ghost use Rattle.lanes.specs.StopLanes.{AreStopLanes, IsFrontFrom, IsBoardedAt, front_at, points_at, steps_of};
-    ghost use Rattle.lanes.specs.StopLanes.{HasStepBeyond, entries_of, stops_of, tags_at};
+    ghost use Rattle.lanes.specs.StopLanes.{HasNoStepLeft, HasStepBeyond, entries_of, stops_of, tags_at};
     ghost use Rattle.bags.specs.Dominance.{IsCovered};
     ghost use Rattle.criteria.specs.Laws.{IsTime};
     ghost use Rattle.lanes.specs.Lanes.{lane_labels, trip_rules};
@@ -154,14 +155,16 @@ impl StopLanes {
 
     /// The tag of the next step. Past 2^32 steps it fails, as if memory had run out.
     pub fn next_tag(&self) -> Result<u32, AllocError>
-        ensures { IfOk result (λ tag. tag ≡ length (steps_of self.now)) }
+        ensures { MatchResult result (λ tag. tag ≡ length (steps_of self.now))
+            (λ _. 4294967295 < length (steps_of self.now)) }
     {
         next_step(&self.steps)
     }
 
     /// Adds the step of boarding with one label. No points change.
     pub fn push_step_beyond(&mut self, boarding: Boarding, label: u32) -> Result<(), AllocError>
-        ensures { OnOk result (HasStepBeyond boarding label self.old self.new) }
+        ensures { MatchResult result (λ _. HasStepBeyond boarding label self.old self.new)
+            (λ _. HasNoStepLeft self.new) }
     {
         push_step(&mut self.steps, boarding, [label; 8])?;
         Ok(())
@@ -236,7 +239,8 @@ fn board_list(
 // The tag of the next step, unless there are too many for the eight of a boarding.
 #[inline(always)]
 fn next_step(steps: &[LaneStep]) -> Result<u32, AllocError>
-    ensures { IfOk result (λ tag. (tag + 7 ≤ 4294967295) × (tag ≡ length (steps_in steps.now))) }
+    ensures { MatchResult result (λ tag. (tag + 7 ≤ 4294967295) × (tag ≡ length (steps_in steps.now)))
+        (λ _. 4294967295 < length (steps_in steps.now)) }
 {
     let count = steps.len();
     if count >= 1 << 29 {
@@ -253,8 +257,9 @@ fn push_step(
     boarding: Boarding,
     labels: [u32; 8],
 ) -> Result<u32, AllocError>
-    ensures { IfOk result (λ first. (first + 7 ≤ 4294967295)
-        × HasSteps boarding labels (steps_in steps.old.items) first (steps_in steps.new.items)) }
+    ensures { MatchResult result (λ first. (first + 7 ≤ 4294967295)
+        × HasSteps boarding labels (steps_in steps.old.items) first (steps_in steps.new.items))
+        (λ _. IsFull steps.new ⊎ (4294967295 < length (steps_in steps.new.items))) }
 {
     let first = next_step(steps)?;
     append(

@@ -11,11 +11,11 @@ use Rattle.criteria.specs.Laws.{Rules}
 use Rattle.criteria.specs.declared.figures.Figures.{Figures}
 use Rattle.bags.specs.declared.point.Point.{Point}
 use Rattle.image_layout.specs.Image.{ImageValue}
-use Rattle.profile_scan.specs.SetQuery.{SetQueryValue, IsAnswerBetween, IsAskableBetween}
+use Rattle.scan_state.specs.SetQuery.{SetQueryValue, IsAnswerBetween, IsAskableBetween}
 use Rattle.profile_scan.specs.Everywhere.{AnswerToAny, asked_to_any, criterion_to_any, listed_to_any}
-use Rattle.profile_scan.specs.Origins.{from_stop}
-use Rattle.profile_scan.specs.Points.{Before}
-use Rattle.profile_scan.specs.ScanRecords.{KeptValue}
+use Rattle.scan_state.specs.Origins.{from_stop}
+use Rattle.scan_state.specs.Points.{Before}
+use Rattle.scan_state.specs.ScanRecords.{KeptValue}
 use Rattle.profile_scan.specs.declared.to_any.ProfilesToAny.{ProfilesToAny}
 use Rattle.timetable.specs.TimetableValue.{TimetableValue}
 use Rattle.travel_times.specs.Fields.{pair_fields}

@@ -9,11 +9,11 @@ use Rattle.criteria.specs.Laws.{Admits, Laws, NoWorse, Rules}
 use Rattle.bags.specs.Dominance.{Dominates, Inserted, IsBag, Stands, dominates}
 use Rattle.bags.specs.declared.point.Point.{Point}
 use Rattle.timetable.specs.TimetableValue.{TimetableValue}
-use Rattle.profile_scan.specs.SetQuery.{SetQueryValue, IsAnswerBetween, IsPointBetween}
-use Rattle.profile_scan.specs.LawStatements.{CanScan}
-use Rattle.profile_scan.specs.Origins.{from_stop}
-use Rattle.profile_scan.specs.Points.{Before, Covers}
-use Rattle.profile_scan.proofs.Admitted.{point_admits}
+use Rattle.scan_state.specs.SetQuery.{SetQueryValue, IsAnswerBetween, IsPointBetween}
+use Rattle.scan_state.specs.SetQuery.{CanScan}
+use Rattle.scan_state.specs.Origins.{from_stop}
+use Rattle.scan_state.specs.Points.{Before, Covers}
+use Rattle.scan_state.proofs.Admitted.{point_admits}
 use Rattle.station_answers.proofs.SetLemmas.{found_is_answer}
 use Rattle.matrix_rows.specs.Merging.{TakesIn}
 use Rattle.matrix_rows.specs.Tables.{from_stops}

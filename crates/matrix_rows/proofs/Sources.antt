@@ -8,7 +8,7 @@ use Rattle.std.proofs.lemmas.Slice.Zip.{all_zipped_more}
 use Rattle.criteria.specs.Laws.{Rules}
 use Rattle.criteria.specs.declared.figures.Figures.{Figures}
 use Rattle.image_layout.specs.Image.{ImageValue}
-use Rattle.profile_scan.specs.SetQuery.{SetQueryValue}
+use Rattle.scan_state.specs.SetQuery.{SetQueryValue}
 use Rattle.matrix_rows.specs.Tables.{AreRows, AreRowsFrom, AreRowsTo, Meet, from_stops}
 
 module _ {V : Type 0} (figures : V → Figures) (rules : Rules V) (each : Bool) (image : ImageValue) (d : SetQueryValue) where

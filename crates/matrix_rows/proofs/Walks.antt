@@ -5,8 +5,8 @@ use Rattle.std.proofs.lemmas.List.Elements.{Contains-append_left, Contains-appen
 use Rattle.reasoning.proofs.ListLemmas.{at_contains, contains_at, contains_first, not_in_nil}
 use Rattle.timetable.specs.TimetableValue.{TimetableValue}
 use Rattle.timetable.specs.declared.network.Footpath.{Footpath}
-use Rattle.profile_scan.specs.SetQuery.{SetQueryValue, IsDirect, IsDirectWalk, IsTakenBefore, secs_of}
-use Rattle.profile_scan.specs.Origins.{from_stop}
+use Rattle.scan_state.specs.SetQuery.{SetQueryValue, IsDirect, IsDirectWalk, IsTakenBefore, secs_of}
+use Rattle.scan_state.specs.Origins.{from_stop}
 use Rattle.matrix_rows.specs.Merging.{shorter_of}
 use Rattle.matrix_rows.specs.Tables.{IsLeastWalk, LeadsBetween, from_stops}
 

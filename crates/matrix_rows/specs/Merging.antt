@@ -2,7 +2,7 @@
 use Rattle.std.specs.Prelude.{◌⊎◌, ℕ, List, Option, None, Some, Contains, min}
 use Rattle.criteria.specs.Laws.{Rules, Admits}
 use Rattle.bags.specs.declared.point.Point.{Point}
-use Rattle.profile_scan.specs.Points.{Covers}
+use Rattle.scan_state.specs.Points.{Covers}
 
 -- points are put into a bag: nothing else is, what was covered stays covered, and each of them is covered
 pub record TakesIn {V : Type 0} (rules : Rules V) (points old new : List (Point V)) : Type 0 where

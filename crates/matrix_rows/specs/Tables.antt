@@ -15,7 +15,7 @@ use Rattle.image_layout.specs.Image.{ImageValue}
 use Rattle.image_facts.specs.Naming.{stop_bytes}
 use Rattle.answer_replies.specs.Valuing.{arrival_figures, by_arrival, by_trips, by_walking, trips_figures, walking_figures}
 use Rattle.criteria.specs.declared.name.CriterionName.{CriterionName}
-use Rattle.profile_scan.specs.SetQuery.{SetQueryValue, IsAnswerBetween, IsAskableBetween}
+use Rattle.scan_state.specs.SetQuery.{SetQueryValue, IsAnswerBetween, IsAskableBetween}
 use Rattle.travel_times.specs.Fields.{pair_fields, pair_names, point_fields, point_names}
 use Rattle.travel_times.specs.Figures.{mean_wait}
 use Rattle.travel_times.specs.declared.spans.Span.{Span}

@@ -4,7 +4,7 @@ ghost use Rattle.std.specs.Prelude.{◌≡◌, ◌<◌, ◌∷◌, [], ℕ, Cont
 ghost use Rattle.std.specs.Cow.{cow_slice_items};
 ghost use Rattle.criteria.specs.Laws.{Admits};
 ghost use Rattle.bags.specs.Bag.{criterion_of, points_of};
-ghost use Rattle.profile_scan.specs.SetQuery.{IsAnswerBetween, IsAskableBetween};
+ghost use Rattle.scan_state.specs.SetQuery.{IsAnswerBetween, IsAskableBetween};
 ghost use Rattle.profile_scan.specs.Everywhere.{AnswerToAny, asked_to_any, criterion_to_any};
 ghost use Rattle.matrix_rows.specs.Merging.{TakesIn, shorter_of};
 ghost use Rattle.matrix_rows.specs.Tables.{IsLeastWalk, Meet, from_stops};

@@ -4,7 +4,7 @@ ghost use Rattle.std.specs.Prelude.{◌≡◌, ◌<◌, ◌≤◌, ◌++◌, ◌
 ghost use Rattle.std.specs.Prelude.{slice_get, string_bytes};
 ghost use Rattle.std.specs.Global.{Vec};
 ghost use Rattle.std.specs.List.{AllZip, flat_map};
-ghost use Rattle.profile_scan.specs.SetQuery.{SetQueryValue, IsAnswerBetween, IsAskableBetween};
+ghost use Rattle.scan_state.specs.SetQuery.{SetQueryValue, IsAnswerBetween, IsAskableBetween};
 ghost use Rattle.profile_scan.specs.Destinations.{question_to_any};
 ghost use Rattle.profile_scan.specs.Everywhere.{AnswerToAny, asked_to_any, criterion_to_any};
 ghost use Rattle.image_files.specs.Naming.{printed};

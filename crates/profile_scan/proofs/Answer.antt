@@ -8,15 +8,16 @@ use Rattle.criteria.specs.Laws.{Rules, Laws, Admits, NoWorse}
 use Rattle.bags.specs.Dominance.{Dominates, Apart, IsBag}
 use Rattle.bags.specs.declared.point.Point.{Point}
 use Rattle.timetable.specs.TimetableValue.{TimetableValue}
-use Rattle.profile_scan.specs.Values.{journey_value}
-use Rattle.profile_scan.specs.Points.{IsUndominatedOf, Lists, Covers, Before, untagged}
+use Rattle.scan_state.specs.Values.{journey_value}
+use Rattle.scan_state.specs.Points.{IsUndominatedOf, Lists, Covers, Before, untagged}
 use Rattle.sources.specs.FirstAt.{IsFirstAt}
-use Rattle.profile_scan.specs.SetQuery.{SetQueryValue, IsPointBetween, IsAnswerBetween}
-use Rattle.profile_scan.specs.Continuations.{CountsFrom}
-use Rattle.profile_scan.specs.Plain.{IsPlainOf}
-use Rattle.profile_scan.specs.Matching.{Spelling, Matches}
-use Rattle.profile_scan.specs.LawStatements.{CanScan, MatchIsTheAnswer, OneAnswer}
-use Rattle.profile_scan.proofs.Admitted.{AreAdmitted, point_admits}
+use Rattle.scan_state.specs.SetQuery.{SetQueryValue, IsPointBetween, IsAnswerBetween}
+use Rattle.scan_state.specs.Continuations.{CountsFrom}
+use Rattle.scan_state.specs.Plain.{IsPlainOf}
+use Rattle.scan_state.specs.Matching.{Spelling, Matches}
+use Rattle.scan_state.specs.SetQuery.{CanScan}
+use Rattle.profile_scan.specs.LawStatements.{MatchIsTheAnswer, OneAnswer}
+use Rattle.scan_state.proofs.Admitted.{AreAdmitted, point_admits}
 use Rattle.profile_scan.proofs.Ends.{counts_in_window}
 
 -- a point of a bag dominates no other one

@@ -7,17 +7,17 @@ use Rattle.bags.specs.Dominance.{IsBag}
 use Rattle.bags.specs.declared.point.Point.{Point}
 use Rattle.timetable.specs.TimetableValue.{TimetableValue}
 use Rattle.sources.specs.FirstAt.{IsFirstAt}
-use Rattle.profile_scan.specs.Values.{journey_value}
-use Rattle.profile_scan.specs.Continuations.{CountsFrom}
-use Rattle.profile_scan.specs.SetQuery.{SetQueryValue, CountsBetween, IsPointBetween}
-use Rattle.profile_scan.specs.Plain.{IsPlainOf}
-use Rattle.profile_scan.specs.Points.{AreInOrder, Before, IsAnswerOf, untagged}
-use Rattle.profile_scan.specs.ScanRecords.{ScanRecords, spelling_of}
+use Rattle.scan_state.specs.Values.{journey_value}
+use Rattle.scan_state.specs.Continuations.{CountsFrom}
+use Rattle.scan_state.specs.SetQuery.{SetQueryValue, CountsBetween, IsPointBetween}
+use Rattle.scan_state.specs.Plain.{IsPlainOf}
+use Rattle.scan_state.specs.Points.{AreInOrder, Before, IsAnswerOf, untagged}
+use Rattle.scan_state.specs.ScanRecords.{ScanRecords, spelling_of}
 use Rattle.profile_scan.specs.JourneyNodes.{AreSpelledAgain}
 use Rattle.profile_scan.specs.Answered.{IsTaggedAnswer}
-use Rattle.profile_scan.specs.LawStatements.{CanScan}
+use Rattle.scan_state.specs.SetQuery.{CanScan}
 use Rattle.profile_scan.specs.Nodes.{spelling}
-use Rattle.profile_scan.specs.ScanState.{HasFound}
+use Rattle.profile_scan.specs.Scans.{HasFound}
 use Rattle.profile_scan.specs.declared.nodes.Node.{Node}
 use Rattle.profile_scan.proofs.Answer.{match_is_the_answer}
 use Rattle.profile_scan.proofs.OrderLemmas.{listed_bag, listed_match}

@@ -8,22 +8,22 @@ use Rattle.timetable.specs.declared.network.Footpath.{Footpath}
 use Rattle.timetable.specs.TimetableValue.{TimetableValue}
 use Rattle.timetable.specs.JourneyValue.{RideValue, JourneyValue}
 use Rattle.timetable.specs.Journeys.{connection_at, IsWalk, walk_end, walk_secs, Leads, final_time, start_end, start_secs}
-use Rattle.profile_scan.specs.SetQuery.{SetQueryValue}
-use Rattle.profile_scan.specs.Values.{walked, ridden, started, journey_value}
-use Rattle.profile_scan.specs.Points.{Covers}
-use Rattle.profile_scan.specs.Continuations.{Onward, Aboard, IsOnward, IsAboard, CountsFrom, onward_value, aboard_value}
-use Rattle.profile_scan.specs.Matching.{IsOutdone}
-use Rattle.profile_scan.specs.Steps.{Leaving, ends, ends_after, changes, MayLeave, leaving_value, MayNotChange, IsOutdoneRidden, Boarding, MayBoard}
-use Rattle.profile_scan.specs.Steps.{SettingOut, MaySetOut}
-use Rattle.profile_scan.specs.LawStatements.{CanScan}
-use Rattle.profile_scan.proofs.Chains.{step_admits, step_monotone, walked_admits, walked_worsens, started_admits}
-use Rattle.profile_scan.proofs.Chains.{started_monotone, started_worsens, chain_gives_way}
-use Rattle.profile_scan.proofs.Outdone.{outdone_worse, outdone_ride, outdone_down}
-use Rattle.profile_scan.proofs.Offers.{sure}
+use Rattle.scan_state.specs.SetQuery.{SetQueryValue}
+use Rattle.scan_state.specs.Values.{walked, ridden, started, journey_value}
+use Rattle.scan_state.specs.Points.{Covers}
+use Rattle.scan_state.specs.Continuations.{Onward, Aboard, IsOnward, IsAboard, CountsFrom, onward_value, aboard_value}
+use Rattle.scan_state.specs.Matching.{IsOutdone}
+use Rattle.scan_state.specs.Steps.{Leaving, ends, ends_after, changes, MayLeave, leaving_value, MayNotChange, IsOutdoneRidden, Boarding, MayBoard}
+use Rattle.scan_state.specs.Steps.{SettingOut, MaySetOut}
+use Rattle.scan_state.specs.SetQuery.{CanScan}
+use Rattle.scan_state.proofs.Chains.{step_admits, step_monotone, walked_admits, walked_worsens, started_admits}
+use Rattle.scan_state.proofs.Chains.{started_monotone, started_worsens, chain_gives_way}
+use Rattle.scan_state.proofs.Outdone.{outdone_worse, outdone_ride, outdone_down}
+use Rattle.scan_state.proofs.Offers.{sure}
 use Rattle.profile_scan.proofs.Listed.{cases_listed}
 use Rattle.profile_scan.proofs.Times.{together_never_continue}
 use Rattle.profile_scan.proofs.Ends.{until_matters_at_source}
-use Rattle.profile_scan.proofs.Admitted.{AreAdmitted, aboard_admits, covers_weaker}
+use Rattle.scan_state.proofs.Admitted.{AreAdmitted, aboard_admits, covers_weaker}
 
 module _ {V : Type 0} (rules : Rules V) (laws : Laws rules) (t : TimetableValue) (q : SetQueryValue) (can : CanScan t q) (i : ℕ) where
   -- leaving the trip at place i and ending after a walk of any length

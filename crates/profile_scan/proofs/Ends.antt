@@ -9,9 +9,9 @@ use Rattle.timetable.specs.Journeys.{connection_at, walk_end, walk_secs, Leads, 
 use Rattle.timetable.specs.Journeys.{first_departure, start_end, start_secs}
 use Rattle.timetable.proofs.LegalLemmas.{hop_takes_time}
 use Rattle.sources.specs.FirstAt.{IsFirstAt}
-use Rattle.profile_scan.specs.SetQuery.{SetQueryValue, CountsBetween}
-use Rattle.profile_scan.specs.Continuations.{Onward, Aboard, BoardsFrom, IsOnward, IsAboard, CountsFrom, time_off}
-use Rattle.profile_scan.specs.Matching.{Matches, MatchesBut}
+use Rattle.scan_state.specs.SetQuery.{SetQueryValue, CountsBetween}
+use Rattle.scan_state.specs.Continuations.{Onward, Aboard, BoardsFrom, IsOnward, IsAboard, CountsFrom, time_off}
+use Rattle.scan_state.specs.Matching.{Matches, MatchesBut}
 use Rattle.profile_scan.specs.LawStatements.{NothingFollows, CutIsTheSources}
 use Rattle.profile_scan.proofs.Times.{final_is_later, leg_takes_time}
 

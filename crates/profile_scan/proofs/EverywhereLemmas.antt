@@ -10,18 +10,18 @@ use Rattle.criteria.specs.Laws.{Rules}
 use Rattle.bags.specs.Bag.{points_of}
 use Rattle.bags.specs.declared.point.Point.{Point}
 use Rattle.timetable.specs.TimetableValue.{TimetableValue}
-use Rattle.profile_scan.specs.SetQuery.{SetQueryValue, IsAskableBetween, IsDirectWalk}
-use Rattle.profile_scan.specs.Points.{AreInOrder}
-use Rattle.profile_scan.specs.ScanRecords.{KeptValue, spelling_of}
-use Rattle.profile_scan.specs.ScanState.{IsDirectSecs}
+use Rattle.scan_state.specs.SetQuery.{SetQueryValue, IsAskableBetween, IsDirectWalk}
+use Rattle.scan_state.specs.Points.{AreInOrder}
+use Rattle.scan_state.specs.ScanRecords.{KeptValue, spelling_of}
+use Rattle.scan_state.specs.ScanState.{IsDirectSecs}
 use Rattle.profile_scan.specs.Answered.{IsTaggedAnswer}
 use Rattle.profile_scan.specs.Destinations.{CanBeAsked, query_from, question_to}
-use Rattle.profile_scan.specs.Origins.{found_by, found_from, from_stop}
+use Rattle.scan_state.specs.Origins.{found_by, found_from, from_stop}
 use Rattle.profile_scan.specs.Everywhere.{AnswerAll, AnswerToAny, AnswersFrom, asked_to_any, criterion_of_profiles, listed_from, points_in}
 use Rattle.profile_scan.specs.Everywhere.{scan_records_from, walk_from, walk_to_any}
 use Rattle.profile_scan.specs.declared.destination.Destination.{Destination}
-use Rattle.profile_scan.specs.declared.origin.Origin.{Origin}
-use Rattle.profile_scan.specs.declared.origins.Origins.{Origins}
+use Rattle.scan_state.specs.declared.origin.Origin.{Origin}
+use Rattle.scan_state.specs.declared.origins.Origins.{Origins}
 use Rattle.profile_scan.specs.declared.profiles.Profiles.{Profiles}
 use Rattle.profile_scan.proofs.Single.{direct_one, tagged_one}
 

@@ -9,22 +9,23 @@ use Rattle.bags.specs.declared.point.Point.{Point}
 use Rattle.timetable.specs.declared.network.Footpath.{Footpath}
 use Rattle.timetable.specs.JourneyValue.{JourneyValue}
 use Rattle.fronts.specs.declared.entry.Step.{Step}
-use Rattle.profile_scan.specs.Continuations.{Aboard}
-use Rattle.profile_scan.specs.Steps.{boarded}
-use Rattle.profile_scan.specs.Nodes.{Extends, walk_of, changed_at, set_out_by}
-use Rattle.profile_scan.specs.ScanRecords.{ScanRecords, exit_spells, boards_by, step_spells, set_out_spells, label_spells, spelling_of}
-use Rattle.profile_scan.specs.Points.{untagged}
+use Rattle.scan_state.specs.Continuations.{Aboard}
+use Rattle.scan_state.specs.Steps.{boarded}
+use Rattle.profile_scan.specs.Nodes.{Extends}
+use Rattle.scan_state.specs.ScanRecords.{walk_of, changed_at, set_out_by}
+use Rattle.scan_state.specs.ScanRecords.{ScanRecords, exit_spells, boards_by, step_spells, set_out_spells, label_spells, spelling_of}
+use Rattle.scan_state.specs.Points.{untagged}
 use Rattle.profile_scan.specs.JourneyNodes.{with_last, change_by, change, ending_by, ending}
 use Rattle.profile_scan.specs.JourneyNodes.{IsRoute, IsLabelSpelled, SaysLabel, IsJourneySpelled, SaysJourney, IsSpelledAgain}
 use Rattle.profile_scan.specs.declared.journey_nodes.Change.{Change}
 use Rattle.profile_scan.specs.declared.journey_nodes.LastAlighting.{LastAlighting}
 use Rattle.profile_scan.specs.declared.nodes.Node.{Node}
 use Rattle.profile_scan.specs.declared.nodes.Node.TheVariants.{Ends, Changes, Boards, SetsOut}
-use Rattle.profile_scan.specs.declared.scan_records.Exit.{Exit}
-use Rattle.profile_scan.specs.declared.scan_records.Exit.TheVariants.{Ends as LabelEnds, Changes as LabelChanges}
-use Rattle.profile_scan.specs.declared.scan_records.SetOut.{SetOut}
+use Rattle.scan_state.specs.declared.scan_records.Exit.{Exit}
+use Rattle.scan_state.specs.declared.scan_records.Exit.TheVariants.{Ends as LabelEnds, Changes as LabelChanges}
+use Rattle.scan_state.specs.declared.scan_records.SetOut.{SetOut}
 use Rattle.profile_scan.proofs.NodeLemmas.{comes_next, extends_keeps}
-use Rattle.profile_scan.proofs.ScanRecordLemmas.{grows_none, label_more}
+use Rattle.scan_state.proofs.ScanRecordLemmas.{grows_none, label_more}
 
 -- what is spelled of a change: the footpath, and what is spelled of the label by which one rides on
 pub record IsChange (walks : List Footpath) (aboard : ℕ → Option Aboard) (last : ℕ) (s : Step) (x : Aboard) : Type 0 where

@@ -1,8 +1,7 @@
 -- The log of a scan.
-use Rattle.std.proofs.Common.{◌≡◌, inl, inr, length, ℕ, zero, suc, ◌+◌, ◌-◌, ◌≤◌, List, [], ◌∷◌, ◌++◌, take, arith}
+use Rattle.std.proofs.Common.{◌≡◌, length, ℕ, zero, suc, ◌+◌, ◌-◌, ◌≤◌, List, [], ◌∷◌, ◌++◌, take, arith}
 use Rattle.std.proofs.Common.{refl, sym, ◌∙◌, ap, add-zero, append_assoc, append-nil, reverse, Result, Ok, Err, OnOk, OnErr}
 use Rattle.std.proofs.Math.Seq.{take-length}
-use Rattle.std.proofs.lemmas.Bool.{cases_lt}
 use Rattle.timetable.specs.TimetableValue.{TimetableValue}
 use Rattle.sources.specs.FirstAt.{IsFirstAt}
 use Rattle.reasoning.proofs.OptionLemmas.{on_err}
@@ -44,17 +43,6 @@ pub log_none : (log : List ℕ) (end : ℕ) → log ≡ log ++ falling end (end 
 log_none log end =
     let none : end - end ≡ 0 = omega arith in
     sym (append-nil log) ∙ sym (ap (λ n. log ++ falling end n) none)
-
--- the window begins no later than it ends
-pub starts_first : (t : TimetableValue) (from by start end : ℕ) → from ≤ by → IsFirstAt t from start → IsFirstAt t by end → start ≤ end
-starts_first t from by start end le is_start is_end = elim (cases_lt end start) [
-  | inl lt ↦
-      let in_range = is_start.in_range in
-      let early = is_start.before end lt in
-      let late = is_end.after end (omega arith) (omega arith) in
-      absurd (omega arith)
-  | inr ge ↦ ge
-]
 
 -- nothing of a list, and all of it
 pub taken_none : (log xs : List ℕ) → log ≡ log ++ take 0 xs

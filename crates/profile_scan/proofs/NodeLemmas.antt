@@ -5,9 +5,10 @@ use Rattle.std.proofs.lemmas.Bool.{cases_lt}
 use Rattle.std.proofs.lemmas.List.{get_or_append_left, get_or_past, length-take-le}
 use Rattle.std.proofs.lemmas.Option.{slice_get_within, same_Some}
 use Rattle.std.proofs.Math.Seq.{get_or-append_seam}
-use Rattle.profile_scan.specs.Continuations.{Onward, Aboard}
-use Rattle.profile_scan.specs.Matching.{Spelling, Keeps, from_to}
-use Rattle.profile_scan.specs.Nodes.{Spelled, nothing, at_number, changed_at, boarded_after, set_out_by, spells}
+use Rattle.scan_state.specs.Continuations.{Onward, Aboard}
+use Rattle.scan_state.specs.Matching.{Spelling, Keeps, from_to}
+use Rattle.profile_scan.specs.Nodes.{Spelled, nothing, at_number, spells}
+use Rattle.scan_state.specs.ScanRecords.{changed_at, boarded_after, set_out_by}
 use Rattle.profile_scan.specs.Nodes.{spelled_on, spelled, spelling, Extends, IsSpelled}
 use Rattle.profile_scan.specs.declared.nodes.Node.{Node}
 use Rattle.profile_scan.specs.declared.nodes.Node.TheVariants.{Ends, Changes, Boards, SetsOut}

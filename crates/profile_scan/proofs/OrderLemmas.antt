@@ -14,8 +14,8 @@ use Rattle.bags.specs.Dominance.{Apart, IsBag}
 use Rattle.bags.specs.declared.point.Point.{Point}
 use Rattle.bags.proofs.Lists.{from_insert, into_insert, all_pairs_insert}
 use Rattle.timetable.proofs.LegalLemmas.{Contains-At, At-Contains}
-use Rattle.profile_scan.specs.Points.{Before, is_before}
-use Rattle.profile_scan.specs.Matching.{Matches}
+use Rattle.scan_state.specs.Points.{Before, is_before}
+use Rattle.scan_state.specs.Matching.{Matches}
 use Rattle.profile_scan.proofs.Answer.{only_itself, not_before_itself}
 
 module _ {V : Type 0} (rules : Rules V) (laws : Laws rules) where

@@ -10,13 +10,13 @@ use Rattle.timetable.specs.Journeys.{connection_at, walk_end, stop_after, time_a
 use Rattle.timetable.specs.declared.network.Footpath.{Footpath}
 use Rattle.timetable.specs.Queries.{IsAskable}
 use Rattle.timetable.specs.declared.query.Query.{Query}
-use Rattle.profile_scan.specs.Points.{IsUndominatedOf, IsAnswerOf, IsPoint}
-use Rattle.profile_scan.specs.SetQuery.{pair_of, single_set_query, IsAskableBetween, CountsBetween, IsPointBetween, IsDirectWalk, secs_of, OneIsPlain}
-use Rattle.profile_scan.specs.Values.{journey_value}
-use Rattle.profile_scan.specs.Plain.{ArePlain, IsPlain, IsPlainOf}
-use Rattle.profile_scan.specs.Matching.{IsAttained}
+use Rattle.scan_state.specs.Points.{IsUndominatedOf, IsAnswerOf, IsPoint}
+use Rattle.scan_state.specs.SetQuery.{pair_of, single_set_query, IsAskableBetween, CountsBetween, IsPointBetween, IsDirectWalk, secs_of, OneIsPlain}
+use Rattle.scan_state.specs.Values.{journey_value}
+use Rattle.scan_state.specs.Plain.{ArePlain, IsPlain, IsPlainOf}
+use Rattle.scan_state.specs.Matching.{IsAttained}
 use Rattle.profile_scan.specs.Nodes.{spelling}
-use Rattle.profile_scan.specs.ScanState.{IsDirectSecs}
+use Rattle.scan_state.specs.ScanState.{IsDirectSecs}
 use Rattle.profile_scan.specs.Answered.{IsAnswered, IsAnsweredBetween, IsTaggedAnswer}
 use Rattle.profile_scan.specs.declared.nodes.Node.{Node}
 

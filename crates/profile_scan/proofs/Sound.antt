@@ -6,13 +6,13 @@ use Rattle.timetable.specs.declared.network.Footpath.{Footpath}
 use Rattle.timetable.specs.TimetableValue.{TimetableValue}
 use Rattle.timetable.specs.JourneyValue.{RideValue, JourneyValue}
 use Rattle.timetable.specs.Journeys.{connection_at, walk_end, walk_secs, Leads, final_time, start_secs}
-use Rattle.profile_scan.specs.SetQuery.{SetQueryValue, CountsBetween}
-use Rattle.profile_scan.specs.Values.{walked, ridden, started, journey_value}
-use Rattle.profile_scan.specs.Continuations.{Onward, Aboard, BoardsFrom, IsOnward, IsAboard, CountsFrom, onward_value, aboard_value}
-use Rattle.profile_scan.specs.Plain.{IsOneFootpath, HasPlainWalk, IsPlainOnward, IsPlainAboard, IsPlainOf}
-use Rattle.profile_scan.specs.Matching.{Spellings, IsAttained, IsLabelled}
-use Rattle.profile_scan.specs.Steps.{IsOffered, Leaving, ends, ends_after, changes, MayLeave, leaving_value, LeavingTag}
-use Rattle.profile_scan.specs.Steps.{leavings, boarded, boardings, settings_out}
+use Rattle.scan_state.specs.SetQuery.{SetQueryValue, CountsBetween}
+use Rattle.scan_state.specs.Values.{walked, ridden, started, journey_value}
+use Rattle.scan_state.specs.Continuations.{Onward, Aboard, BoardsFrom, IsOnward, IsAboard, CountsFrom, onward_value, aboard_value}
+use Rattle.scan_state.specs.Plain.{IsOneFootpath, HasPlainWalk, IsPlainOnward, IsPlainAboard, IsPlainOf}
+use Rattle.scan_state.specs.Matching.{Spellings, IsAttained, IsLabelled}
+use Rattle.scan_state.specs.Steps.{IsOffered, Leaving, ends, ends_after, changes, MayLeave, leaving_value, LeavingTag}
+use Rattle.scan_state.specs.Steps.{leavings, boarded, boardings, settings_out}
 
 -- what is there from a place on is there from the place before on
 boards_more : (i : ℕ) (rides : List RideValue) → BoardsFrom (i + 1) rides → BoardsFrom i rides

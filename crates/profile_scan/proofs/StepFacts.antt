@@ -7,19 +7,19 @@ use Rattle.bags.specs.declared.point.Point.{Point}
 use Rattle.timetable.specs.declared.network.Connection.{Connection}
 use Rattle.timetable.specs.TimetableValue.{TimetableValue}
 use Rattle.timetable.specs.Journeys.{connection_at}
-use Rattle.profile_scan.specs.SetQuery.{SetQueryValue}
-use Rattle.profile_scan.specs.Values.{journey_value}
-use Rattle.profile_scan.specs.Continuations.{IsOnward, CountsFrom, onward_value, aboard_value}
-use Rattle.profile_scan.specs.Plain.{IsPlainOnward, IsPlainAboard, IsPlainOf}
-use Rattle.profile_scan.specs.Matching.{Spelling, from_to, ScanValue, Matches, MatchesBut, MatchesFrom, IsLabelled, IsOutdone}
-use Rattle.profile_scan.specs.Steps.{Leaving, ends, ends_after, changes, MayLeave, MayNotChange, IsOutdoneRidden, boardings, settings_out, IsStep}
-use Rattle.profile_scan.specs.Bound.{AreBounds}
-use Rattle.profile_scan.specs.Keeping.{IsIdle}
-use Rattle.profile_scan.specs.ScanState.{IsFinalWalk}
-use Rattle.profile_scan.specs.declared.final_walks.FinalWalk.{FinalWalk}
-use Rattle.profile_scan.proofs.Admitted.{AreAdmitted}
-use Rattle.profile_scan.proofs.BoundLemmas.{outdone_by_bounds}
-use Rattle.profile_scan.proofs.Offers.{takes_but, takes_none}
+use Rattle.scan_state.specs.SetQuery.{SetQueryValue}
+use Rattle.scan_state.specs.Values.{journey_value}
+use Rattle.scan_state.specs.Continuations.{IsOnward, CountsFrom, onward_value, aboard_value}
+use Rattle.scan_state.specs.Plain.{IsPlainOnward, IsPlainAboard, IsPlainOf}
+use Rattle.scan_state.specs.Matching.{Spelling, from_to, ScanValue, Matches, MatchesBut, MatchesFrom, IsLabelled, IsOutdone}
+use Rattle.scan_state.specs.Steps.{Leaving, ends, ends_after, changes, MayLeave, MayNotChange, IsOutdoneRidden, boardings, settings_out, IsStep}
+use Rattle.scan_state.specs.Bound.{AreBounds}
+use Rattle.scan_state.specs.Keeping.{IsIdle}
+use Rattle.scan_state.specs.ScanState.{IsFinalWalk}
+use Rattle.scan_state.specs.declared.final_walks.FinalWalk.{FinalWalk}
+use Rattle.scan_state.proofs.Admitted.{AreAdmitted}
+use Rattle.scan_state.proofs.BoundLemmas.{outdone_by_bounds}
+use Rattle.scan_state.proofs.Offers.{takes_but, takes_none}
 use Rattle.profile_scan.proofs.StepLemmas.{keeps_none}
 
 -- what is kept alike matches alike

@@ -6,17 +6,18 @@ use Rattle.bags.specs.declared.point.Point.{Point}
 use Rattle.timetable.specs.TimetableValue.{TimetableValue}
 use Rattle.timetable.specs.Journeys.{connection_at}
 use Rattle.timetable.proofs.LegalLemmas.{connection_at-stands}
-use Rattle.profile_scan.specs.SetQuery.{SetQueryValue}
-use Rattle.profile_scan.specs.Values.{journey_value}
-use Rattle.profile_scan.specs.Points.{Covers}
-use Rattle.profile_scan.specs.Continuations.{Aboard, IsOnward, IsAboard, CountsFrom, onward_value, aboard_value}
-use Rattle.profile_scan.specs.Plain.{IsPlainOnward, IsPlainAboard, IsPlainOf}
-use Rattle.profile_scan.specs.Matching.{Spelling, Spellings, Keeps, from_to, IsAttained, IsLabelled, IsOutdone, Matches, MatchesBut}
-use Rattle.profile_scan.specs.Steps.{TakesIn, TakesInBut, MayNotChange, IsOutdoneRidden, leavings, boardings, settings_out, IsStep}
-use Rattle.profile_scan.specs.LawStatements.{CanScan, OneIndexDown, TagsMayCome}
-use Rattle.profile_scan.proofs.Admitted.{AreAdmitted, attained_admits, onward_admits, aboard_admits, journey_admits}
+use Rattle.scan_state.specs.SetQuery.{SetQueryValue}
+use Rattle.scan_state.specs.Values.{journey_value}
+use Rattle.scan_state.specs.Points.{Covers}
+use Rattle.scan_state.specs.Continuations.{Aboard, IsOnward, IsAboard, CountsFrom, onward_value, aboard_value}
+use Rattle.scan_state.specs.Plain.{IsPlainOnward, IsPlainAboard, IsPlainOf}
+use Rattle.scan_state.specs.Matching.{Spelling, Spellings, Keeps, from_to, IsAttained, IsLabelled, IsOutdone, Matches, MatchesBut}
+use Rattle.scan_state.specs.Steps.{TakesIn, TakesInBut, MayNotChange, IsOutdoneRidden, leavings, boardings, settings_out, IsStep}
+use Rattle.scan_state.specs.SetQuery.{CanScan}
+use Rattle.profile_scan.specs.LawStatements.{OneIndexDown, TagsMayCome}
+use Rattle.scan_state.proofs.Admitted.{AreAdmitted, attained_admits, onward_admits, aboard_admits, journey_admits}
 use Rattle.profile_scan.proofs.Sound.{onward_more, aboard_more, counts_more, leaving_attained, boarding_attained, setting_out_attained}
-use Rattle.profile_scan.proofs.Outdone.{KeepsCovers, outdone_on}
+use Rattle.scan_state.proofs.Outdone.{KeepsCovers, outdone_on}
 use Rattle.profile_scan.proofs.Complete.{labels_cover, bag_covers, found_covers}
 
 -- a point attained by ways that are there is attained where more are there, and more is spelled

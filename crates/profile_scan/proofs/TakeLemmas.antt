@@ -4,25 +4,25 @@ use Rattle.criteria.specs.Laws.{Rules, Laws}
 use Rattle.bags.specs.declared.point.Point.{Point}
 use Rattle.timetable.specs.declared.network.Connection.{Connection}
 use Rattle.timetable.specs.TimetableValue.{TimetableValue}
-use Rattle.profile_scan.specs.ScanState.{final_walk_in}
-use Rattle.profile_scan.specs.SetQuery.{SetQueryValue, asked_from}
-use Rattle.profile_scan.specs.Matching.{Spellings, from_to}
-use Rattle.profile_scan.specs.Steps.{IsOutdoneRidden, IsStep, Leaving, MayLeave, MayNotChange, TakesIn, TakesInBut, boardings, changes, ends, ends_after}
-use Rattle.profile_scan.specs.Steps.{leavings, settings_out}
-use Rattle.profile_scan.specs.Bound.{AreBounds, Excludes}
-use Rattle.profile_scan.specs.ScanRecords.{KeptValue, SourceValue, scan_records, spelled_by}
-use Rattle.profile_scan.specs.Adding.{NoChange, endings_and_changes, only_if}
-use Rattle.profile_scan.specs.Hops.{IsHopOf}
-use Rattle.profile_scan.specs.Keeping.{AdmitsKept, GoesOn, Leaves, spelled_on}
-use Rattle.profile_scan.specs.LawStatements.{CanScan}
-use Rattle.profile_scan.specs.declared.hop.Hop.{Hop}
-use Rattle.profile_scan.specs.declared.starts.Starts.{Starts}
+use Rattle.scan_state.specs.ScanState.{final_walk_in}
+use Rattle.scan_state.specs.SetQuery.{SetQueryValue, asked_from}
+use Rattle.scan_state.specs.Matching.{Spellings, from_to}
+use Rattle.scan_state.specs.Steps.{IsOutdoneRidden, IsStep, Leaving, MayLeave, MayNotChange, TakesIn, TakesInBut, boardings, changes, ends, ends_after}
+use Rattle.scan_state.specs.Steps.{leavings, settings_out}
+use Rattle.scan_state.specs.Bound.{AreBounds, Excludes}
+use Rattle.scan_state.specs.ScanRecords.{KeptValue, SourceValue, scan_records, spelled_by}
+use Rattle.scan_state.specs.Adding.{NoChange, endings_and_changes, only_if}
+use Rattle.scan_state.specs.Hops.{IsHopOf}
+use Rattle.scan_state.specs.Keeping.{AdmitsKept, GoesOn, Leaves, spelled_on}
+use Rattle.scan_state.specs.SetQuery.{CanScan}
+use Rattle.scan_state.specs.declared.hop.Hop.{Hop}
+use Rattle.scan_state.specs.declared.starts.Starts.{Starts}
 use Rattle.reasoning.proofs.ListLemmas.{extends_none}
-use Rattle.profile_scan.proofs.Admitted.{AreAdmitted}
-use Rattle.profile_scan.proofs.BoundLemmas.{bounds_on, outdone_by_bounds}
-use Rattle.profile_scan.proofs.LeaveLemmas.{leavings_taken}
-use Rattle.profile_scan.proofs.Offers.{but_as, excused_as}
-use Rattle.profile_scan.proofs.ScanRecordLemmas.{grows_keeps}
+use Rattle.scan_state.proofs.Admitted.{AreAdmitted}
+use Rattle.scan_state.proofs.BoundLemmas.{bounds_on, outdone_by_bounds}
+use Rattle.scan_state.proofs.LeaveLemmas.{leavings_taken}
+use Rattle.scan_state.proofs.Offers.{but_as, excused_as}
+use Rattle.scan_state.proofs.ScanRecordLemmas.{grows_keeps}
 
 -- where one may leave a trip doesn't depend on where one set out
 module _ {V : Type 0} (t : TimetableValue) (sources : List ℕ → ℕ → List ℕ) (q : SetQueryValue) (index i : ℕ) (bag : List (Point V)) where

@@ -8,7 +8,7 @@ use Rattle.timetable.specs.JourneyValue.{RideValue}
 use Rattle.timetable.specs.Legal.{IsLegal}
 use Rattle.timetable.specs.Journeys.{connection_at, IsLeg, Leads, final_time, time_after, stop_after}
 use Rattle.timetable.proofs.LegalLemmas.{connection_at-stands, connection_at-is, hop_takes_time, departures_rise}
-use Rattle.profile_scan.specs.Continuations.{BoardsFrom}
+use Rattle.scan_state.specs.Continuations.{BoardsFrom}
 use Rattle.profile_scan.specs.LawStatements.{DeparturesRise, TogetherNeverContinue}
 
 -- the last place before a connection, from i on, at which its trip stands

@@ -7,13 +7,13 @@ use Rattle.timetable.specs.TimetableValue.{TimetableValue}
 use Rattle.timetable.specs.declared.query.Query.{Query}
 use Rattle.timetable.specs.Journeys.{Counts}
 use Rattle.timetable.specs.declared.network.Footpath.{Footpath}
-use Rattle.profile_scan.specs.SetQuery.{SetQueryValue, CountsBetween, IsAnswerBetween, IsDirectWalk}
-use Rattle.profile_scan.specs.Points.{IsAnswer}
-use Rattle.profile_scan.specs.Values.{journey_value}
-use Rattle.profile_scan.specs.Plain.{IsPlain, IsPlainOf}
-use Rattle.profile_scan.specs.Matching.{IsAttained}
+use Rattle.scan_state.specs.SetQuery.{SetQueryValue, CountsBetween, IsAnswerBetween, IsDirectWalk}
+use Rattle.scan_state.specs.Points.{IsAnswer}
+use Rattle.scan_state.specs.Values.{journey_value}
+use Rattle.scan_state.specs.Plain.{IsPlain, IsPlainOf}
+use Rattle.scan_state.specs.Matching.{IsAttained}
 use Rattle.profile_scan.specs.Nodes.{spelling}
-use Rattle.profile_scan.specs.ScanState.{IsDirectSecs}
+use Rattle.scan_state.specs.ScanState.{IsDirectSecs}
 use Rattle.profile_scan.specs.declared.nodes.Node.{Node}
 
 -- points are the answer of a query over a timetable; each point's tag tells a plain journey that counts, with the point's departure and value; and `walk`

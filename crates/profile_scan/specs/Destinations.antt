@@ -5,7 +5,7 @@ use Rattle.timetable.specs.declared.query.Query.{Query}
 use Rattle.timetable.specs.declared.query.QueryFault.{QueryFault}
 use Rattle.timetable.specs.declared.query.QueryFault.TheVariants.{UnknownStop, SameStop, BadWindow}
 use Rattle.timetable.specs.Queries.{HasBadWindow}
-use Rattle.profile_scan.specs.SetQuery.{SetQueryValue}
+use Rattle.scan_state.specs.SetQuery.{SetQueryValue}
 use Rattle.profile_scan.specs.declared.destination.Destination.{Destination}
 use Rattle.profile_scan.specs.declared.destinations.Destinations.{Destinations}
 

@@ -7,15 +7,16 @@ use Rattle.bags.specs.declared.point.Point.{Point}
 use Rattle.timetable.specs.TimetableValue.{TimetableValue}
 use Rattle.timetable.specs.declared.query.Query.{Query}
 use Rattle.timetable.specs.declared.network.Footpath.{Footpath}
-use Rattle.profile_scan.specs.SetQuery.{SetQueryValue, IsDirectWalk, question, secs_of}
+use Rattle.scan_state.specs.SetQuery.{SetQueryValue, IsDirectWalk, question, secs_of}
 use Rattle.profile_scan.specs.Answered.{IsAnswered, IsTaggedAnswer}
-use Rattle.profile_scan.specs.Points.{AreInOrder}
-use Rattle.profile_scan.specs.ScanRecords.{KeptValue, ScanRecords, spelling_of}
-use Rattle.profile_scan.specs.ScanState.{IsDirectSecs, scan_records_of, walk_by, final_walks_of}
+use Rattle.scan_state.specs.Points.{AreInOrder}
+use Rattle.scan_state.specs.ScanRecords.{KeptValue, ScanRecords, spelling_of}
+use Rattle.scan_state.specs.ScanState.{IsDirectSecs, walk_by, final_walks_of}
+use Rattle.profile_scan.specs.Scans.{scan_records_of}
 use Rattle.profile_scan.specs.Destinations.{query_from, question_to}
-use Rattle.profile_scan.specs.Origins.{AreOrigins, found_from, from_stop, scan_value_from}
+use Rattle.scan_state.specs.Origins.{AreOrigins, found_from, from_stop, scan_value_from}
 use Rattle.profile_scan.specs.declared.destination.Destination.{Destination}
-use Rattle.profile_scan.specs.declared.origins.Origins.{Origins}
+use Rattle.scan_state.specs.declared.origins.Origins.{Origins}
 use Rattle.profile_scan.specs.declared.profiles.Profiles.{Profiles}
 use Rattle.profile_scan.specs.declared.to_any.ProfilesToAny.{ProfilesToAny}
 

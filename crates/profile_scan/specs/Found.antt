@@ -5,15 +5,15 @@ use Rattle.bags.specs.declared.point.Point.{Point}
 use Rattle.timetable.specs.TimetableValue.{TimetableValue}
 use Rattle.timetable.specs.declared.query.Query.{Query}
 use Rattle.timetable.specs.Journeys.{Counts}
-use Rattle.profile_scan.specs.Points.{IsAnswer}
-use Rattle.profile_scan.specs.Values.{journey_value}
-use Rattle.profile_scan.specs.Plain.{IsPlain}
-use Rattle.profile_scan.specs.Matching.{IsAttained}
+use Rattle.scan_state.specs.Points.{IsAnswer}
+use Rattle.scan_state.specs.Values.{journey_value}
+use Rattle.scan_state.specs.Plain.{IsPlain}
+use Rattle.scan_state.specs.Matching.{IsAttained}
 use Rattle.profile_scan.specs.Nodes.{spelling}
-use Rattle.profile_scan.specs.ScanState.{IsDirectSecs}
+use Rattle.scan_state.specs.ScanState.{IsDirectSecs}
 use Rattle.timetable.specs.declared.network.Footpath.{Footpath}
 use Rattle.profile_scan.specs.Answered.{IsAnsweredBetween}
-use Rattle.profile_scan.specs.SetQuery.{SetQueryValue, question}
+use Rattle.scan_state.specs.SetQuery.{SetQueryValue, question}
 use Rattle.profile_scan.specs.declared.found.Found.{Found}
 use Rattle.profile_scan.specs.declared.found_between.FoundBetween.{FoundBetween}
 use Rattle.profile_scan.specs.declared.nodes.Node.{Node}

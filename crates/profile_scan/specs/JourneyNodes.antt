@@ -5,15 +5,15 @@ use Rattle.timetable.specs.declared.network.Footpath.{Footpath}
 use Rattle.timetable.specs.JourneyValue.{JourneyValue}
 use Rattle.fronts.specs.declared.entry.Step.{Step}
 use Rattle.fronts.specs.Front.{Extends}
-use Rattle.profile_scan.specs.Continuations.{Aboard}
+use Rattle.scan_state.specs.Continuations.{Aboard}
 use Rattle.profile_scan.specs.Nodes.{spelling}
-use Rattle.profile_scan.specs.Points.{untagged}
-use Rattle.profile_scan.specs.ScanRecords.{ScanRecords, spelling_of}
+use Rattle.scan_state.specs.Points.{untagged}
+use Rattle.scan_state.specs.ScanRecords.{ScanRecords, spelling_of}
 use Rattle.profile_scan.specs.declared.nodes.Node.{Node}
 use Rattle.profile_scan.specs.declared.journey_nodes.Change.{Change}
 use Rattle.profile_scan.specs.declared.journey_nodes.LastAlighting.{LastAlighting}
-use Rattle.profile_scan.specs.declared.scan_records.Exit.{Exit}
-use Rattle.profile_scan.specs.declared.scan_records.Exit.TheVariants.{Ends, Changes}
+use Rattle.scan_state.specs.declared.scan_records.Exit.{Exit}
+use Rattle.scan_state.specs.declared.scan_records.Exit.TheVariants.{Ends, Changes}
 
 abbrev pub with_last : ℕ → Option Step → Option Change
 with_last last None = None

@@ -1,47 +1,21 @@
 -- The laws that exactness rests on, as statements over the definitions alone.
-use Rattle.std.specs.Prelude.{◌≡◌, ◌≢◌, ℕ, ◌+◌, ◌-◌, ◌<◌, ◌≤◌, List, [], ◌∷◌, length, Contains, AllPairs, All, map}
-use Rattle.std.specs.Prelude.{reverse, Some}
-use Rattle.criteria.specs.Laws.{Rules, Admits, NoWorse}
+use Rattle.std.specs.Prelude.{◌≡◌, ◌≢◌, ℕ, ◌+◌, ◌-◌, ◌<◌, ◌≤◌, List, [], ◌∷◌, length, Contains, AllPairs, All, map, reverse, Some}
+use Rattle.criteria.specs.Laws.{Rules}
 use Rattle.bags.specs.Dominance.{IsBag}
 use Rattle.bags.specs.declared.point.Point.{Point}
-use Rattle.timetable.specs.declared.network.Footpath.{Footpath}
-use Rattle.timetable.specs.declared.limits.TheConstants.{TIME_END}
 use Rattle.timetable.specs.TimetableValue.{TimetableValue}
 use Rattle.timetable.specs.declared.query.Query.{Query}
 use Rattle.timetable.specs.JourneyValue.{RideValue, JourneyValue}
 use Rattle.timetable.specs.Legal.{IsLegal}
-use Rattle.timetable.specs.Limits.{IsWithinLimits}
-use Rattle.timetable.specs.Journeys.{connection_at, IsWalk, walk_end, walk_secs, Leads}
-use Rattle.profile_scan.specs.Values.{walked, journey_value}
-use Rattle.profile_scan.specs.Points.{Before, untagged}
+use Rattle.timetable.specs.Journeys.{connection_at, Leads}
+use Rattle.scan_state.specs.Values.{journey_value}
+use Rattle.scan_state.specs.Points.{Before, untagged}
 use Rattle.profile_scan.specs.Window.{window, falling}
 use Rattle.sources.specs.FirstAt.{IsFirstAt}
-use Rattle.profile_scan.specs.SetQuery.{SetQueryValue, IsAnswerBetween}
-use Rattle.profile_scan.specs.Continuations.{Onward, Aboard, BoardsFrom, IsOnward, IsAboard, CountsFrom}
-use Rattle.profile_scan.specs.Plain.{IsPlainOf}
-use Rattle.profile_scan.specs.Matching.{Spelling, Spellings, Matches, ScanValue, MatchesFrom}
-
--- a legal timetable within the limits, and a query whose latest arrival is a time
-pub record CanScan (t : TimetableValue) (q : SetQueryValue) : Type 0 where
-  pub legal : IsLegal t
-  pub limits : IsWithinLimits t
-  pub in_time : q.by < TIME_END
-
--- a footpath in place of a chain: it leads from the same stop to the same stop, takes no longer, and is never worse
-pub record IsInstead {V : Type 0} (rules : Rules V) (t : TimetableValue) (stop : ℕ) (chain : List Footpath)
-    (f : Footpath) : Type 0 where
-  pub is_footpath : Contains t.footpaths f
-  pub leaves : f.from ≡ stop
-  pub leads : f.to ≡ walk_end stop chain
-  pub no_longer : f.secs ≤ walk_secs chain
-  pub no_worse : (v : V) → Admits rules v → NoWorse rules (rules.walk f.secs v) (walked rules chain v)
-
--- each chain of footpaths can be replaced by one footpath
-abbrev pub ChainsGiveWay : {V : Type 0} → Rules V → Type 0
-ChainsGiveWay rules =
-    (t : TimetableValue) → IsLegal t → IsWithinLimits t
-    → (stop : ℕ) (chain : List Footpath) → chain ≢ [] → IsWalk t stop chain
-    → (f : Footpath) × IsInstead rules t stop chain f
+use Rattle.scan_state.specs.SetQuery.{CanScan, SetQueryValue, IsAnswerBetween}
+use Rattle.scan_state.specs.Continuations.{Onward, Aboard, BoardsFrom, IsOnward, IsAboard, CountsFrom}
+use Rattle.scan_state.specs.Plain.{IsPlainOf}
+use Rattle.scan_state.specs.Matching.{Spelling, Spellings, Matches, ScanValue, MatchesFrom}
 
 -- connections that depart together can't continue one another: a trip's connections depart one after the other, each
 -- leg departs later than the one before it was left, and whoever rides on after connection i boards a later one

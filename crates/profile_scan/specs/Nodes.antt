@@ -1,11 +1,11 @@
 -- What nodes spell, each by what the earlier nodes spell.
 use Rattle.std.specs.Prelude.{◌≡◌, ℕ, List, [], ◌∷◌, ◌++◌, Option, Some, None, slice_index_or}
 pub use Rattle.reasoning.specs.Lists.{Extends}
-use Rattle.timetable.specs.declared.network.Footpath.{Footpath}
 use Rattle.timetable.specs.JourneyValue.{JourneyValue}
-use Rattle.profile_scan.specs.Continuations.{Onward, Aboard}
-use Rattle.profile_scan.specs.Matching.{Spelling, Spellings}
-use Rattle.profile_scan.specs.Steps.{boarded}
+use Rattle.scan_state.specs.Continuations.{Onward, Aboard}
+use Rattle.scan_state.specs.Matching.{Spelling, Spellings}
+use Rattle.scan_state.specs.Steps.{boarded}
+use Rattle.scan_state.specs.ScanRecords.{SpellsChange, SpellsEnd, boarded_after, changed_at, set_out_by, walk_of}
 use Rattle.profile_scan.specs.declared.nodes.Node.{Node}
 use Rattle.profile_scan.specs.declared.nodes.Node.TheVariants.{Ends, Changes, Boards, SetsOut}
 
@@ -17,23 +17,6 @@ pub record Spelled : Type 0 where
 
 abbrev pub nothing : Spelled
 nothing = record { onward = None; aboard = None; journey = None }
-
--- a walk of one footpath, or of none
-abbrev pub walk_of : Option Footpath → List Footpath
-walk_of None = []
-walk_of (Some f) = f ∷ []
-
-abbrev pub changed_at : ℕ → Option Onward → Option Aboard
-changed_at last None = None
-changed_at last (Some x) = Some (record { last = last; walk = x.walk; rides = x.rides })
-
-abbrev pub boarded_after : Footpath → ℕ → Option Aboard → Option Onward
-boarded_after walk first None = None
-boarded_after walk first (Some x) = Some (record { walk = walk ∷ []; rides = boarded first x })
-
-abbrev pub set_out_by : Option Footpath → ℕ → Option Aboard → Option JourneyValue
-set_out_by start first None = None
-set_out_by start first (Some x) = Some (record { start = start; rides = boarded first x })
 
 -- what a node spells, given what the earlier ones spell
 abbrev pub spells : (ℕ → Spelled) → Node → Spelled
@@ -64,16 +47,6 @@ spelling nodes = record {
   journey = λ k.
       (spelled nodes k).journey;
 }
-
--- a tag spells that one leaves a trip for good after a connection, by a footpath or none
-abbrev pub SpellsEnd : Spellings → ℕ → Option Footpath → ℕ → Type 0
-SpellsEnd tags last walk tag = tags.later.aboard tag ≡ Some (record { last = last; walk = walk_of walk; rides = [] })
-
--- a tag spells that one leaves a trip after a connection, and then goes on as an earlier tag spelled
-abbrev pub SpellsChange : Spellings → ℕ → ℕ → ℕ → Type 0
-SpellsChange tags last next tag =
-    (x : Onward) → tags.earlier.onward next ≡ Some x
-    → tags.later.aboard tag ≡ Some (record { last = last; walk = x.walk; rides = x.rides })
 
 -- a tag spells what a node says, by what earlier tags spelled
 abbrev pub IsSpelled : Spellings → Node → ℕ → Type 0

@@ -1,5 +1,5 @@
 -- What a scan keeps, as one source sees it.
-use Rattle.profile_scan.specs.ScanRecords.{KeptValue, ScanRecords, scan_records}
+use Rattle.scan_state.specs.ScanRecords.{KeptValue, ScanRecords, scan_records}
 use Rattle.profile_scan.specs.declared.view.ScanView.{ScanView}
 
 -- what it has written down

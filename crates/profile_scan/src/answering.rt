@@ -2,28 +2,23 @@
 
 ghost use Rattle.std.specs.Prelude.{◌≡◌, ◌++◌, ℕ, IfOk, OnOk, OnErr, reverse, take};
 ghost use Rattle.timetable.specs.Queries.{IsAskable};
-ghost use Rattle.profile_scan.specs.SetQuery.{IsAskableBetween, IsDirectWalk, question};
+ghost use Rattle.scan_state.specs.SetQuery.{IsAskableBetween, IsDirectWalk, question};
 ghost use Rattle.profile_scan.specs.Window.{window, window_of};
 ghost use Rattle.profile_scan.specs.Answered.{IsTaggedAnswer};
 ghost use Rattle.profile_scan.specs.Found.{Answers, AnswersBetween};
-ghost use Rattle.profile_scan.specs.ScanRecords.{spelling_of};
+ghost use Rattle.scan_state.specs.ScanRecords.{spelling_of};
 ghost use Rattle.profile_scan.specs.Views.{scan_records_seen};
-ghost use Rattle.profile_scan.specs.Hops.{Asks};
+ghost use Rattle.scan_state.specs.Hops.{Asks};
 
-use crate::final_walks::final_walks_to;
 use crate::found::{Found, in_order};
 use crate::found_between::FoundBetween;
-use crate::hop::ScanQuery;
 use crate::journey_nodes::journeys_as_nodes;
-use crate::keeping::Keeping;
-use crate::origin::Origin;
 use crate::scan::scan_window;
 use crate::scanned::Scanned;
-use crate::set_query::SetQuery;
-use crate::starts::starts_from;
 use crate::view::ScanView;
 use bags::Point;
 use criteria::Criterion;
+use scan_state::{Keeping, Origin, ScanQuery, SetQuery, final_walks_to, starts_from};
 use sources::ConnSource;
 use std::alloc::{AllocError, Global};
 use timetable::{Footpath, GhostValue, Query, Timetable};

@@ -1,7 +1,7 @@
 //! Queries from every stop at once, to any of several targets.
 
 use crate::destination::Destination;
-use crate::set_query::SetQuery;
+use scan_state::SetQuery;
 use std::alloc::{AllocError, Global};
 
 /// A query from every stop to any of several targets, as the platforms of a station: journeys that depart between two
@@ -19,7 +19,7 @@ pub struct Destinations {
 
 impl Destinations {
     ghost use Rattle.std.specs.Prelude.{◌≡◌, IfOk};
-    ghost use Rattle.profile_scan.specs.SetQuery.{question};
+    ghost use Rattle.scan_state.specs.SetQuery.{question};
     ghost use Rattle.profile_scan.specs.Destinations.{question_to, question_to_any};
 
     // The query between no source and the targets.

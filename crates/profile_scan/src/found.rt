@@ -2,7 +2,7 @@
 
 ghost use Rattle.std.specs.Prelude.{◌≡◌, ◌<◌, IfOk, OnOk, length, slice_get, Some};
 ghost use Rattle.bags.specs.Bag.{criterion_of, points_of};
-ghost use Rattle.profile_scan.specs.Points.{AreInOrder, CanPut, IsIndexFor, IsPut};
+ghost use Rattle.scan_state.specs.Points.{AreInOrder, CanPut, IsIndexFor, IsPut};
 ghost use Rattle.profile_scan.specs.Answered.{Answer};
 
 use crate::nodes::Node;

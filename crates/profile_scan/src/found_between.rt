@@ -2,13 +2,13 @@
 
 ghost use Rattle.std.specs.Prelude.{◌≡◌};
 ghost use Rattle.profile_scan.specs.Answered.{AnswerBetween};
-ghost use Rattle.profile_scan.specs.SetQuery.{question, secs_of};
+ghost use Rattle.scan_state.specs.SetQuery.{question, secs_of};
 
 use crate::found::Found;
 use crate::nodes::Node;
-use crate::set_query::SetQuery;
 use bags::Point;
 use criteria::Criterion;
+use scan_state::SetQuery;
 use timetable::{Footpath, GhostValue, Query, Timetable};
 
 /// The answer of a query between sets: the points of all best departures, by departure, then by the criterion's order.
@@ -29,9 +29,9 @@ pub struct FoundBetween<C: Criterion> {
 }
 
 impl<C: Criterion> FoundBetween<C> {
-    ghost use Rattle.std.specs.Prelude.{◌≡◌, ◌<◌, length, slice_get, Some};
+    ghost use Rattle.std.specs.Prelude.{◌<◌, length, slice_get, Some};
     ghost use Rattle.timetable.specs.TimetableValue.{TimetableValue};
-    ghost use Rattle.profile_scan.specs.SetQuery.{single_set_query};
+    ghost use Rattle.scan_state.specs.SetQuery.{single_set_query};
     ghost use Rattle.profile_scan.specs.Found.{Answers, AnswersBetween, listed_between, nodes_between};
     ghost use Rattle.profile_scan.specs.Found.{query_between, walk_between};
 

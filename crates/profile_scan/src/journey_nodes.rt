@@ -7,13 +7,12 @@ ghost use Rattle.profile_scan.specs.declared.journey_nodes.Change.{Change};
 ghost use Rattle.profile_scan.specs.JourneyNodes.{IsRoute, change, ending, IsLabelSpelled, SaysLabel, IsJourneySpelled};
 ghost use Rattle.profile_scan.specs.JourneyNodes.{SaysJourney, AreSpelledAgain};
 
-use crate::keeping::Keeping;
 use crate::nodes::Node;
-use crate::scan_records::Exit;
 use crate::view::ScanView;
 use bags::Point;
 use criteria::Criterion;
 use fronts::Step;
+use scan_state::{Exit, Keeping};
 use sources::ConnSource;
 use std::alloc::{AllocError, Global};
 use timetable::Footpath;
@@ -34,13 +33,7 @@ struct LastAlighting {
 }
 
 impl<'a, C: Criterion, K: Keeping<C>> ScanView<'a, C, K> {
-    ghost use Rattle.std.specs.Prelude.{◌≡◌, ◌++◌, ◌∷◌, [], ℕ, IfOk, Contains, Some, None, length, map};
-    ghost use Rattle.bags.specs.declared.point.Point.{Point};
-    ghost use Rattle.profile_scan.specs.Views.{scan_records_seen};
-    ghost use Rattle.profile_scan.specs.declared.journey_nodes.Change.{Change};
-    ghost use Rattle.profile_scan.specs.JourneyNodes.{AddsNodes, IsRoute, change, ending};
-    ghost use Rattle.profile_scan.specs.JourneyNodes.{IsLabelSpelled, SaysLabel, IsJourneySpelled};
-    ghost use Rattle.profile_scan.specs.JourneyNodes.{SaysJourney, IsSpelledAgain};
+    ghost use Rattle.profile_scan.specs.JourneyNodes.{AddsNodes, IsSpelledAgain};
 
     // The change that a label says, if it says one.
     fn change_after(&self, label: usize) -> Option<Change>

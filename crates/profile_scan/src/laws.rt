@@ -6,15 +6,16 @@
 ghost use Rattle.std.specs.Prelude.{◌≡◌, ◌++◌, ℕ, IfOk, OnOk, OnErr, map, reverse, take};
 ghost use Rattle.timetable.specs.TimetableValue.{TimetableValue};
 ghost use Rattle.timetable.specs.declared.query.Query.{Query};
-ghost use Rattle.profile_scan.specs.SetQuery.{CountsBetween, OneIsPlain};
+ghost use Rattle.scan_state.specs.SetQuery.{CountsBetween, OneIsPlain};
 ghost use Rattle.timetable.specs.Queries.{IsAskable};
 ghost use Rattle.profile_scan.specs.Answered.{Answer};
 ghost use Rattle.profile_scan.specs.Found.{Answers, criterion_of_found, listed, nodes_of, query_of, timetable_of};
 ghost use Rattle.profile_scan.specs.Found.{walk_of_found};
-ghost use Rattle.profile_scan.specs.Points.{untagged};
+ghost use Rattle.scan_state.specs.Points.{untagged};
 ghost use Rattle.profile_scan.specs.Window.{window};
-ghost use Rattle.profile_scan.specs.Steps.{IsStep};
-ghost use Rattle.profile_scan.specs.LawStatements.{ChainsGiveWay, TogetherNeverContinue, NothingFollows, OneIndexDown};
+ghost use Rattle.scan_state.specs.Steps.{IsStep};
+ghost use Rattle.scan_state.specs.Plain.{ChainsGiveWay};
+ghost use Rattle.profile_scan.specs.LawStatements.{TogetherNeverContinue, NothingFollows, OneIndexDown};
 ghost use Rattle.profile_scan.specs.LawStatements.{TagsMayCome, CutIsTheSources, MatchIsTheAnswer, OneAnswer};
 ghost use Rattle.profile_scan.specs.LawStatements.{WindowIsReadBackward};
 

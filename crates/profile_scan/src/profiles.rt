@@ -25,13 +25,10 @@ pub struct Profiles<C: Scanned> {
 }
 
 impl<C: Scanned> Profiles<C> {
-    ghost use Rattle.std.specs.Prelude.{◌≡◌, ◌≢◌, ◌<◌, IfOk, length};
-    ghost use Rattle.profile_scan.specs.Destinations.{query_from};
-    ghost use Rattle.profile_scan.specs.ScanState.{final_walks_of};
+    ghost use Rattle.std.specs.Prelude.{◌≢◌, ◌<◌, length};
+    ghost use Rattle.scan_state.specs.ScanState.{final_walks_of};
     ghost use Rattle.profile_scan.specs.Found.{Answers};
-    ghost use Rattle.profile_scan.specs.Everywhere.{AnswerAll, criterion_of_profiles, destination_of, listed_from};
-    ghost use Rattle.profile_scan.specs.Everywhere.{stops_of};
-    ghost use Rattle.profile_scan.specs.Everywhere.{walk_from};
+    ghost use Rattle.profile_scan.specs.Everywhere.{listed_from, stops_of, walk_from};
 
     /// What was asked from every stop.
     pub fn destination(&self) -> Destination

@@ -1,10 +1,7 @@
 //! One scan of a window, from its last connection to its first.
 
-use crate::at_source::AtSource;
-use crate::bound::Bound;
-use crate::hop::{Hop, ScanQuery};
-use crate::keeping::Keeping;
 use criteria::Criterion;
+use scan_state::{AtSource, Bound, Hop, Keeping, ScanQuery};
 use sources::ConnSource;
 use std::alloc::{AllocError, Global};
 use std::ops::Range;
@@ -25,8 +22,7 @@ pub struct Scan<C: Criterion, K, O> {
 }
 
 impl<C: Criterion, K: Keeping<C>, O: AtSource<C>> Scan<C, K, O> {
-    ghost use Rattle.std.specs.Prelude.{OnOk};
-    ghost use Rattle.profile_scan.specs.Parts.{CanStep, MakesStep};
+    ghost use Rattle.profile_scan.specs.Scans.{CanStep, MakesStep};
 
     // Unless the connection at index `place` can add nothing, renews the bound and takes the connection in.
     fn step<S: ConnSource>(
@@ -65,13 +61,13 @@ impl<C: Criterion, K: Keeping<C>, O: AtSource<C>> Scan<C, K, O> {
 }
 
 ghost use Rattle.std.specs.Prelude.{◌≡◌, ◌-◌, ◌++◌, ℕ, IfOk, OnOk, OnErr, take};
-ghost use Rattle.profile_scan.specs.Hops.{IsWindow};
+ghost use Rattle.scan_state.specs.Hops.{IsWindow};
 ghost use Rattle.profile_scan.specs.Window.{falling};
-ghost use Rattle.profile_scan.specs.Parts.{HasScanned};
+ghost use Rattle.profile_scan.specs.Scans.{HasScanned};
 
 /// Scans the connections of a window, the last first. For each question, the points found match every journey whose
-/// first connection is the window's first or a later one; those that begin after the window arrive too late. Each form
-/// of it is a function by itself, so that the loop has the processor's registers to itself.
+/// first connection is the window's first or a later one; those that begin after the window arrive too late. It is
+/// never inlined, so that the loop of each instance has the processor's registers to itself.
 #[inline(never)]
 pub fn scan_window<S: ConnSource, C: Criterion, K: Keeping<C>, O: AtSource<C>>(
     alloc: Global,

@@ -1,10 +1,9 @@
 //! In which form a scan keeps trips and stops, by criterion.
 
-use crate::by_arrival::ByArrival;
-use crate::by_trips::ByTrips;
-use crate::in_lists::InLists;
-use crate::keeping::Keeping;
+use by_arrival::ByArrival;
+use by_trips::ByTrips;
 use criteria::{Arrival, ArrivalTrips, ArrivalTripsWalk, Criterion};
+use scan_state::{InLists, Keeping};
 
 /// A criterion by which one can scan: it chooses the form in which a scan keeps labels of trips and points of stops.
 ///

@@ -1,23 +1,22 @@
 //! The answers from all stops to any of several targets, by one scan.
 
 ghost use Rattle.std.specs.Prelude.{◌≡◌, ◌++◌, ℕ, IfOk, OnOk, OnErr, reverse, take};
-ghost use Rattle.profile_scan.specs.SetQuery.{IsAskableBetween, question};
+ghost use Rattle.scan_state.specs.SetQuery.{IsAskableBetween, question};
 ghost use Rattle.profile_scan.specs.Destinations.{question_to_any};
 ghost use Rattle.profile_scan.specs.Window.{window_of};
-ghost use Rattle.profile_scan.specs.Origins.{AreUnder};
+ghost use Rattle.scan_state.specs.Origins.{AreUnder};
 ghost use Rattle.profile_scan.specs.Everywhere.{AnswerToAny, AreStopLists, asked_to_any, criterion_to_any};
 
 use crate::answering::{ask, found_in_nodes};
 use crate::destinations::Destinations;
 use crate::found::in_order;
 use crate::found_between::FoundBetween;
-use crate::hop::ScanQuery;
-use crate::origins::Origins;
 use crate::scan::{State, scan_window};
 use crate::scanned::Scanned;
 use crate::view::ScanView;
 use bags::Point;
 use criteria::Criterion;
+use scan_state::{Origins, ScanQuery};
 use sources::ConnSource;
 use std::alloc::{AllocError, Global};
 use timetable::Footpath;
@@ -33,12 +32,11 @@ pub struct ProfilesToAny<C: Scanned> {
 }
 
 impl<C: Scanned> ProfilesToAny<C> {
-    ghost use Rattle.std.specs.Prelude.{◌≡◌, ◌<◌, IfOk, Contains, length};
-    ghost use Rattle.profile_scan.specs.ScanState.{final_walks_of};
+    ghost use Rattle.std.specs.Prelude.{◌<◌, Contains, length};
+    ghost use Rattle.scan_state.specs.ScanState.{final_walks_of};
     ghost use Rattle.profile_scan.specs.Found.{AnswersBetween};
-    ghost use Rattle.profile_scan.specs.Origins.{from_stop};
-    ghost use Rattle.profile_scan.specs.Everywhere.{AnswerToAny, asked_to_any, criterion_to_any, listed_to_any};
-    ghost use Rattle.profile_scan.specs.Everywhere.{stops_to_any, walk_to_any};
+    ghost use Rattle.scan_state.specs.Origins.{from_stop};
+    ghost use Rattle.profile_scan.specs.Everywhere.{listed_to_any, stops_to_any, walk_to_any};
 
     /// The targets, in the order in which they were asked for.
     pub fn targets(&self) -> &[u32]

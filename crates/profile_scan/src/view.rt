@@ -1,7 +1,7 @@
 //! What a scan keeps, as one source sees it.
 
-use crate::origin::Origin;
 use criteria::Criterion;
+use scan_state::Origin;
 
 /// What a scan keeps of all trips and stops, and for one source.
 #[derive(Clone, Copy)]

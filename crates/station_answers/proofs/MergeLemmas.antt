@@ -14,14 +14,14 @@ use Rattle.timetable.specs.TimetableValue.{TimetableValue}
 use Rattle.timetable.specs.declared.query.Query.{Query}
 use Rattle.timetable.specs.JourneyValue.{JourneyValue}
 use Rattle.timetable.specs.Journeys.{Counts}
-use Rattle.profile_scan.specs.SetQuery.{SetQueryValue, IsAnswerBetween, IsPointBetween, single_set_query, pair_of, query_of_pair}
+use Rattle.scan_state.specs.SetQuery.{SetQueryValue, IsAnswerBetween, IsPointBetween, single_set_query, pair_of, query_of_pair}
 use Rattle.profile_scan.specs.Destinations.{query_from}
 use Rattle.profile_scan.specs.declared.destination.Destination.{Destination}
 use Rattle.profile_scan.specs.Found.{Answers, listed}
-use Rattle.profile_scan.specs.LawStatements.{CanScan}
-use Rattle.profile_scan.specs.Points.{Before, Covers, IsPoint}
+use Rattle.scan_state.specs.SetQuery.{CanScan}
+use Rattle.scan_state.specs.Points.{Before, Covers, IsPoint}
 use Rattle.profile_scan.specs.declared.found.Found.{Found}
-use Rattle.profile_scan.proofs.Admitted.{point_admits}
+use Rattle.scan_state.proofs.Admitted.{point_admits}
 use Rattle.profile_scan.proofs.Single.{to_one}
 use Rattle.journeys.specs.Extracted.{Attains}
 use Rattle.station_answers.specs.Asking.{IsToTarget, destination_to}

@@ -10,7 +10,7 @@ use Rattle.timetable.specs.declared.query.QueryFault.{QueryFault}
 use Rattle.timetable.specs.declared.query.QueryFault.TheVariants.{UnknownStop, SameStop, BadWindow}
 use Rattle.std.proofs.lemmas.Option.{slice_get_within}
 use Rattle.image_layout.specs.Image.{HasImage, ImageValue}
-use Rattle.profile_scan.specs.SetQuery.{SetQueryValue}
+use Rattle.scan_state.specs.SetQuery.{SetQueryValue}
 use Rattle.journeys.specs.Questions.{IsNamed, NamesNone}
 use Rattle.journeys.specs.declared.question.Window.{Window}
 use Rattle.station_answers.specs.Asking.{IsFirstFault}

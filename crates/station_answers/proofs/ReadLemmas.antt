@@ -3,7 +3,7 @@ use Rattle.std.proofs.Common.{◌≡◌, ℕ, suc, ◌+◌, ◌<◌, List, ◌++
 use Rattle.std.proofs.Common.{append_assoc, append-nil}
 use Rattle.timetable.specs.TimetableValue.{TimetableValue}
 use Rattle.profile_scan.proofs.LogLemmas.{taken_all}
-use Rattle.profile_scan.specs.SetQuery.{SetQueryValue}
+use Rattle.scan_state.specs.SetQuery.{SetQueryValue}
 use Rattle.station_answers.specs.Reading.{ReadsPart, ReadsWindow, repeated, window_between}
 
 pub one_scan_more : (log read now new : List ℕ) (n : ℕ) → now ≡ log ++ repeated n read → new ≡ now ++ read → new ≡ log ++ repeated (n + 1) read

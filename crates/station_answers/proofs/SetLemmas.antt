@@ -4,7 +4,7 @@ use Rattle.std.proofs.lemmas.Bool.{and_from, le-leb}
 use Rattle.criteria.specs.Laws.{Rules, Laws, Admits, NoWorse}
 use Rattle.bags.specs.Dominance.{IsBag}
 use Rattle.bags.specs.declared.point.Point.{Point}
-use Rattle.profile_scan.specs.Points.{Before, Covers, IsAnswerOf, IsUndominatedOf}
+use Rattle.scan_state.specs.Points.{Before, Covers, IsAnswerOf, IsUndominatedOf}
 use Rattle.profile_scan.proofs.Answer.{only_itself}
 
 -- a bag in order whose points are of the set, and that covers each of the set, is its answer

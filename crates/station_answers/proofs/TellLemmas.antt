@@ -3,7 +3,7 @@ use Rattle.criteria.specs.Laws.{Rules}
 use Rattle.bags.specs.declared.point.Point.{Point}
 use Rattle.timetable.specs.TimetableValue.{TimetableValue}
 use Rattle.timetable.specs.JourneyValue.{JourneyValue}
-use Rattle.profile_scan.specs.SetQuery.{SetQueryValue}
+use Rattle.scan_state.specs.SetQuery.{SetQueryValue}
 use Rattle.journeys.proofs.AnswerLemmas.{tagless}
 use Rattle.station_answers.specs.Attaining.{AttainsPair}
 

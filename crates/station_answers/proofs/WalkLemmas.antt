@@ -7,7 +7,7 @@ use Rattle.timetable.specs.TimetableValue.{TimetableValue}
 use Rattle.timetable.specs.Legal.{IsLegal}
 use Rattle.timetable.specs.declared.network.Footpath.{Footpath}
 use Rattle.timetable.proofs.LegalLemmas.{one_footpath}
-use Rattle.profile_scan.specs.SetQuery.{SetQueryValue, IsDirect, IsDirectWalk}
+use Rattle.scan_state.specs.SetQuery.{SetQueryValue, IsDirect, IsDirectWalk}
 use Rattle.station_answers.specs.Walks.{InFront, IsFootpathBetween, IsLeastBefore, shorter_of}
 
 -- one index further

@@ -3,7 +3,7 @@ use Rattle.std.specs.Prelude.{◌≡◌, ℕ, ◌<◌, ◌≤◌, ◌⊎◌, Lis
 use Rattle.timetable.specs.declared.limits.TheConstants.{TIME_END}
 use Rattle.timetable.specs.declared.query.QueryFault.{QueryFault}
 use Rattle.timetable.specs.declared.query.QueryFault.TheVariants.{UnknownStop, SameStop, BadWindow}
-use Rattle.profile_scan.specs.SetQuery.{SetQueryValue}
+use Rattle.scan_state.specs.SetQuery.{SetQueryValue}
 use Rattle.profile_scan.specs.declared.destination.Destination.{Destination}
 
 -- all are stops of a timetable with this many stops

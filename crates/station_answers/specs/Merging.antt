@@ -6,9 +6,9 @@ use Rattle.bags.specs.Bag.{criterion_of, points_of}
 use Rattle.bags.specs.declared.point.Point.{Point}
 use Rattle.timetable.specs.TimetableValue.{TimetableValue}
 use Rattle.timetable.specs.declared.query.Query.{Query}
-use Rattle.profile_scan.specs.SetQuery.{SetQueryValue, Pair, query_of_pair}
+use Rattle.scan_state.specs.SetQuery.{SetQueryValue, Pair, query_of_pair}
 use Rattle.profile_scan.specs.Found.{Answers, listed}
-use Rattle.profile_scan.specs.Points.{Covers, IsPoint}
+use Rattle.scan_state.specs.Points.{Covers, IsPoint}
 use Rattle.profile_scan.specs.declared.found.Found.{Found}
 use Rattle.station_answers.specs.declared.merging.MergedAnswers.{MergedAnswers}
 use Rattle.station_answers.specs.declared.merging.PointSource.{PointSource}

@@ -7,7 +7,7 @@ use Rattle.timetable.specs.declared.query.QueryFault.TheVariants.{UnknownStop, S
 use Rattle.image_layout.specs.Image.{ImageValue}
 use Rattle.journeys.specs.Questions.{IsNamed, NamesNone}
 use Rattle.journeys.specs.declared.question.Window.{Window}
-use Rattle.profile_scan.specs.SetQuery.{SetQueryValue}
+use Rattle.scan_state.specs.SetQuery.{SetQueryValue}
 use Rattle.station_answers.specs.Asking.{IsFirstFault}
 use Rattle.station_answers.specs.declared.naming.NoQuestion.{NoQuestion}
 use Rattle.station_answers.specs.declared.naming.NoQuestion.TheVariants.{Bad, OutOfMemory}

@@ -2,7 +2,7 @@
 use Rattle.std.specs.Prelude.{◌≡◌, ◌≢◌, ℕ, zero, suc, ◌≤◌, List, [], ◌++◌, length, reverse, take}
 use Rattle.timetable.specs.TimetableValue.{TimetableValue}
 use Rattle.profile_scan.specs.Window.{window}
-use Rattle.profile_scan.specs.SetQuery.{SetQueryValue, pair_of}
+use Rattle.scan_state.specs.SetQuery.{SetQueryValue, pair_of}
 
 -- the connections of the window, which the two times alone determine
 abbrev pub window_between : TimetableValue → SetQueryValue → List ℕ

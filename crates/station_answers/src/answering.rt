@@ -1,7 +1,7 @@
 //! The answer between several stops, by one scan of the window.
 
 ghost use Rattle.std.specs.Prelude.{◌≡◌, ◌++◌, ℕ, Contains, IfOk, OnOk, OnErr, length, reverse, take};
-ghost use Rattle.profile_scan.specs.SetQuery.{IsAnswerBetween, IsAskableBetween, question, secs_of};
+ghost use Rattle.scan_state.specs.SetQuery.{IsAnswerBetween, IsAskableBetween, question, secs_of};
 ghost use Rattle.journeys.specs.Answer.{point_of, points_of, walk_of_answer};
 ghost use Rattle.journeys.specs.Extracted.{AttainsBetween};
 ghost use Rattle.station_answers.specs.Reading.{window_between};

@@ -1,7 +1,7 @@
 //! The answer between several stops, from the answers of their pairs: slower than by one scan, and a reference for it.
 
 ghost use Rattle.std.specs.Prelude.{◌≡◌, ℕ, Contains, IfOk, OnOk, OnErr, length, map};
-ghost use Rattle.profile_scan.specs.SetQuery.{IsAnswerBetween, IsAskableBetween, question};
+ghost use Rattle.scan_state.specs.SetQuery.{IsAnswerBetween, IsAskableBetween, question};
 ghost use Rattle.profile_scan.specs.Destinations.{query_from};
 ghost use Rattle.profile_scan.specs.Everywhere.{AnswerAll, criterion_of_profiles, destination_of};
 ghost use Rattle.journeys.specs.Answer.{point_of, points_of, walk_of_answer};

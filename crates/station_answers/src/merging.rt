@@ -34,7 +34,7 @@ impl<C: Criterion> MergedAnswers<C> {
     ghost use Rattle.bags.specs.Bag.{criterion_of, points_of};
     ghost use Rattle.profile_scan.specs.Found.{listed};
     ghost use Rattle.timetable.specs.TimetableValue.{TimetableValue};
-    ghost use Rattle.profile_scan.specs.SetQuery.{SetQueryValue};
+    ghost use Rattle.scan_state.specs.SetQuery.{SetQueryValue};
     ghost use Rattle.station_answers.specs.Attaining.{AttainsPair};
     ghost use Rattle.station_answers.specs.Merging.{IsMerged, IsOfFounds, TakesFound};
 

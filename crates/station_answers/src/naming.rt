@@ -3,7 +3,7 @@
 ghost use Rattle.std.specs.Prelude.{IfOk, MatchOption, MatchResult, map};
 ghost use Rattle.std.specs.List.{AllZip};
 ghost use Rattle.journeys.specs.Questions.{IsNamed};
-ghost use Rattle.profile_scan.specs.SetQuery.{IsAskableBetween, question};
+ghost use Rattle.scan_state.specs.SetQuery.{IsAskableBetween, question};
 ghost use Rattle.station_answers.specs.Naming.{AsksBetween, IsNoQuestion, SomeUnknown};
 
 use crate::query::check_between;

@@ -1,7 +1,7 @@
 //! What is wrong with a question between several stops.
 
 ghost use Rattle.std.specs.Prelude.{◌<◌, ◌≤◌, ℕ, Contains, MatchBool, MatchResult};
-ghost use Rattle.profile_scan.specs.SetQuery.{IsAskableBetween, question};
+ghost use Rattle.scan_state.specs.SetQuery.{IsAskableBetween, question};
 ghost use Rattle.station_answers.specs.Asking.{IsFirstFault};
 
 use profile_scan::SetQuery;

@@ -1,7 +1,7 @@
 //! The direct walk between several stops.
 
 ghost use Rattle.std.specs.Prelude.{◌≡◌, ◌<◌, ◌+◌, ℕ, Contains, length};
-ghost use Rattle.profile_scan.specs.SetQuery.{IsAskableBetween, IsDirectWalk, question};
+ghost use Rattle.scan_state.specs.SetQuery.{IsAskableBetween, IsDirectWalk, question};
 ghost use Rattle.station_answers.specs.Walks.{IsFootpathBetween, IsLeastBefore, shorter_of};
 ghost use Rattle.station_answers.specs.Walks.{shorter_than};
 

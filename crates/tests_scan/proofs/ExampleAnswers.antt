@@ -9,8 +9,8 @@ use Rattle.timetable.specs.declared.network.Footpath.{Footpath}
 use Rattle.timetable.specs.JourneyValue.{RideValue, JourneyValue}
 use Rattle.timetable.specs.Journeys.{connection_at, IsWalk, walk_end, Leads, final_time, time_after, stop_after}
 use Rattle.timetable.specs.Journeys.{IsStart, start_end, start_secs, Counts, arrival}
-use Rattle.profile_scan.specs.Values.{journey_value, walked, ridden, started}
-use Rattle.profile_scan.specs.Points.{IsPoint, IsUndominated, IsAnswer}
+use Rattle.scan_state.specs.Values.{journey_value, walked, ridden, started}
+use Rattle.scan_state.specs.Points.{IsPoint, IsUndominated, IsAnswer}
 use Rattle.tests_scan.specs.Examples.{with_loops, with_walk, asked, by_change, footpath, on_foot}
 
 -- with loops alone every footpath is one

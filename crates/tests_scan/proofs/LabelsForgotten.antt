@@ -8,12 +8,13 @@ use Rattle.timetable.specs.Journeys.{connection_at}
 use Rattle.timetable.specs.Legal.{IsLegal}
 use Rattle.timetable.specs.Limits.{IsWithinLimits}
 use Rattle.sources.specs.FirstAt.{IsFirstAt}
-use Rattle.profile_scan.specs.Points.{Covers}
-use Rattle.profile_scan.specs.Continuations.{Aboard}
-use Rattle.profile_scan.specs.Matching.{Spelling, Spellings, Keeps, from_to, ScanValue, MatchesFrom, IsLabelled}
-use Rattle.profile_scan.specs.Steps.{TakesIn, IsOffered, Leaving, ends, ends_after, changes, MayLeave, leaving_value, leavings, boardings, settings_out}
-use Rattle.profile_scan.specs.LawStatements.{CanScan, OneIndexDown}
-use Rattle.profile_scan.specs.SetQuery.{single_set_query}
+use Rattle.scan_state.specs.Points.{Covers}
+use Rattle.scan_state.specs.Continuations.{Aboard}
+use Rattle.scan_state.specs.Matching.{Spelling, Spellings, Keeps, from_to, ScanValue, MatchesFrom, IsLabelled}
+use Rattle.scan_state.specs.Steps.{TakesIn, IsOffered, Leaving, ends, ends_after, changes, MayLeave, leaving_value, leavings, boardings, settings_out}
+use Rattle.scan_state.specs.SetQuery.{CanScan}
+use Rattle.profile_scan.specs.LawStatements.{OneIndexDown}
+use Rattle.scan_state.specs.SetQuery.{single_set_query}
 use Rattle.tests_scan.specs.Examples.{two_hops, over_one_hop}
 use Rattle.tests_scan.specs.WrongSteps.{IsStepWithoutLabels}
 use Rattle.profile_scan.proofs.Ends.{nothing_follows}

@@ -13,16 +13,17 @@ use Rattle.timetable.specs.Journeys.{connection_at, walk_end, walk_secs, Leads, 
 use Rattle.timetable.specs.Legal.{At, HasFootpath, IsLegal}
 use Rattle.timetable.specs.Limits.{IsWithinLimits}
 use Rattle.timetable.specs.TimetableValue.{TimetableValue}
-use Rattle.profile_scan.specs.SetQuery.{SetQueryValue, CountsBetween, single_set_query}
-use Rattle.profile_scan.specs.Values.{started}
-use Rattle.profile_scan.specs.Points.{Covers, IsAnswer}
+use Rattle.scan_state.specs.SetQuery.{SetQueryValue, CountsBetween, single_set_query}
+use Rattle.scan_state.specs.Values.{started}
+use Rattle.scan_state.specs.Points.{Covers, IsAnswer}
 use Rattle.sources.specs.FirstAt.{IsFirstAt}
-use Rattle.profile_scan.specs.Continuations.{Onward, Aboard, IsOnward}
-use Rattle.profile_scan.specs.Matching.{Spelling, Spellings, Keeps, from_to, ScanValue, MatchesFrom}
-use Rattle.profile_scan.specs.Steps.{Offer, TakesIn, IsOffered, Leaving, ends, ends_after, changes, MayLeave}
-use Rattle.profile_scan.specs.Steps.{leaving_value, leavings, boarded, Boarding, MayBoard, boardings, SettingOut}
-use Rattle.profile_scan.specs.Steps.{settings_out, IsStep}
-use Rattle.profile_scan.specs.LawStatements.{CanScan, OneIndexDown, CutIsTheSources}
+use Rattle.scan_state.specs.Continuations.{Onward, Aboard, IsOnward}
+use Rattle.scan_state.specs.Matching.{Spelling, Spellings, Keeps, from_to, ScanValue, MatchesFrom}
+use Rattle.scan_state.specs.Steps.{Offer, TakesIn, IsOffered, Leaving, ends, ends_after, changes, MayLeave}
+use Rattle.scan_state.specs.Steps.{leaving_value, leavings, boarded, Boarding, MayBoard, boardings, SettingOut}
+use Rattle.scan_state.specs.Steps.{settings_out, IsStep}
+use Rattle.scan_state.specs.SetQuery.{CanScan}
+use Rattle.profile_scan.specs.LawStatements.{OneIndexDown, CutIsTheSources}
 use Rattle.tests_scan.specs.Examples.{one_hop, over_one_hop, with_loops, asked, by_change, ride, footpath}
 use Rattle.tests_scan.specs.WrongSteps.{IsStepWith, cut_boardings, IsStepWithBagCut, loop_starts, LeavesSource}
 use Rattle.tests_scan.specs.WrongSteps.{MayBoardAtOnce, at_once_departure, at_once_value, IsStepWithLoopStart}
@@ -30,7 +31,7 @@ use Rattle.tests_scan.specs.WrongSteps.{Unchanged, on_foot, at_once, at_once_boa
 use Rattle.tests_scan.specs.WrongSteps.{CountsLegByLeg}
 use Rattle.profile_scan.proofs.Ends.{nothing_follows}
 use Rattle.profile_scan.proofs.StepLemmas.{one_index_down}
-use Rattle.profile_scan.proofs.Offers.{takes_but}
+use Rattle.scan_state.proofs.Offers.{takes_but}
 use Rattle.profile_scan.proofs.Answer.{match_is_the_answer}
 use Rattle.profile_scan.proofs.Single.{answer_from, to_one}
 

@@ -6,10 +6,10 @@ use Rattle.timetable.specs.declared.network.Footpath.{Footpath}
 use Rattle.timetable.specs.JourneyValue.{RideValue, JourneyValue}
 use Rattle.timetable.specs.Journeys.{connection_at}
 use Rattle.timetable.specs.TimetableValue.{TimetableValue}
-use Rattle.profile_scan.specs.SetQuery.{SetQueryValue, CountsBetween}
-use Rattle.profile_scan.specs.Continuations.{Aboard}
-use Rattle.profile_scan.specs.Matching.{Spelling, Spellings, Keeps, from_to, ScanValue}
-use Rattle.profile_scan.specs.Steps.{Offer, TakesIn, leavings, boarded, Boarding, MayBoard, boardings, SettingOut, MaySetOutBy, settings_out}
+use Rattle.scan_state.specs.SetQuery.{SetQueryValue, CountsBetween}
+use Rattle.scan_state.specs.Continuations.{Aboard}
+use Rattle.scan_state.specs.Matching.{Spelling, Spellings, Keeps, from_to, ScanValue}
+use Rattle.scan_state.specs.Steps.{Offer, TakesIn, leavings, boarded, Boarding, MayBoard, boardings, SettingOut, MaySetOutBy, settings_out}
 
 -- a step that offers something else to the bags, or to the points found
 pub record IsStepWith {V A B : Type 0} (rules : Rules V) (t : TimetableValue) (q : SetQueryValue) (tags : Spellings) (i : ℕ)

@@ -3,10 +3,10 @@
 ghost use Rattle.std.specs.Prelude.{◌≡◌, ℕ, [], ◌∷◌, None, Some, reverse};
 ghost use Rattle.bags.specs.Dominance.{Apart, Dominates};
 ghost use Rattle.timetable.specs.Journeys.{Counts, IsJourney};
-ghost use Rattle.profile_scan.specs.Points.{IsAnswer};
-ghost use Rattle.profile_scan.specs.Values.{journey_value};
+ghost use Rattle.scan_state.specs.Points.{IsAnswer};
+ghost use Rattle.scan_state.specs.Values.{journey_value};
 ghost use Rattle.profile_scan.specs.Window.{window, falling};
-ghost use Rattle.profile_scan.specs.Plain.{IsPlain};
+ghost use Rattle.scan_state.specs.Plain.{IsPlain};
 ghost use Rattle.profile_scan.specs.Nodes.{spelling};
 ghost use Rattle.profile_scan.specs.declared.nodes.Node.TheVariants.{Ends, Changes, Boards, SetsOut};
 ghost use Rattle.tests_scan.specs.Examples.{asked, by_change, direct, footpath, from_start, on_foot, ride};

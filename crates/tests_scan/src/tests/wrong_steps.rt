@@ -3,7 +3,7 @@
 
 ghost use Rattle.std.specs.Prelude.{[], ◌∷◌};
 ghost use Rattle.timetable.specs.Journeys.{Counts};
-ghost use Rattle.profile_scan.specs.Points.{IsAnswer};
+ghost use Rattle.scan_state.specs.Points.{IsAnswer};
 ghost use Rattle.tests_scan.specs.WrongSteps.{CountsLegByLeg, IsStepWithBagCut, IsStepWithLoopStart};
 ghost use Rattle.tests_scan.specs.WrongSteps.{IsStepWithoutChange, IsStepWithoutLabels};
 ghost use Rattle.profile_scan.specs.LawStatements.{CutIsTheSources, OneIndexDown};

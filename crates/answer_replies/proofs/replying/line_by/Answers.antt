@@ -1,6 +1,6 @@
 use Rattle.std.proofs.Common.{◌∙◌, refl}
 use Rattle.std.proofs.lemmas.Result.{IfOk-weaker}
-use Rattle.profile_scan.specs.SetQuery.{question}
+use Rattle.scan_state.specs.SetQuery.{question}
 use Rattle.answer_replies.proofs.AnswerLemmas.{answered_line, reads_part, reads_whole, whole_is_part}
 use Rattle.answer_replies.proofs.replying.line_by.Goals as goal
 

@@ -4,11 +4,12 @@ use Rattle.criteria.specs.Laws.{Rules}
 use Rattle.fronts.specs.declared.entry.Item.{Item}
 use Rattle.fronts.specs.declared.entry.FrontEntry.{FrontEntry}
 use Rattle.fronts.specs.Front.{next_of, departure_of, points_from, Extends}
+use Rattle.fronts.specs.Chains.{points_to}
 use Rattle.fronts.specs.Entries.{AreEntries}
 use Rattle.fronts.specs.Putting.{IsPath, DepartBefore}
 use Rattle.fronts.proofs.Growth.{extends_long, same_departure, same_entries, still_more}
 use Rattle.fronts.proofs.Leaving.{match_err}
-use Rattle.fronts.proofs.Paths.{path_pop}
+use Rattle.fronts.proofs.Chains.{path_pop}
 use Rattle.fronts.proofs.Joining.{joined_on, joined_here, covers_on}
 use Rattle.fronts.proofs.insertion.join.Goals as goal
 
@@ -16,7 +17,7 @@ use Rattle.fronts.proofs.insertion.join.Goals as goal
 popped : {V : Type 0} (entries : List (FrontEntry V)) (head was b : ℕ) (passed rest : List ℕ) → passed ≡ rest ++ b ∷ []
     → IsPath entries head passed was → IsPath entries head rest b × (0 < b) × (b < length entries)
     × (next_of entries b ≡ was)
-popped entries head was b passed rest e path = path_pop entries head rest b was (subst (λ bs. IsPath entries head bs was) e path)
+popped entries head was b passed rest e path = path_pop (next_of entries) (length entries) head rest b was (subst (λ bs. IsPath entries head bs was) e path)
 
 is_earlier : {V : Type 0} (rules : Rules V) (first mid : List (FrontEntry V)) (first_items mid_items : List (Item V))
     (head was b index now : ℕ) (passed rest : List ℕ) → AreEntries rules first first_items → Extends first mid
@@ -115,4 +116,5 @@ returns-in_err-new g c =
     c.loop-from.invariant.more c.in_err-new.ensures)
 
 pub returns : goal.returns
+unfolding points_to
 returns g c = record { more_are = c.loop-from.invariant.more; within = c.loop-from.invariant.within; union = search rules }

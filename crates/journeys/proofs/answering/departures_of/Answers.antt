@@ -1,6 +1,6 @@
 use Rattle.std.proofs.Common.{◌+◌, List, refl, sym, subst, arith}
 use Rattle.bags.specs.declared.point.Point.{Point}
-use Rattle.profile_scan.specs.Points.{IsAnswer, IsPoint}
+use Rattle.scan_state.specs.Points.{IsAnswer, IsPoint}
 use Rattle.profile_scan.specs.Found.{listed}
 use Rattle.journeys.specs.Extracted.{Attains}
 use Rattle.journeys.proofs.AnswerLemmas.{point_at}

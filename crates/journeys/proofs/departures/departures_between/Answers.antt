@@ -1,6 +1,6 @@
 use Rattle.std.proofs.Common.{◌+◌, List, refl, sym, subst, arith}
 use Rattle.bags.specs.declared.point.Point.{Point}
-use Rattle.profile_scan.specs.SetQuery.{IsAnswerBetween, IsPointBetween}
+use Rattle.scan_state.specs.SetQuery.{IsAnswerBetween, IsPointBetween}
 use Rattle.profile_scan.specs.Found.{listed_between}
 use Rattle.journeys.specs.Extracted.{AttainsBetween}
 use Rattle.journeys.proofs.AnswerLemmas.{point_at}

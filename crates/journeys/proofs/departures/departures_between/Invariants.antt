@@ -1,5 +1,5 @@
 use Rattle.timetable.specs.TimetableValue.{TimetableValue}
-use Rattle.profile_scan.specs.SetQuery.{SetQueryValue}
+use Rattle.scan_state.specs.SetQuery.{SetQueryValue}
 use Rattle.profile_scan.specs.Found.{AnswersBetween}
 use Rattle.journeys.specs.Extracted.{AttainsBetween}
 use Rattle.journeys.proofs.ExtractedLemmas.{HaveJourneys}

@@ -1,5 +1,5 @@
 use Rattle.std.proofs.lemmas.Result.{IfOk-weaker}
-use Rattle.profile_scan.specs.Origins.{from_stop}
+use Rattle.scan_state.specs.Origins.{from_stop}
 use Rattle.profile_scan.specs.Everywhere.{asked_to_any, criterion_to_any}
 use Rattle.journeys.proofs.departures.departures_from.Goals as goal
 

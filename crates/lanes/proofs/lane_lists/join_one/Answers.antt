@@ -1,9 +1,9 @@
-use Rattle.std.proofs.Common.{refl, sym, subst, arith}
-use Rattle.std.proofs.lemmas.Result.{IfOk-weaker}
+use Rattle.std.proofs.Common.{refl, sym, subst, arith, length}
+use Rattle.std.proofs.lemmas.Option.{slice_get_read}
+use Rattle.std.proofs.lemmas.Result.{MatchResult-weaker}
 use Rattle.reasoning.proofs.BoolLemmas.{where_false}
 use Rattle.lanes.specs.LaneLists.{IsOneJoined}
 use Rattle.lanes.proofs.BoardLemmas.{least_are}
-use Rattle.lanes.proofs.EntryLemmas.{there}
 use Rattle.lanes.proofs.PutLemmas.{is_skipped, is_joined}
 use Rattle.lanes.proofs.lane_lists.join_one.Goals as goal
 
@@ -12,8 +12,8 @@ returns-then-not-are_adding c =
     let old = c.args.entries.now.items in
     let gone = c.index.result.now in
     let behind = c.index-2.result.now in
-    is_skipped old gone behind c.args.from c.args.index c.requires (there old c.args.from gone c.requires.within c.index.ensures)
-    (there old c.args.index behind c.requires.has.within c.index-2.ensures)
+    is_skipped old gone behind c.args.from c.args.index c.requires (slice_get_read old (length old) c.args.from gone refl c.requires.within c.index.ensures)
+    (slice_get_read old (length old) c.args.index behind refl c.requires.has.within c.index-2.ensures)
     (where_false c.are_adding.result _ _ c.if-not-are_adding.true c.are_adding.ensures)
 
 pub invariant_of-entry : goal.invariant_of-entry
@@ -30,8 +30,8 @@ returns c =
     let new = c.push.new.entries.items in
     let gone = c.index.result.now in
     let behind = c.index-2.result.now in
-    IfOk-weaker c.push.result _ _ (λ index h.
+    MatchResult-weaker c.push.result c.push.ensures (λ index h.
     subst (IsOneJoined old c.args.from c.args.index new) (sym h.1)
-    (is_joined old gone behind c.args.from c.args.index c.requires (there old c.args.from gone c.requires.within c.index.ensures)
-    (there old c.args.index behind c.requires.has.within c.index-2.ensures) new _ h.0 refl refl c.least_words.ensures (omega arith)
-    c.least_tags.ensures.new c.least_tags.ensures.old)) c.push.ensures
+    (is_joined old gone behind c.args.from c.args.index c.requires (slice_get_read old (length old) c.args.from gone refl c.requires.within c.index.ensures)
+    (slice_get_read old (length old) c.args.index behind refl c.requires.has.within c.index-2.ensures) new _ h.0 refl refl c.least_words.ensures (omega arith)
+    c.least_tags.ensures.new c.least_tags.ensures.old)) (λ _ full. full)

@@ -1,8 +1,8 @@
-use Rattle.std.proofs.Common.{refl, sym, subst, slice_index, arith}
-use Rattle.std.proofs.lemmas.Result.{IfOk-weaker}
+use Rattle.std.proofs.Common.{refl, sym, subst, slice_index, arith, length}
+use Rattle.std.proofs.lemmas.Option.{slice_get_read}
+use Rattle.std.proofs.lemmas.Result.{MatchResult-weaker}
 use Rattle.lanes.specs.LaneLists.{IsOnePut}
 use Rattle.lanes.proofs.BoardLemmas.{boarded_are}
-use Rattle.lanes.proofs.EntryLemmas.{there}
 use Rattle.lanes.proofs.PutLemmas.{is_put}
 use Rattle.lanes.proofs.lane_lists.put.Goals as goal
 
@@ -19,8 +19,8 @@ returns c =
     let old = c.args.entries.now.items in
     let new = c.push.new.entries.items in
     let behind = c.index.result.now in
-    IfOk-weaker c.push.result _ _ (λ index h.
+    MatchResult-weaker c.push.result c.push.ensures (λ index h.
     subst (IsOnePut old c.args.after c.args.departure c.args.lanes.now c.args.first new) (sym h.1)
     (is_put old new _ h.0 behind c.args.after c.args.departure c.args.first c.args.lanes.now c.requires.may c.requires.lanes
-    (there old c.args.after behind c.requires.may.has.within c.index.ensures) refl refl c.boarded.ensures.first c.boarded.ensures.rest (omega arith)
-    c.boarded_tags.ensures.new c.boarded_tags.ensures.old)) c.push.ensures
+    (slice_get_read old (length old) c.args.after behind refl c.requires.may.has.within c.index.ensures) refl refl
+    c.boarded.ensures.first c.boarded.ensures.rest (omega arith) c.boarded_tags.ensures.new c.boarded_tags.ensures.old)) (λ _ full. full)

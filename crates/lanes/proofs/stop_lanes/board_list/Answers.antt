@@ -1,4 +1,5 @@
-use Rattle.std.proofs.Common.{◌+◌, ◌<◌, ◌≤◌, ℕ, List, Option, min, slice_index, sym, subst, arith}
+use Rattle.std.proofs.Common.{◌+◌, ◌<◌, ◌≤◌, ℕ, List, Option, min, slice_index, sym, subst, arith, length, refl}
+use Rattle.std.proofs.lemmas.Option.{slice_get_read}
 use Rattle.std.proofs.lemmas.Result.{IfOk-weaker}
 use Rattle.reasoning.proofs.BoolLemmas.{where_false}
 use Rattle.reasoning.proofs.ListLemmas.{extends_none, extends_on}
@@ -6,7 +7,6 @@ use Rattle.lanes.specs.Lanes.{AreLanes}
 use Rattle.lanes.specs.LaneLists.{IsLate, words_in}
 use Rattle.lanes.specs.StopLanes.{steps_in}
 use Rattle.lanes.specs.declared.lane_lists.LaneEntry.{LaneEntry}
-use Rattle.lanes.proofs.EntryLemmas.{there}
 use Rattle.lanes.proofs.StopLemmas.{none_taken, may_put, may_join, taken_ahead, taken_behind}
 use Rattle.lanes.proofs.stop_lanes.board_list.Goals as goal
 
@@ -16,7 +16,7 @@ returns-then-not-are_boarding c =
     let late = subst (λ (es : List LaneEntry). IsLate es c.args.head c.args.boarding.departure c.late-after.result) c.deref.ensures.value
     c.late-after.ensures in
     let e = c.index.result.now in
-    let is = there old c.late-after.result e late.1.within c.index.ensures in
+    let is = slice_get_read old (length old) c.late-after.result e refl late.1.within c.index.ensures in
     let each = where_false c.are_boarding.result _ _ c.if-not-are_boarding.true c.are_boarding.ensures in
     record {
       more = record { has = c.requires.list; more = extends_none old };

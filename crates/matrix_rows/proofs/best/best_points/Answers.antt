@@ -1,6 +1,6 @@
 use Rattle.std.proofs.Common.{◌<◌, [], ◌∷◌, ℕ, List, arith, get_or, length, subst, sym}
 use Rattle.std.proofs.lemmas.List.Elements.{Contains-get_or}
-use Rattle.profile_scan.specs.SetQuery.{IsAnswerBetween}
+use Rattle.scan_state.specs.SetQuery.{IsAnswerBetween}
 use Rattle.profile_scan.specs.Everywhere.{asked_to_any}
 use Rattle.matrix_rows.specs.Tables.{from_stops}
 use Rattle.matrix_rows.proofs.Answering.{answer_at, one_stop}

@@ -6,7 +6,7 @@ use Rattle.criteria.specs.Laws.{Admits}
 use Rattle.bags.specs.Bag.{points_of}
 use Rattle.bags.specs.Dominance.{IsBag}
 use Rattle.profile_scan.specs.Everywhere.{asked_to_any, listed_to_any}
-use Rattle.profile_scan.specs.LawStatements.{CanScan}
+use Rattle.scan_state.specs.SetQuery.{CanScan}
 use Rattle.profile_scan.proofs.OrderLemmas.{listed_bag}
 use Rattle.matrix_rows.specs.Merging.{TakesIn}
 use Rattle.matrix_rows.proofs.Answering.{answer_at}

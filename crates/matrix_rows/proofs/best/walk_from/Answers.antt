@@ -1,6 +1,6 @@
 use Rattle.std.proofs.Common.{◌∙◌, ◌∷◌, [], Option, arith, subst, sym}
 use Rattle.timetable.specs.declared.network.Footpath.{Footpath}
-use Rattle.profile_scan.specs.SetQuery.{secs_of}
+use Rattle.scan_state.specs.SetQuery.{secs_of}
 use Rattle.profile_scan.specs.Everywhere.{asked_to_any, walk_to_any}
 use Rattle.matrix_rows.specs.Tables.{IsLeastWalk, from_stops}
 use Rattle.matrix_rows.proofs.Walks.{walk_of_one}

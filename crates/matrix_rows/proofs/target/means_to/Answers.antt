@@ -1,6 +1,6 @@
 use Rattle.std.proofs.Common.{IfOk, subst, sym}
 use Rattle.std.specs.List.{AllZip}
-use Rattle.profile_scan.specs.SetQuery.{SetQueryValue, IsAskableBetween}
+use Rattle.scan_state.specs.SetQuery.{SetQueryValue, IsAskableBetween}
 use Rattle.image_files.specs.Naming.{printed}
 use Rattle.matrix_rows.specs.Tables.{IsMeanFrom}
 use Rattle.matrix_rows.proofs.target.means_to.Goals as goal

@@ -1,6 +1,6 @@
 use Rattle.std.proofs.Common.{◌∙◌, List, Option, ℕ, IfOk, false, subst, sym}
 use Rattle.std.specs.List.{AllZip}
-use Rattle.profile_scan.specs.SetQuery.{SetQueryValue, IsAskableBetween}
+use Rattle.scan_state.specs.SetQuery.{SetQueryValue, IsAskableBetween}
 use Rattle.profile_scan.specs.Everywhere.{asked_to_any}
 use Rattle.image_files.specs.Naming.{printed}
 use Rattle.matrix_rows.specs.Tables.{AreRowsTo, IsMeanFrom, waiting}

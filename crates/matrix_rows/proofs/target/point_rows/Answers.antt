@@ -1,5 +1,5 @@
 use Rattle.std.proofs.Common.{◌∙◌, IfOk, true, subst, sym}
-use Rattle.profile_scan.specs.SetQuery.{SetQueryValue, IsAskableBetween}
+use Rattle.scan_state.specs.SetQuery.{SetQueryValue, IsAskableBetween}
 use Rattle.image_files.specs.Naming.{printed}
 use Rattle.matrix_rows.specs.Tables.{AreRowsTo}
 use Rattle.matrix_rows.proofs.target.point_rows.Goals as goal

@@ -1,6 +1,6 @@
 use Rattle.std.proofs.Common.{ℕ, List, Contains, refl, subst}
-use Rattle.profile_scan.specs.ScanState.{AreFinalWalks, final_walks_of}
-use Rattle.profile_scan.specs.Starts.{AreStarts}
+use Rattle.scan_state.specs.ScanState.{AreFinalWalks, final_walks_of}
+use Rattle.scan_state.specs.Starts.{AreStarts}
 use Rattle.profile_scan.proofs.answering.ask.Goals as goal
 
 pub starts_from-requires : goal.starts_from-requires

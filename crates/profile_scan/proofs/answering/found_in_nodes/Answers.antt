@@ -1,9 +1,9 @@
 use Rattle.std.proofs.Common.{refl, sym, ap, subst}
 use Rattle.timetable.specs.TimetableValue.{TimetableValue}
 use Rattle.profile_scan.specs.Answered.{IsAnsweredBetween}
-use Rattle.profile_scan.specs.SetQuery.{question}
+use Rattle.scan_state.specs.SetQuery.{question}
 use Rattle.profile_scan.specs.Views.{scan_records_seen}
-use Rattle.profile_scan.specs.declared.set_query.SetQuery.{SetQuery}
+use Rattle.scan_state.specs.declared.set_query.SetQuery.{SetQuery}
 use Rattle.profile_scan.proofs.AnsweredLemmas.{tagged_in_nodes}
 use Rattle.profile_scan.proofs.answering.found_in_nodes.Given as given
 use Rattle.profile_scan.proofs.answering.found_in_nodes.Goals.{After-of}

@@ -3,19 +3,20 @@ use Rattle.bags.specs.Bag.{criterion_of, points_of}
 use Rattle.bags.specs.declared.point.Point.{Point}
 use Rattle.timetable.specs.TimetableValue.{TimetableValue}
 use Rattle.sources.specs.FirstAt.{IsFirstAt}
-use Rattle.profile_scan.specs.SetQuery.{IsAskableBetween, IsDirectWalk, SetQueryValue, question}
+use Rattle.scan_state.specs.SetQuery.{IsAskableBetween, IsDirectWalk, SetQueryValue, question}
 use Rattle.profile_scan.specs.Answered.{IsTaggedAnswer}
 use Rattle.profile_scan.specs.Found.{AnswersBetween}
-use Rattle.profile_scan.specs.Nearest.{IsShortestWalk}
-use Rattle.profile_scan.specs.LawStatements.{CanScan}
+use Rattle.scan_state.specs.Nearest.{IsShortestWalk}
+use Rattle.scan_state.specs.SetQuery.{CanScan}
 use Rattle.profile_scan.specs.Window.{window_of}
-use Rattle.profile_scan.specs.ScanRecords.{spelling_of}
-use Rattle.profile_scan.specs.ScanState.{AreFinalWalks, HasFound, scan_records_of, final_walks_of}
-use Rattle.profile_scan.specs.Origins.{kept_of}
+use Rattle.scan_state.specs.ScanRecords.{spelling_of}
+use Rattle.scan_state.specs.ScanState.{AreFinalWalks, final_walks_of}
+use Rattle.profile_scan.specs.Scans.{HasFound, scan_records_of}
+use Rattle.scan_state.specs.Origins.{kept_of}
 use Rattle.profile_scan.proofs.AnsweredLemmas.{answered_from}
-use Rattle.profile_scan.proofs.FinalWalkLemmas.{direct_is}
-use Rattle.profile_scan.proofs.Offers.{bag_under}
-use Rattle.profile_scan.proofs.PartLemmas.{firsts_rise}
+use Rattle.scan_state.proofs.FinalWalkLemmas.{direct_is}
+use Rattle.scan_state.proofs.Offers.{bag_under}
+use Rattle.scan_state.proofs.PartLemmas.{firsts_rise}
 use Rattle.profile_scan.proofs.LogLemmas.{on_ok, part_read, whole_read, window_read}
 use Rattle.profile_scan.proofs.answering.profile_between.Given as given
 use Rattle.profile_scan.proofs.answering.profile_between.Goals.{In_ok-scan}

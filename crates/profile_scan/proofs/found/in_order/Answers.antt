@@ -1,7 +1,7 @@
 use Rattle.std.proofs.Common.{◌-◌, arith, sym, subst}
 use Rattle.bags.specs.Bag.{points_of}
 use Rattle.timetable.proofs.LegalLemmas.{Contains-At}
-use Rattle.profile_scan.proofs.Offers.{bag_under}
+use Rattle.scan_state.proofs.Offers.{bag_under}
 use Rattle.profile_scan.proofs.OrderLemmas.{AreListed, none_listed, listed_in, all_listed, comparable, one_listed}
 use Rattle.profile_scan.proofs.found.in_order.Goals as goal
 

@@ -1,5 +1,5 @@
 use Rattle.std.proofs.Common.{◌-◌, arith, sym, ◌∙◌, inl, inr}
-use Rattle.profile_scan.specs.Points.{Before}
+use Rattle.scan_state.specs.Points.{Before}
 use Rattle.profile_scan.proofs.OrderLemmas.{before_by_test, not_before_by_test, before_here, after_here}
 use Rattle.profile_scan.proofs.found.index_for.Goals as goal
 

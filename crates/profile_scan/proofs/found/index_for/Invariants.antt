@@ -1,5 +1,5 @@
 use Rattle.std.proofs.Common.{◌<◌, ◌≤◌, ℕ, length, slice_index_or}
-use Rattle.profile_scan.specs.Points.{Before}
+use Rattle.scan_state.specs.Points.{Before}
 use Rattle.profile_scan.proofs.found.index_for.Given as goal
 
 abbrev pub invariant-loop-index : goal.invariant-loop-index

@@ -1,6 +1,6 @@
 use Rattle.std.proofs.Common.{AllPairs, sym, ◌∙◌, ap, subst}
 use Rattle.std.specs.List.{insert}
-use Rattle.profile_scan.specs.Points.{Before, CanPut}
+use Rattle.scan_state.specs.Points.{Before, CanPut}
 use Rattle.profile_scan.proofs.OrderLemmas.{put_in_order, put_there}
 use Rattle.profile_scan.proofs.found.put.Goals as goal
 

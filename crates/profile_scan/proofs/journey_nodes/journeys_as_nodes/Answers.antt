@@ -1,7 +1,7 @@
 use Rattle.std.proofs.Common.{map, sym, ◌∙◌, ap, arith}
 use Rattle.std.proofs.lemmas.List.{take_all}
 use Rattle.profile_scan.specs.Views.{scan_records_seen}
-use Rattle.profile_scan.specs.Points.{untagged}
+use Rattle.scan_state.specs.Points.{untagged}
 use Rattle.profile_scan.proofs.JourneyNodeLemmas.{spelled_again_more}
 use Rattle.profile_scan.proofs.journey_nodes.journeys_as_nodes.Goals as goal
 

@@ -1,5 +1,5 @@
 use Rattle.std.proofs.Common.{◌≡◌, Contains, map, take}
-use Rattle.profile_scan.specs.Points.{untagged}
+use Rattle.scan_state.specs.Points.{untagged}
 use Rattle.profile_scan.specs.Views.{scan_records_seen}
 use Rattle.profile_scan.specs.JourneyNodes.{IsSpelledAgain}
 use Rattle.profile_scan.proofs.journey_nodes.journeys_as_nodes.Given as goal

@@ -2,10 +2,10 @@ use Rattle.std.proofs.Common.{◌++◌, ◌∙◌, reverse, take, ap, subst}
 use Rattle.reasoning.proofs.OptionLemmas.{on_err}
 use Rattle.timetable.specs.TimetableValue.{TimetableValue}
 use Rattle.profile_scan.specs.Found.{listed}
-use Rattle.profile_scan.specs.LawStatements.{CanScan}
-use Rattle.profile_scan.specs.Points.{IsAnswer}
+use Rattle.scan_state.specs.SetQuery.{CanScan}
+use Rattle.scan_state.specs.Points.{IsAnswer}
 use Rattle.profile_scan.specs.Window.{window}
-use Rattle.profile_scan.specs.SetQuery.{single_set_query}
+use Rattle.scan_state.specs.SetQuery.{single_set_query}
 use Rattle.profile_scan.proofs.Answer.{one_answer}
 use Rattle.profile_scan.proofs.Single.{answer_to}
 use Rattle.profile_scan.proofs.LogLemmas.{taken_none, whole_read}

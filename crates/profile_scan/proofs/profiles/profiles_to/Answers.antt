@@ -1,6 +1,6 @@
 use Rattle.std.proofs.Common.{sym, ◌∙◌, ap, subst, reverse, take, ◌++◌}
 use Rattle.reasoning.proofs.OptionLemmas.{on_err}
-use Rattle.profile_scan.specs.SetQuery.{SetQueryValue, IsAskableBetween}
+use Rattle.scan_state.specs.SetQuery.{SetQueryValue, IsAskableBetween}
 use Rattle.profile_scan.specs.Window.{window_of}
 use Rattle.profile_scan.proofs.EverywhereLemmas.{all_to_one, asked_to_one}
 use Rattle.profile_scan.proofs.profiles.profiles_to.Goals as goal

@@ -1,17 +1,17 @@
 use Rattle.std.proofs.Common.{◌≡◌, ◌+◌, ◌-◌, ◌<◌, ◌∷◌, [], ◌++◌, ℕ, List, length, arith, refl, sym, ◌∙◌, ap, subst}
 use Rattle.reasoning.proofs.OptionLemmas.{on_err}
 use Rattle.timetable.specs.TimetableValue.{TimetableValue}
-use Rattle.profile_scan.specs.SetQuery.{asked_from, question}
-use Rattle.profile_scan.specs.Matching.{from_to, MatchesFrom}
-use Rattle.profile_scan.specs.Steps.{IsStep}
-use Rattle.profile_scan.specs.LawStatements.{CanScan}
-use Rattle.profile_scan.specs.ScanRecords.{spelling_of}
-use Rattle.profile_scan.specs.Parts.{IsScan}
-use Rattle.profile_scan.specs.ScanState.{HasFound, scan_value_of, scan_records_of}
-use Rattle.profile_scan.specs.Hops.{IsAsked, StandsAt}
+use Rattle.scan_state.specs.SetQuery.{asked_from, question}
+use Rattle.scan_state.specs.Matching.{from_to, MatchesFrom}
+use Rattle.scan_state.specs.Steps.{IsStep}
+use Rattle.scan_state.specs.SetQuery.{CanScan}
+use Rattle.scan_state.specs.ScanRecords.{spelling_of}
+use Rattle.profile_scan.specs.Scans.{IsScan}
+use Rattle.profile_scan.specs.Scans.{HasFound, scan_value_of, scan_records_of}
+use Rattle.scan_state.specs.Hops.{IsAsked, StandsAt}
 use Rattle.profile_scan.specs.Window.{falling}
 use Rattle.profile_scan.specs.declared.scan.State.{State}
-use Rattle.profile_scan.proofs.BoundLemmas.{no_bounds}
+use Rattle.scan_state.proofs.BoundLemmas.{no_bounds}
 use Rattle.profile_scan.proofs.Ends.{nothing_follows}
 use Rattle.profile_scan.proofs.StepLemmas.{one_index_down}
 use Rattle.profile_scan.proofs.StepFacts.{matches_alike}

@@ -1,9 +1,9 @@
 use Rattle.std.proofs.Common.{◌≡◌, ◌-◌, ◌≤◌, ◌++◌, ℕ}
-use Rattle.profile_scan.specs.SetQuery.{asked_from, question}
-use Rattle.profile_scan.specs.Matching.{MatchesFrom}
-use Rattle.profile_scan.specs.ScanRecords.{spelling_of}
-use Rattle.profile_scan.specs.Parts.{IsScan}
-use Rattle.profile_scan.specs.ScanState.{scan_value_of, scan_records_of}
+use Rattle.scan_state.specs.SetQuery.{asked_from, question}
+use Rattle.scan_state.specs.Matching.{MatchesFrom}
+use Rattle.scan_state.specs.ScanRecords.{spelling_of}
+use Rattle.profile_scan.specs.Scans.{IsScan}
+use Rattle.profile_scan.specs.Scans.{scan_value_of, scan_records_of}
 use Rattle.profile_scan.specs.Window.{falling}
 use Rattle.profile_scan.proofs.scan.scan_window.Given as goal
 

@@ -1,7 +1,7 @@
 use Rattle.std.proofs.Common.{◌≡◌, ◌∙◌, length, slice_get, Some, refl, arith}
 use Rattle.std.proofs.lemmas.Option.{slice_get_read}
-use Rattle.profile_scan.specs.Origins.{found_from}
-use Rattle.profile_scan.proofs.OriginLemmas.{found_past}
+use Rattle.scan_state.specs.Origins.{found_from}
+use Rattle.scan_state.proofs.OriginLemmas.{found_past}
 use Rattle.profile_scan.proofs.EverywhereLemmas.{none_listed_to, one_listed_to, all_listed_to, in_order_from}
 use Rattle.profile_scan.proofs.to_any.lists_in_order.Given as given
 use Rattle.profile_scan.proofs.to_any.lists_in_order.Goals.{After-index-origin}

@@ -1,4 +1,4 @@
-use Rattle.profile_scan.specs.Origins.{found_from}
+use Rattle.scan_state.specs.Origins.{found_from}
 use Rattle.profile_scan.proofs.EverywhereLemmas.{AreListedTo}
 use Rattle.profile_scan.proofs.to_any.lists_in_order.Given as goal
 

@@ -1,16 +1,17 @@
 use Rattle.std.proofs.Common.{◌≡◌, ◌++◌, ℕ, None, get_or, reverse, slice_get, sym, ◌∙◌, ap, subst}
 use Rattle.sources.specs.FirstAt.{IsFirstAt}
-use Rattle.profile_scan.specs.SetQuery.{IsAskableBetween, SetQueryValue, question}
-use Rattle.profile_scan.specs.LawStatements.{CanScan}
+use Rattle.scan_state.specs.SetQuery.{IsAskableBetween, SetQueryValue, question}
+use Rattle.scan_state.specs.SetQuery.{CanScan}
 use Rattle.profile_scan.specs.Window.{window_of}
-use Rattle.profile_scan.specs.ScanState.{scan_records_of, final_walks_of}
-use Rattle.profile_scan.specs.Origins.{AreUnder, found_from, from_stop, scan_value_from}
-use Rattle.profile_scan.specs.Points.{AreInOrder}
+use Rattle.profile_scan.specs.Scans.{scan_records_of}
+use Rattle.scan_state.specs.ScanState.{final_walks_of}
+use Rattle.scan_state.specs.Origins.{AreUnder, found_from, from_stop, scan_value_from}
+use Rattle.scan_state.specs.Points.{AreInOrder}
 use Rattle.profile_scan.specs.Everywhere.{points_in}
 use Rattle.profile_scan.proofs.AnsweredLemmas.{answered_from}
-use Rattle.profile_scan.proofs.PartLemmas.{firsts_rise}
+use Rattle.scan_state.proofs.PartLemmas.{firsts_rise}
 use Rattle.profile_scan.proofs.LogLemmas.{part_read, whole_read, window_read}
-use Rattle.profile_scan.proofs.FinalWalkLemmas.{nearest_direct, target_loop}
+use Rattle.scan_state.proofs.FinalWalkLemmas.{nearest_direct, target_loop}
 use Rattle.profile_scan.proofs.to_any.profiles_to_any.Given as given
 use Rattle.profile_scan.proofs.to_any.profiles_to_any.Goals.{In_ok-scan}
 use Rattle.profile_scan.proofs.to_any.profiles_to_any.Goals as goal

@@ -1,5 +1,5 @@
 use Rattle.std.proofs.Common.{subst, sym}
-use Rattle.profile_scan.specs.SetQuery.{IsDirectWalk, question}
+use Rattle.scan_state.specs.SetQuery.{IsDirectWalk, question}
 use Rattle.profile_scan.proofs.LogLemmas.{whole_read}
 use Rattle.station_answers.proofs.answering.answer_between.Goals as goal
 

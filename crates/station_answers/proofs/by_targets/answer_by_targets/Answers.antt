@@ -1,7 +1,7 @@
 use Rattle.std.proofs.Common.{Contains, subst, sym}
 use Rattle.reasoning.proofs.OptionLemmas.{on_err}
 use Rattle.timetable.specs.TimetableValue.{TimetableValue}
-use Rattle.profile_scan.specs.SetQuery.{question}
+use Rattle.scan_state.specs.SetQuery.{question}
 use Rattle.journeys.specs.Answer.{point_of}
 use Rattle.journeys.specs.declared.answering.Departure.{Departure}
 use Rattle.station_answers.specs.Attaining.{AttainsPair}

@@ -2,8 +2,8 @@ use Rattle.std.proofs.Common.{◌≡◌, ◌+◌, ◌<◌, ◌≤◌, ◌∙◌,
 use Rattle.std.proofs.lemmas.Option.{slice_get-get_or}
 use Rattle.bags.specs.Bag.{criterion_of, points_of}
 use Rattle.bags.specs.Dominance.{IsBag}
-use Rattle.profile_scan.specs.SetQuery.{IsPointBetween, question}
-use Rattle.profile_scan.specs.LawStatements.{CanScan}
+use Rattle.scan_state.specs.SetQuery.{IsPointBetween, question}
+use Rattle.scan_state.specs.SetQuery.{CanScan}
 use Rattle.profile_scan.proofs.OrderLemmas.{listed_bag}
 use Rattle.journeys.proofs.ExtractedLemmas.{HaveJourneys, all_extracted, no_journeys, one_more}
 use Rattle.station_answers.specs.Attaining.{AttainsPair}

@@ -1,4 +1,4 @@
-use Rattle.profile_scan.specs.SetQuery.{question}
+use Rattle.scan_state.specs.SetQuery.{question}
 use Rattle.station_answers.specs.Attaining.{AttainsPair}
 use Rattle.journeys.proofs.ExtractedLemmas.{HaveJourneys}
 use Rattle.station_answers.proofs.by_targets.departures_of.Given as goal

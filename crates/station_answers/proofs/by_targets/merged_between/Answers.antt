@@ -3,10 +3,10 @@ use Rattle.std.proofs.lemmas.Option.{slice_get-get_or, slice_get_within}
 use Rattle.reasoning.proofs.ListLemmas.{at_contains}
 use Rattle.reasoning.proofs.OptionLemmas.{on_err}
 use Rattle.timetable.specs.TimetableValue.{TimetableValue}
-use Rattle.profile_scan.specs.SetQuery.{single_set_query, pair_of, question}
+use Rattle.scan_state.specs.SetQuery.{single_set_query, pair_of, question}
 use Rattle.profile_scan.specs.Destinations.{CanBeAsked, query_from}
 use Rattle.profile_scan.specs.Everywhere.{criterion_of_profiles, destination_of}
-use Rattle.profile_scan.specs.LawStatements.{CanScan}
+use Rattle.scan_state.specs.SetQuery.{CanScan}
 use Rattle.profile_scan.specs.Window.{window}
 use Rattle.profile_scan.specs.declared.destination.Destination.{Destination}
 use Rattle.station_answers.specs.Asking.{destination_to}

@@ -1,5 +1,5 @@
 use Rattle.std.proofs.Common.{◌≡◌, ℕ, ◌<◌, ◌++◌, Contains, reverse, slice_get, Some}
-use Rattle.profile_scan.specs.SetQuery.{pair_of, question}
+use Rattle.scan_state.specs.SetQuery.{pair_of, question}
 use Rattle.station_answers.specs.Merging.{CoversQuery, IsMerged}
 use Rattle.station_answers.specs.Reading.{repeated, window_between}
 use Rattle.station_answers.proofs.by_targets.merged_between.Given as goal

@@ -6,10 +6,10 @@ use Rattle.criteria.specs.Laws.{Admits}
 use Rattle.bags.specs.Bag.{points_of}
 use Rattle.bags.specs.Dominance.{IsBag}
 use Rattle.timetable.specs.declared.limits.TheConstants.{TIME_END}
-use Rattle.profile_scan.specs.SetQuery.{single_set_query, question}
+use Rattle.scan_state.specs.SetQuery.{single_set_query, question}
 use Rattle.profile_scan.specs.Destinations.{query_from}
 use Rattle.profile_scan.specs.Everywhere.{criterion_of_profiles, destination_of}
-use Rattle.profile_scan.specs.LawStatements.{CanScan}
+use Rattle.scan_state.specs.SetQuery.{CanScan}
 use Rattle.station_answers.specs.Merging.{CoversQuery, KeepsCovered, TakesFound}
 use Rattle.station_answers.proofs.MergeLemmas.{answers_pair, listed_admitted, still_covers, take_covers, take_merged}
 use Rattle.station_answers.proofs.by_targets.take_from_sources.Goals as goal

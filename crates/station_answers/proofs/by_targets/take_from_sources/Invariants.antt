@@ -1,7 +1,7 @@
 use Rattle.std.proofs.Common.{◌≡◌, ℕ, ◌<◌, slice_get, Some}
 use Rattle.profile_scan.specs.Destinations.{query_from}
 use Rattle.profile_scan.specs.Everywhere.{criterion_of_profiles, destination_of}
-use Rattle.profile_scan.specs.SetQuery.{question}
+use Rattle.scan_state.specs.SetQuery.{question}
 use Rattle.station_answers.specs.Merging.{CoversQuery, IsMerged, KeepsCovered}
 use Rattle.station_answers.proofs.by_targets.take_from_sources.Given as goal
 

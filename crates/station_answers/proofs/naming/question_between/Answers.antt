@@ -1,5 +1,5 @@
 use Rattle.std.proofs.Common.{ℕ, map, refl, subst, Bor, List}
-use Rattle.profile_scan.specs.SetQuery.{SetQueryValue}
+use Rattle.scan_state.specs.SetQuery.{SetQueryValue}
 use Rattle.station_answers.specs.Asking.{IsFirstFault}
 use Rattle.station_answers.specs.Naming.{AsksBetween}
 use Rattle.station_answers.proofs.NameLemmas.{refused_between}

@@ -1,7 +1,7 @@
 use Rattle.std.proofs.Common.{◌≡◌, ◌⊎◌, ◌≤◌, ℕ, List, Contains, max, sym, subst, inl, inr, arith}
 use Rattle.std.proofs.lemmas.Bool.{cases_lt}
 use Rattle.timetable.specs.declared.limits.TheConstants.{TIME_END}
-use Rattle.profile_scan.specs.SetQuery.{question}
+use Rattle.scan_state.specs.SetQuery.{question}
 use Rattle.station_answers.specs.Asking.{AreApart, AreStops, HasBadTimes}
 use Rattle.station_answers.proofs.query.check_between.Goals.{then-query-via-then-query, then-query-via-else-query+then-query-2}
 use Rattle.station_answers.proofs.query.check_between.Goals.{then-query-via-else-query+else-query-2+then-latest-ge-TIME_END}

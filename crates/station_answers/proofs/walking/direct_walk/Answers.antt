@@ -1,5 +1,5 @@
 use Rattle.std.proofs.Common.{◌≤◌, length, arith}
-use Rattle.profile_scan.specs.SetQuery.{question}
+use Rattle.scan_state.specs.SetQuery.{question}
 use Rattle.station_answers.proofs.WalkLemmas.{least_of_all, none_before}
 use Rattle.station_answers.proofs.walking.direct_walk.Goals as goal
 

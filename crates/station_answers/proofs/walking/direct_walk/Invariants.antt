@@ -1,4 +1,4 @@
-use Rattle.profile_scan.specs.SetQuery.{question}
+use Rattle.scan_state.specs.SetQuery.{question}
 use Rattle.station_answers.specs.Walks.{IsLeastBefore}
 use Rattle.station_answers.proofs.walking.direct_walk.Given as goal
 

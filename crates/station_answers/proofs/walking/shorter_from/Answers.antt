@@ -1,6 +1,6 @@
 use Rattle.std.proofs.Common.{◌≡◌, ◌+◌, ◌<◌, ◌∙◌, ℕ, Some, slice_get, length, sym, ap, subst, arith}
 use Rattle.std.proofs.lemmas.Option.{slice_get-get_or}
-use Rattle.profile_scan.specs.SetQuery.{question}
+use Rattle.scan_state.specs.SetQuery.{question}
 use Rattle.station_answers.specs.Walks.{IsLeastBefore}
 use Rattle.station_answers.proofs.WalkLemmas.{next_source, one_further}
 use Rattle.station_answers.proofs.walking.shorter_from.Goals as goal

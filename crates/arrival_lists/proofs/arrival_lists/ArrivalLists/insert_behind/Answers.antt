@@ -1,4 +1,4 @@
-use Rattle.std.proofs.Common.{◌∙◌, Some, length, refl, ap, slice_get, arith}
+use Rattle.std.proofs.Common.{length, refl, ap, arith}
 use Rattle.std.specs.Global.{Vec}
 use Rattle.std.proofs.lemmas.Option.{slice_get_read, slice_get_within}
 use Rattle.std.proofs.lemmas.Result.{IfOk-weaker}

@@ -1,4 +1,4 @@
-use Rattle.std.proofs.Common.{rules, ◌∷◌, [], ◌∙◌, length, length-append, refl, ap, sym, arith}
+use Rattle.std.proofs.Common.{rules, ◌∷◌, [], ◌∙◌, length, length-append, refl, ap, arith}
 use Rattle.std.specs.Global.{Vec}
 use Rattle.arrival_lists.specs.declared.arrival_lists.ArrivalLists.{ArrivalLists}
 use Rattle.arrival_lists.specs.declared.entry.Entry.{Entry}

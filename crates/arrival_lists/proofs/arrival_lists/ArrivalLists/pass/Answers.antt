@@ -16,8 +16,8 @@ loop-entry-init c =
           c.clear.ensures.items;
     }
 
-pub returns-in_err-push-clause-entries : goal.returns-in_err-push-clause-entries
-returns-in_err-push-clause-entries c = c.loop-entry.invariant.same
+pub returns-in_err-append-clause-entries : goal.returns-in_err-append-clause-entries
+returns-in_err-append-clause-entries c = c.loop-entry.invariant.same
 
 pub overflow_cast-index-in-loop-entry : goal.overflow_cast-index-in-loop-entry
 overflow_cast-index-in-loop-entry c =
@@ -53,8 +53,8 @@ loop-entry-preserved c =
     record {
       same = c.loop-entry.invariant.same;
       passes = passes_on entries c.requires.sound c.args.head c.args.departure c.args.time (omega arith) c.loop-entry.index c.loop-entry.entry
-          c.index-entry-in-loop-entry.result.now c.loop-entry.self.passed.items c.push.new.self.items c.loop-entry.invariant.passes
-          c.loop-entry-test.ensures.0 c.loop-entry-test.ensures.1 c.in_ok-push.ensures.items
+          c.index-entry-in-loop-entry.result.now c.loop-entry.self.passed.items c.append.new.items.items c.loop-entry.invariant.passes
+          c.loop-entry-test.ensures.0 c.loop-entry-test.ensures.1 c.in_ok-append.ensures.added
           (sym (ap (λ (v : Vec Entry). slice_get v.items c.loop-entry.entry.next) c.loop-entry.invariant.same)
           ∙ slice_get_read now (length now) c.loop-entry.entry.next c.index-entry-in-loop-entry.result.now refl (omega (arith, back, within, same))
           c.index-entry-in-loop-entry.ensures);

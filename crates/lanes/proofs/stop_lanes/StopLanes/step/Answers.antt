@@ -1,6 +1,6 @@
-use Rattle.std.proofs.Common.{◌/◌, arith}
+use Rattle.std.proofs.Common.{◌/◌, arith, length, refl}
+use Rattle.std.proofs.lemmas.Option.{slice_get_read}
 use Rattle.lanes.proofs.StepLemmas.{step_there, no_step}
-use Rattle.lanes.proofs.TripLemmas.{there_at}
 use Rattle.lanes.proofs.stop_lanes.StopLanes.step.Goals as goal
 
 pub returns-then-index-len : goal.returns-then-index-len
@@ -14,4 +14,5 @@ returns c =
     let low = c.if-index-len.false in
     let long = c.len.ensures in
     let steps = c.args.self.now.steps.items in
-    step_there steps c.args.tag c.index.result.now (there_at steps (c.args.tag / 8) c.index.result.now (omega (arith, low, long)) c.index.ensures)
+    step_there steps c.args.tag c.index.result.now
+    (slice_get_read steps (length steps) (c.args.tag / 8) c.index.result.now refl (omega (arith, low, long)) c.index.ensures)

@@ -1,11 +1,11 @@
-use Rattle.std.proofs.Common.{List, sym, ap, subst, slice_index, arith}
+use Rattle.std.proofs.Common.{List, sym, ap, subst, slice_index, arith, length, refl}
+use Rattle.std.proofs.lemmas.Option.{slice_get_read}
 use Rattle.std.proofs.lemmas.Bool.{leb-true}
 use Rattle.fronts.specs.declared.labels.Label.{Label}
 use Rattle.criteria.specs.declared.arrival_trips.TimeTrips.{TimeTrips}
 use Rattle.lanes.specs.Lanes.{IsBeaten}
 use Rattle.lanes.specs.LanesWithTags.{labels_in}
 use Rattle.lanes.proofs.LaneLemmas.{beaten_at}
-use Rattle.lanes.proofs.TripLemmas.{there_at}
 use Rattle.lanes.proofs.trip_lanes.TripLanes.beats.Goals as goal
 
 pub returns : goal.returns
@@ -13,7 +13,7 @@ returns c = λ beaten.
     let self = c.args.self.now in
     let value = c.args.value.now in
     let lanes = c.index.result.now in
-    let there = there_at self.lanes.items c.args.trip lanes c.requires.trip c.index.ensures in
+    let there = slice_get_read self.lanes.items (length self.lanes.items) c.args.trip lanes refl c.requires.trip c.index.ensures in
     let long = (self.tagged c.args.trip lanes there).lanes_are.long in
     let many = c.if-value-lt7.false in
     let time = c.requires.time in

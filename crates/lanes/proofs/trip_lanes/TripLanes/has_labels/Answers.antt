@@ -1,5 +1,5 @@
-use Rattle.std.proofs.Common.{◌∙◌, ap, Some, arith}
-use Rattle.lanes.proofs.TripLemmas.{there_at}
+use Rattle.std.proofs.Common.{◌∙◌, ap, Some, arith, length, refl}
+use Rattle.std.proofs.lemmas.Option.{slice_get_read}
 use Rattle.lanes.proofs.trip_lanes.TripLanes.has_labels.Goals as goal
 
 pub index-requires : goal.index-requires
@@ -11,4 +11,5 @@ returns c = λ none.
     let trip = c.requires in
     let long = self.marked.long in
     self.marked.none c.args.trip
-    (there_at self.labelled.items c.args.trip c.index.result.now (omega (arith, trip, long)) c.index.ensures ∙ ap Some none)
+    (slice_get_read self.labelled.items (length self.labelled.items) c.args.trip c.index.result.now refl (omega (arith, trip, long)) c.index.ensures
+    ∙ ap Some none)

@@ -1,11 +1,11 @@
-use Rattle.std.proofs.Common.{sym, ap, ◌∙◌, arith, slice_index}
+use Rattle.std.proofs.Common.{sym, ap, ◌∙◌, arith, slice_index, length, refl}
+use Rattle.std.proofs.lemmas.Option.{slice_get_read}
 use Rattle.std.specs.Global.{Vec}
 use Rattle.criteria.specs.declared.arrival_trips.TimeTrips.{TimeTrips}
 use Rattle.fronts.specs.declared.labels.Label.{Label}
 use Rattle.lanes.specs.Lanes.{lane_labels}
 use Rattle.lanes.specs.LanesWithTags.{labels_in}
 use Rattle.lanes.proofs.ReadLemmas.{read_next, read_skip, read_all}
-use Rattle.lanes.proofs.TripLemmas.{there_at}
 use Rattle.lanes.proofs.trip_lanes.TripLanes.read.Goals as goal
 use Rattle.lanes.proofs.trip_lanes.TripLanes.read.Goals.{then-time-before+in_ok-push, else-time-before}
 
@@ -14,7 +14,7 @@ loop-k-preserved c =
     let lanes = c.index.result.now in
     let tag = slice_index lanes.tags in
     let all = lane_labels tag lanes.times in
-    let there = there_at c.args.self.now.lanes.items c.args.trip lanes c.requires c.index.ensures in
+    let there = slice_get_read c.args.self.now.lanes.items (length c.args.self.now.lanes.items) c.args.trip lanes refl c.requires c.index.ensures in
     let long = (c.args.self.now.tagged c.args.trip lanes there).lanes_are.long in
     elim c.if-time-before.branch [
       | then-time-before+in_ok-push w ↦
@@ -31,7 +31,7 @@ pub returns : goal.returns
 returns c =
     let lanes = c.index.result.now in
     let tag = slice_index lanes.tags in
-    let there = there_at c.args.self.now.lanes.items c.args.trip lanes c.requires c.index.ensures in
+    let there = slice_get_read c.args.self.now.lanes.items (length c.args.self.now.lanes.items) c.args.trip lanes refl c.requires c.index.ensures in
     let long = (c.args.self.now.tagged c.args.trip lanes there).lanes_are.long in
     read_all tag c.loop-k.k c.loop-k.before lanes.times c.loop-k.labels.items (lane_labels tag lanes.times) c.loop-k.invariant
     (omega (arith, long, c.loop-k-test.false))

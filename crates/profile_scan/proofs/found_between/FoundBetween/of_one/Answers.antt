@@ -1,7 +1,7 @@
 use Rattle.std.proofs.Common.{ℕ, Option, sym, subst}
 use Rattle.std.proofs.Math.Logic.{∥∥₁_map}
 use Rattle.timetable.specs.declared.query.Query.{Query}
-use Rattle.profile_scan.specs.SetQuery.{SetQueryValue}
+use Rattle.scan_state.specs.SetQuery.{SetQueryValue}
 use Rattle.profile_scan.specs.Nodes.{spelling}
 use Rattle.profile_scan.specs.Answered.{Answer, IsAnswered, IsAnsweredBetween}
 use Rattle.profile_scan.proofs.Single.{answered_one}

@@ -1,9 +1,9 @@
 use Rattle.std.proofs.Common.{Contains, sym, ◌∙◌, ap, subst}
 use Rattle.reasoning.proofs.ListLemmas.{contains_only}
 use Rattle.timetable.specs.declared.query.Query.{Query}
-use Rattle.profile_scan.specs.SetQuery.{SetQueryValue, single_set_query}
+use Rattle.scan_state.specs.SetQuery.{SetQueryValue, single_set_query}
 use Rattle.profile_scan.specs.Found.{Answers, AnswersBetween}
-use Rattle.profile_scan.specs.Origins.{from_stop}
+use Rattle.scan_state.specs.Origins.{from_stop}
 use Rattle.profile_scan.specs.Everywhere.{criterion_of_profiles, destination_of}
 use Rattle.profile_scan.proofs.profiles.Profiles.found_from.Goals as goal
 

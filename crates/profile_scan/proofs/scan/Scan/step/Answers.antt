@@ -1,13 +1,14 @@
 use Rattle.std.proofs.Common.{◌<◌, ◌+◌, ℕ, List, Contains, arith, ap, sym, subst}
 use Rattle.criteria.specs.Laws.{Admits}
 use Rattle.timetable.specs.declared.network.Connection.{Connection}
-use Rattle.profile_scan.specs.SetQuery.{asked_from, question}
-use Rattle.profile_scan.specs.Bound.{AreBounds, ExcludesMore}
-use Rattle.profile_scan.specs.ScanRecords.{spelling_of}
-use Rattle.profile_scan.specs.Hops.{IsHopOf}
-use Rattle.profile_scan.specs.LawStatements.{CanScan}
-use Rattle.profile_scan.specs.ScanState.{IsFinalWalk, final_walk_in, scan_value_of, scan_records_of}
-use Rattle.profile_scan.proofs.BoundLemmas.{bounds_renewed, bounds_on}
+use Rattle.scan_state.specs.SetQuery.{asked_from, question}
+use Rattle.scan_state.specs.Bound.{AreBounds, ExcludesMore}
+use Rattle.scan_state.specs.ScanRecords.{spelling_of}
+use Rattle.scan_state.specs.Hops.{IsHopOf}
+use Rattle.scan_state.specs.SetQuery.{CanScan}
+use Rattle.scan_state.specs.ScanState.{IsFinalWalk, final_walk_in}
+use Rattle.profile_scan.specs.Scans.{scan_value_of, scan_records_of}
+use Rattle.scan_state.proofs.BoundLemmas.{bounds_renewed, bounds_on}
 use Rattle.profile_scan.proofs.StepFacts.{begins_in, ends_in, step_idle_at, trip_in}
 use Rattle.profile_scan.proofs.TakeLemmas.{is_step}
 use Rattle.profile_scan.proofs.scan.Scan.step.Given as given

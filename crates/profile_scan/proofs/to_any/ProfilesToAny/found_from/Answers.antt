@@ -4,9 +4,9 @@ use Rattle.bags.specs.declared.point.Point.{Point}
 use Rattle.profile_scan.specs.Answered.{IsTaggedAnswer}
 use Rattle.profile_scan.specs.Everywhere.{asked_to_any, criterion_to_any, listed_to_any}
 use Rattle.profile_scan.specs.Found.{AnswersBetween}
-use Rattle.profile_scan.specs.Origins.{from_stop, set_outs_by}
-use Rattle.profile_scan.specs.ScanRecords.{scan_records, spelling_of}
-use Rattle.profile_scan.specs.SetQuery.{SetQueryValue, IsDirectWalk, question}
+use Rattle.scan_state.specs.Origins.{from_stop, set_outs_by}
+use Rattle.scan_state.specs.ScanRecords.{scan_records, spelling_of}
+use Rattle.scan_state.specs.SetQuery.{SetQueryValue, IsDirectWalk, question}
 use Rattle.profile_scan.proofs.to_any.ProfilesToAny.found_from.Given as given
 use Rattle.profile_scan.proofs.to_any.ProfilesToAny.found_from.Goals.{After-index-origin}
 use Rattle.profile_scan.proofs.to_any.ProfilesToAny.found_from.Goals as goal

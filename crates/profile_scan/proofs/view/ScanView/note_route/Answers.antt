@@ -1,5 +1,5 @@
 use Rattle.std.proofs.Common.{◌≡◌, ◌-◌, ◌+◌, [], ◌∷◌, length, length-append, refl, sym, ◌∙◌, ap, subst, arith}
-use Rattle.profile_scan.specs.ScanRecords.{label_spells}
+use Rattle.scan_state.specs.ScanRecords.{label_spells}
 use Rattle.profile_scan.specs.Views.{scan_records_seen}
 use Rattle.profile_scan.specs.JourneyNodes.{IsRoute}
 use Rattle.profile_scan.proofs.JourneyNodeLemmas.{route_push, spells_change}

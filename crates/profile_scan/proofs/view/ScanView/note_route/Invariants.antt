@@ -1,7 +1,7 @@
 use Rattle.std.proofs.Common.{◌≡◌, ◌-◌, List, length, Some}
 use Rattle.timetable.specs.declared.network.Footpath.{Footpath}
-use Rattle.profile_scan.specs.Continuations.{Aboard}
-use Rattle.profile_scan.specs.ScanRecords.{label_spells}
+use Rattle.scan_state.specs.Continuations.{Aboard}
+use Rattle.scan_state.specs.ScanRecords.{label_spells}
 use Rattle.profile_scan.specs.Views.{scan_records_seen}
 use Rattle.profile_scan.specs.JourneyNodes.{IsRoute, IsLabelSpelled}
 use Rattle.profile_scan.proofs.view.ScanView.note_route.Given as goal

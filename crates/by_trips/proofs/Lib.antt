@@ -1,0 +1,9 @@
+pub mod LaneExits
+pub mod LaneOffers
+pub mod LanesLeft
+pub mod LanesBoarded
+pub mod TripLaws
+pub mod BeyondLemmas
+pub mod ByTripsLeft
+pub mod ByTripsBoarded
+pub mod ByTripsTaken

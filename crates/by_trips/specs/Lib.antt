@@ -1,0 +1,3 @@
+pub mod InLanes
+pub mod ByTrips
+pub mod TakenByTrips

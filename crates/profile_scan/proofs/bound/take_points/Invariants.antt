@@ -1,6 +1,0 @@
-use Rattle.bags.specs.Bag.{points_of}
-use Rattle.profile_scan.specs.Bound.{TakesPoints}
-use Rattle.profile_scan.proofs.bound.take_points.Given as goal
-
-abbrev pub invariant-loop-index : goal.invariant-loop-index
-invariant-loop-index g l = TakesPoints (g.C.Criterion.rules l.criterion) (points_of l.found) l.fn.indices.start l.index l.fn.values.items l.values.items

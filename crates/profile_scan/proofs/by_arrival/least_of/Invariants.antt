@@ -1,5 +1,0 @@
-use Rattle.profile_scan.proofs.ByArrivalLemmas.{IsLeastOf}
-use Rattle.profile_scan.proofs.by_arrival.least_of.Given as goal
-
-abbrev pub invariant-loop-k : goal.invariant-loop-k
-invariant-loop-k l = IsLeastOf l.values l.k l.least

@@ -1,5 +1,0 @@
-use Rattle.profile_scan.proofs.BeyondLemmas.{AreEmpty}
-use Rattle.profile_scan.proofs.by_trips.empty_bags.Given as goal
-
-abbrev pub invariant-loop-k : goal.invariant-loop-k
-invariant-loop-k l = AreEmpty l._k l.bags.items

@@ -1,5 +1,0 @@
-use Rattle.profile_scan.proofs.ByTripsTaken.{HasFirst}
-use Rattle.profile_scan.proofs.by_trips_taking.front_of.Given as goal
-
-abbrev pub invariant-loop-k : goal.invariant-loop-k
-invariant-loop-k l = HasFirst l.values l.k l.front

@@ -1,6 +1,0 @@
-use Rattle.std.proofs.Common.{◌≡◌, map, take}
-use Rattle.profile_scan.specs.FinalWalkEntries.{is_walk}
-use Rattle.profile_scan.proofs.final_walks.which_are_walks.Given as goal
-
-abbrev pub invariant-loop-k : goal.invariant-loop-k
-invariant-loop-k l = l.ends.items ≡ map is_walk (take l.k l.entries)

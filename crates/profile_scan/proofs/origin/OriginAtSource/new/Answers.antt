@@ -1,4 +1,0 @@
-use Rattle.profile_scan.proofs.origin.OriginAtSource.new.Goals as goal
-
-pub returns : goal.returns
-returns g c = record { under = c.empty.ensures.criterion; none = λ index. c.empty.ensures.none }

@@ -1,5 +1,0 @@
-use Rattle.profile_scan.proofs.StartLemmas.{NoStart}
-use Rattle.profile_scan.proofs.starts.is_led.Given as goal
-
-abbrev pub invariant-loop-walk_index : goal.invariant-loop-walk_index
-invariant-loop-walk_index g l = NoStart (g.S.ConnSource.timetable l.source) l.marked l.begin l.walk_index
