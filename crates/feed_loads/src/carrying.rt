@@ -60,7 +60,7 @@ impl<'a, R: Wait, N: Drop, T: Versions<Notice = N> + Loads, F: Feeds> LoadContex
     {
         for _ in self.rt.forever() {
             match orders.next(self.rt) {
-                Some((order, permit)) => self.load_feed(
+                Some((order, permit)) => self.carry_out(
                     order,
                     permit,
                     &mut orders,
@@ -76,7 +76,7 @@ impl<'a, R: Wait, N: Drop, T: Versions<Notice = N> + Loads, F: Feeds> LoadContex
 
     // Loads the feed of this order, the last that was taken. What came of it goes to the error writer and to the worker
     // that waits for it.
-    fn load_feed<E: Write>(
+    fn carry_out<E: Write>(
         &self,
         order: Order<N>,
         permit: DrawPermit<F::Leave>,

@@ -1,7 +1,7 @@
 //! The loader's thread.
 
-ghost use Rattle.std.specs.Prelude.{◌≡◌, [], IsPermutation, IfOk, IfSome};
-ghost use Rattle.feed_loads.specs.Carrying.{loads_value};
+ghost use Rattle.std.specs.Prelude.{◌≡◌, [], IsPermutation, IfNone, IfOk, IfSome, false};
+ghost use Rattle.feed_loads.specs.Carrying.{LoadsValue, loads_value};
 ghost use Rattle.feed_loads.specs.Posts.{IsLoaderDone, loader_post_of};
 ghost use Rattle.feed_loads.specs.Words.{loads_of, outcomes_of};
 
@@ -140,10 +140,14 @@ pub fn close_and_join<
 ) -> Option<(UsedLoader<N>, L, UsedFiles<D, N>)>
     requires queue { loading.promise.queue ≡ asks.queue }
     requires back { asks.out ≡ 0 }
-    ensures { IfSome result (λ done. IsPermutation asks.put done.0.taken × IsLoaderDone
+    ensures done { IfSome result (λ done. IsPermutation asks.put done.0.taken × IsLoaderDone
         (loads_of F.words (outcomes_of D.words
         T.Loads.words T.Versions.words.version))
         loading.promise (loads_value done.0 done.2) done.1) }
+    ensures left { IfNone result ((loads : LoadsValue D N) × (seat : L) × IsLoaderDone
+        (loads_of F.words (outcomes_of D.words
+        T.Loads.words T.Versions.words.version))
+        loading.promise loads seat × (loads.orders.closed ≡ false)) }
 {
     asks.close(rt);
     let (orders, seat, used) = loading.join(rt);

@@ -30,6 +30,7 @@ pub record PutterValue (I : Type 0) : Type 0 where
 pub record TakerValue (I : Type 0) : Type 0 where
   pub queue : QueueId I
   pub taken : List I  -- in order
+  pub over : Bool  -- it asked for another one, and none came
   pub closed : Bool  -- the queue was closed for this end
 
 -- how often the queue was closed for an end
@@ -74,7 +75,7 @@ module _ {I : Type 0} where
   unused_putter queue = record { queue = queue; items = []; tries = 0 }
 
   abbrev pub unused_taker : QueueId I → TakerValue I
-  unused_taker queue = record { queue = queue; taken = []; closed = false }
+  unused_taker queue = record { queue = queue; taken = []; over = false; closed = false }
 
   -- an end that has tried once more to put an item, which is put or isn't
   abbrev pub with_item : PutterValue I → I → PutterValue I
@@ -119,6 +120,6 @@ module _ {I : Type 0} (rule : QueueRule I) where
 
   -- an open end takes an item; or it takes none: the queue is closed for it, or else was empty at one moment
   abbrev pub TakesNext : TakerValue I → Option I → TakerValue I → Type 0
-  TakesNext before (Some item) after = (before.closed ≡ false) × (after ≡ record before { taken = before.taken ++ item ∷ [] })
-  TakesNext before None after = (after ≡ record before { closed = after.closed })
+  TakesNext before (Some item) after = (before.closed ≡ false) × (after ≡ record before { taken = before.taken ++ item ∷ []; over = false })
+  TakesNext before None after = (after ≡ record before { over = true; closed = after.closed })
       × MatchBool after.closed ⊤ ((before.closed ≡ false) × Held rule 0 (EndView.Taking before.taken 0))

@@ -1,5 +1,5 @@
 pub mod Queue
 pub mod Ends
-pub mod ArrivalLemmas
+pub mod MessageLemmas
 pub mod SumLemmas
 pub mod Rules

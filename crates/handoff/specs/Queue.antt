@@ -43,14 +43,14 @@ module _ {I : Type 0} where
       EndView.Keeping (record k { taking = k.taking - 1; taken = k.taken ++ items; ended = k.ended + ended })
   with_back side other = side
 
-  -- what an end does with one arrival: it is put, or taken
+  -- what an end does with one message: it is put, or taken
   abbrev pub IsOneMore : EndView I → Message I → EndView I → Type 0
   IsOneMore (EndView.Keeping k) (Message.Item item) after = after ≡ EndView.Keeping (record k { put = k.put ++ item ∷ [] })
   IsOneMore (EndView.Keeping k) Message.Closing after = after ≡ EndView.Keeping (record k { closings = k.closings + 1 })
   IsOneMore (EndView.Putting items tries) (Message.Item item) after = after ≡ EndView.Putting (items ++ item ∷ []) tries
   IsOneMore (EndView.Taking items ended) (Message.Item item) after = after ≡ EndView.Taking (items ++ item ∷ []) ended
   IsOneMore (EndView.Taking items ended) Message.Closing after = after ≡ EndView.Taking items (ended + 1)
-  IsOneMore side arrival after = ⊥
+  IsOneMore side message after = ⊥
 
   -- the items that an end knows to be put, and to be taken
   abbrev pub put_at : EndView I → List I
@@ -122,24 +122,24 @@ module _ {I : Type 0} where
 
   -- each item that was put at some end was taken once at some end, or waits; and no other was taken, or waits
   abbrev pub AreTakenOnce : List (Message I) → List (EndView I) → Type 0
-  AreTakenOnce arrivals views = IsPermutation (items_by put_at views) (items_by taken_at views ++ waiting_in arrivals)
+  AreTakenOnce messages views = IsPermutation (items_by put_at views) (items_by taken_at views ++ waiting_in messages)
 
 -- what a queue with this much room holds, oldest first, and what its ends know: each item is taken once. One end keeps the queue, and counts those
 -- that are out. Once it has closed the queue, nothing is put any more; and once a closing was taken, no item waits
-pub record IsQueue {I : Type 0} (room : ℕ) (arrivals : List (Message I)) (views : List (EndView I)) : Type 0 where
-  pub few : length arrivals ≤ room
-  pub once : AreTakenOnce arrivals views
-  pub last : AreClosedLast arrivals
+pub record IsQueue {I : Type 0} (room : ℕ) (messages : List (Message I)) (views : List (EndView I)) : Type 0 where
+  pub few : length messages ≤ room
+  pub once : AreTakenOnce messages views
+  pub last : AreClosedLast messages
   pub keeper : total keeps views ≡ 1
   pub putting_are : total putting_at views ≡ total puts_there views
   pub taking_are : total taking_at views ≡ total takes_there views
-  pub closings_are : total closings_at views ≡ total ended_at views + closings_in arrivals
+  pub closings_are : total closings_at views ≡ total ended_at views + closings_in messages
   pub none_putting : 0 < total closings_at views → total putting_at views ≡ 0
-  pub none_waits : 0 < total ended_at views → waiting_in arrivals ≡ []
+  pub none_waits : 0 < total ended_at views → waiting_in messages ≡ []
 
 -- whatever the ends of a queue did: each item that was put was taken once, or waits
 abbrev pub EachIsTakenOnce : Type 0 → Type 0
-EachIsTakenOnce I = (room : ℕ) (arrivals : List (Message I)) (views : List (EndView I)) → IsQueue room arrivals views → AreTakenOnce arrivals views
+EachIsTakenOnce I = (room : ℕ) (messages : List (Message I)) (views : List (EndView I)) → IsQueue room messages views → AreTakenOnce messages views
 
 -- once all ends are back, and the queue was closed for one at which items were taken, what was taken is what was put, each item once
 abbrev pub AllWereTaken : {I : Type 0} → KeeperView I → Type 0
@@ -167,9 +167,9 @@ module _ {I : Type 0} (rule : QueueRule I) where
   abbrev pub IsKeptByTaking : Type 0
   IsKeptByTaking = (pass : ℕ) (items : List I) (ended : ℕ) → Pops rule pass (EndView.Taking items ended) (IsOneMore (EndView.Taking items ended))
 
--- a rule of what a channel holds and of what its ends know holds of these arrivals and of what some ends know, one of which knows this
+-- a rule of what a channel holds and of what its ends know holds of these messages and of what some ends know, one of which knows this
 abbrev pub IsHeldBeside : {A V : Type 0} → (List A → List V → Type 0) → V → List A → Type 0
-IsHeldBeside {A} {V} rule side arrivals = (views : List V) × (pass : ℕ) × rule arrivals views × (get_elem? views pass ≡ some side)
+IsHeldBeside {A} {V} rule side messages = (views : List V) × (pass : ℕ) × rule messages views × (get_elem? views pass ≡ some side)
 
 -- at one moment a channel held so many, and one of its ends knew this: the rule held then
 abbrev pub Held : {A V : Type 0} → (List A → List V → Type 0) → ℕ → V → Type 0

@@ -6,7 +6,7 @@ use Rattle.std.proofs.lemmas.List.Sorted.{IsPermutation-append_left, IsPermutati
 use mathlib.Core.Option.{some}
 use lib.ListN.{get_elem?}
 use Rattle.crossbeam_channel.specs.Fifo.{Forks, Learns, Merges, Pushes}
-use Rattle.handoff.specs.ArrivalLemmas.{closes_more, closes_same, closing_last, item_last, nothing_last, waits, waits_more, waits_same}
+use Rattle.handoff.specs.MessageLemmas.{closes_more, closes_same, closing_last, item_last, nothing_last, waits, waits_more, waits_same}
 use Rattle.handoff.specs.Queue.{AreClosedLast, AreTakenOnce, IsKeptByPutting, IsKeptByTaking, IsOneMore, IsQueue, KnowsAllTaken}
 use Rattle.handoff.specs.Queue.{closings_at, closings_in, ended_at, items_by, keeps, new_putter, new_taker, nothing_kept, put_at, puts_there, putting_at}
 use Rattle.handoff.specs.Queue.{taken_at, takes_there, taking_at, total, tried, waiting_in, with_back, with_putter_out, with_taker_out}
@@ -89,7 +89,7 @@ module _ {I : Type 0} where
       (IsPermutation-append_left (waiting_in items) (items_by taken_at views) (items_by taken_at now) taken))
 
 module _ {I : Type 0} (room : ℕ) where
-  -- one end does something with one arrival; the numbers of ends that it knows stay
+  -- one end does something with one message; the numbers of ends that it knows stay
   step : (views : List (EndView I)) (k : ℕ) (v w : EndView I) (items items_then : List (Message I)) → get_elem? views k ≡ some v → IsQueue room items views
       → length items_then ≤ room → AreTakenOnce items_then (slice_set views k w) → AreClosedLast items_then
       → keeps w ≡ keeps v → putting_at w ≡ putting_at v → puts_there w ≡ puts_there v → taking_at w ≡ taking_at v → takes_there w ≡ takes_there v
@@ -128,42 +128,42 @@ module _ {I : Type 0} (room : ℕ) where
   -- an end puts an item
   puts : (k : ℕ) (items : List I) (tries : ℕ) (item : I)
       → Pushes (IsQueue room) room k (EndView.Putting items tries) (Message.Item item) (IsOneMore (EndView.Putting items tries) (Message.Item item))
-  puts k items tries item arrivals views small h at =
+  puts k items tries item messages views small h at =
       let v = EndView.Putting items tries in
       let w = EndView.Putting (items ++ item ∷ []) tries in
       let ends = changed views k v EndView.Rests at puts_there in
       let fresh = is_none (total closings_at views) (total putting_at views) h.none_putting (omega (arith, ends, h.putting_are)) in
-      (w, put_step views k v w item arrivals at h small fresh refl refl refl refl refl refl refl refl refl, refl)
+      (w, put_step views k v w item messages at h small fresh refl refl refl refl refl refl refl refl refl, refl)
 
   -- the end that keeps the queue does
   pub keeper_puts : (k : ℕ) (view : KeeperView I) (item : I) → view.closings ≡ 0
       → Pushes (IsQueue room) room k (EndView.Keeping view) (Message.Item item) (IsOneMore (EndView.Keeping view) (Message.Item item))
-  keeper_puts k view item fresh arrivals views small h at =
+  keeper_puts k view item fresh messages views small h at =
       let v = EndView.Keeping view in
       let w = EndView.Keeping (record view { put = view.put ++ item ∷ [] }) in
       let none = at_keeper closings_at views k view keeper_counts_closings at h.keeper in
-      (w, put_step views k v w item arrivals at h small (omega (arith, none, fresh)) refl refl refl refl refl refl refl refl refl, refl)
+      (w, put_step views k v w item messages at h small (omega (arith, none, fresh)) refl refl refl refl refl refl refl refl refl, refl)
 
   -- what comes first is taken
   pub kept_by_taking : IsKeptByTaking {I = I} (IsQueue room)
-  kept_by_taking k items ended (Message.Item item) arrivals views h at =
+  kept_by_taking k items ended (Message.Item item) messages views h at =
       let v = EndView.Taking items ended in
       let w = EndView.Taking (items ++ item ∷ []) ended in
       let t = changed views k v w at in (
         w,
-        step views k v w (Message.Item item ∷ arrivals) arrivals at h (omega (arith, h.few)) (once_taken views k v w at item arrivals refl refl h.once)
+        step views k v w (Message.Item item ∷ messages) messages at h (omega (arith, h.few)) (once_taken views k v w at item messages refl refl h.once)
             h.last refl refl refl refl refl (omega arith) (λ any. h.none_putting (omega (arith, any, t closings_at)))
-            (λ any. absurd (waits item (waiting_in arrivals) (h.none_waits (omega (arith, any, t ended_at))))),
+            (λ any. absurd (waits item (waiting_in messages) (h.none_waits (omega (arith, any, t ended_at))))),
         refl,
       )
-  kept_by_taking k items ended Message.Closing arrivals views h at =
+  kept_by_taking k items ended Message.Closing messages views h at =
       let v = EndView.Taking items ended in
       let w = EndView.Taking items (ended + 1) in
       let t = changed views k v w at in (
         w,
-        step views k v w (Message.Closing ∷ arrivals) arrivals at h (omega (arith, h.few))
-            (once_still views k v w at (Message.Closing ∷ arrivals) arrivals refl refl refl h.once)
-            (nothing_last arrivals h.last) refl refl refl refl refl (omega arith) (λ any. h.none_putting (omega (arith, any, t closings_at)))
+        step views k v w (Message.Closing ∷ messages) messages at h (omega (arith, h.few))
+            (once_still views k v w at (Message.Closing ∷ messages) messages refl refl refl h.once)
+            (nothing_last messages h.last) refl refl refl refl refl (omega arith) (λ any. h.none_putting (omega (arith, any, t closings_at)))
             (λ any. h.last),
         refl,
       )
@@ -171,18 +171,18 @@ module _ {I : Type 0} (room : ℕ) where
   -- the queue is closed, once no end is out at which items are put
   pub closes : (k : ℕ) (view : KeeperView I) → view.putting ≡ 0
       → Pushes {T = Message I} (IsQueue room) room k (EndView.Keeping view) Message.Closing (IsOneMore {I = I} (EndView.Keeping view) Message.Closing)
-  closes k view none arrivals views small h at =
+  closes k view none messages views small h at =
       let v = EndView.Keeping view in
       let w = EndView.Keeping (record view { closings = view.closings + 1 }) in
       let out = at_keeper putting_at views k view keeper_counts_putters at h.keeper in
-      let longer = length_push arrivals Message.Closing in
+      let longer = length_push messages Message.Closing in
       let t = changed views k v w at in
-      let more_closings = closes_more arrivals in (
+      let more_closings = closes_more messages in (
         w,
-        step views k v w arrivals (arrivals ++ Message.Closing ∷ []) at h (omega (arith, longer, small))
-            (once_still views k v w at arrivals (arrivals ++ Message.Closing ∷ []) refl refl (waits_same arrivals) h.once)
-            (closing_last arrivals h.last) refl refl refl refl refl (omega (arith, more_closings)) (λ any. omega (arith, out, none))
-            (λ any. waits_same arrivals ∙ h.none_waits (omega (arith, any, t ended_at))),
+        step views k v w messages (messages ++ Message.Closing ∷ []) at h (omega (arith, longer, small))
+            (once_still views k v w at messages (messages ++ Message.Closing ∷ []) refl refl (waits_same messages) h.once)
+            (closing_last messages h.last) refl refl refl refl refl (omega (arith, more_closings)) (λ any. omega (arith, out, none))
+            (λ any. waits_same messages ∙ h.none_waits (omega (arith, any, t ended_at))),
         refl,
       )
 
@@ -221,8 +221,8 @@ module _ {I : Type 0} (room : ℕ) where
 
   tries_more : (k : ℕ) (items : List I) (tries : ℕ)
       → Forks {T = Message I} (IsQueue room) k (EndView.Putting items tries) (tried (EndView.Putting items tries)) EndView.Rests
-  tries_more k items tries arrivals views h at =
-      split views k (EndView.Putting items tries) (EndView.Putting items (tries + 1)) EndView.Rests arrivals at h
+  tries_more k items tries messages views h at =
+      split views k (EndView.Putting items tries) (EndView.Putting items (tries + 1)) EndView.Rests messages at h
       refl refl refl refl refl refl refl refl refl (λ any. refl)
 
   pub kept_by_putting : IsKeptByPutting {I = I} (IsQueue room) room
@@ -231,16 +231,16 @@ module _ {I : Type 0} (room : ℕ) where
   -- an end goes out, at which items are put
   pub putter_goes_out : (k : ℕ) (view : KeeperView I) → view.closings ≡ 0
       → Forks {T = Message I} (IsQueue room) k (EndView.Keeping view) (with_putter_out (EndView.Keeping view)) new_putter
-  putter_goes_out k view fresh arrivals views h at =
+  putter_goes_out k view fresh messages views h at =
       let none = at_keeper closings_at views k view keeper_counts_closings at h.keeper in
-      split views k (EndView.Keeping view) (EndView.Keeping (record view { putting = view.putting + 1 })) new_putter arrivals at h
+      split views k (EndView.Keeping view) (EndView.Keeping (record view { putting = view.putting + 1 })) new_putter messages at h
       refl refl refl refl refl (omega arith) (omega arith) (omega arith) (omega arith) (λ any. absurd (omega (arith, any, none, fresh)))
 
   -- an end goes out, at which items are taken
   pub taker_goes_out : (k : ℕ) (view : KeeperView I)
       → Forks {T = Message I} (IsQueue room) k (EndView.Keeping view) (with_taker_out (EndView.Keeping view)) new_taker
-  taker_goes_out k view arrivals views h at =
-      split views k (EndView.Keeping view) (EndView.Keeping (record view { taking = view.taking + 1 })) new_taker arrivals at h
+  taker_goes_out k view messages views h at =
+      split views k (EndView.Keeping view) (EndView.Keeping (record view { taking = view.taking + 1 })) new_taker messages at h
       refl refl refl refl refl (omega arith) (omega arith) (omega arith) (omega arith) (λ any. omega arith)
 
   -- an end is back; there is one fewer of its kind, and the keeper counts one fewer
@@ -270,27 +270,27 @@ module _ {I : Type 0} (room : ℕ) where
   pub putter_comes_back : (k : ℕ) (view : KeeperView I) (other : ℕ) (items : List I) (tries : ℕ)
       → Merges {T = Message I} (IsQueue room) k (EndView.Keeping view) other (EndView.Putting items tries)
       (with_back (EndView.Keeping view) (EndView.Putting items tries)) EndView.Rests
-  putter_comes_back k view other items tries arrivals views h at apart there =
+  putter_comes_back k view other items tries messages views h at apart there =
       let v = EndView.Keeping view in
       let w = EndView.Putting items tries in
       let both = EndView.Keeping (record view { putting = view.putting - 1; put = view.put ++ items }) in
       let out = at_keeper putting_at views k view keeper_counts_putters at h.keeper in
       let t = changed views k v both at in
       let s = changed (slice_set views k both) other w EndView.Rests there in
-      comes_back views k other v both w arrivals at apart there h refl (sym (append-nil view.taken)) refl
+      comes_back views k other v both w messages at apart there h refl (sym (append-nil view.taken)) refl
       (omega (arith, h.putting_are, out, t puts_there, s puts_there)) refl (omega arith) refl (omega arith) (omega arith)
 
   pub taker_comes_back : (k : ℕ) (view : KeeperView I) (other : ℕ) (items : List I) (ended : ℕ)
       → Merges {T = Message I} (IsQueue room) k (EndView.Keeping view) other (EndView.Taking items ended)
       (with_back (EndView.Keeping view) (EndView.Taking items ended)) EndView.Rests
-  taker_comes_back k view other items ended arrivals views h at apart there =
+  taker_comes_back k view other items ended messages views h at apart there =
       let v = EndView.Keeping view in
       let w = EndView.Taking items ended in
       let both = EndView.Keeping (record view { taking = view.taking - 1; taken = view.taken ++ items; ended = view.ended + ended }) in
       let out = at_keeper taking_at views k view keeper_counts_takers at h.keeper in
       let t = changed views k v both at in
       let s = changed (slice_set views k both) other w EndView.Rests there in
-      comes_back views k other v both w arrivals at apart there h (sym (append-nil view.put)) refl refl
+      comes_back views k other v both w messages at apart there h (sym (append-nil view.put)) refl refl
       (omega arith) refl (omega (arith, h.taking_are, out, t takes_there, s takes_there)) refl (omega arith) refl
 
   -- all are back

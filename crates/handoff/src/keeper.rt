@@ -85,6 +85,7 @@ impl<I: Drop, const ROOM: usize> Keeper<I, ROOM> {
         Ok(TakeEnd {
             receiver,
             pass,
+            over: false,
             closed: false,
         })
     }
@@ -102,6 +103,7 @@ impl<I: Drop, const ROOM: usize> Keeper<I, ROOM> {
         TakeEnd {
             receiver,
             pass,
+            over: false,
             closed: false,
         }
     }
@@ -111,8 +113,8 @@ impl<I: Drop, const ROOM: usize> Keeper<I, ROOM> {
         requires open { self.old.view.closings ≡ 0 }
         ensures { self.new ≡ with_put self.old item }
     {
-        let arrival = Message::Item { item };
-        send(rt, &self.sender, &mut self.pass, arrival);
+        let message = Message::Item { item };
+        send(rt, &self.sender, &mut self.pass, message);
     }
 
     /// Puts a closing behind all items, once there is room: the end that takes it takes no more. False if no end is out
@@ -144,10 +146,11 @@ impl<I: Drop, const ROOM: usize> Keeper<I, ROOM> {
         let TakeEnd {
             receiver,
             pass,
+            over,
             closed,
         } = taker;
         drop(receiver);
-        let used = UsedTakeEnd::of(&pass, closed);
+        let used = UsedTakeEnd::of(&pass, over, closed);
         self.sender.absorb::<EndComesBack>(&mut self.pass, pass);
         used
     }
@@ -168,18 +171,18 @@ fn send<R: Wait, I: Drop, const ROOM: usize>(
     rt: &R,
     sender: &RuledSender<Message<I>, EndView<I>, EachItemOnce<ROOM>, Global>,
     pass: &mut Pass<Message<I>, EndView<I>>,
-    mut arrival: Message<I>,
+    mut message: Message<I>,
 )
     requires channel { IsSeatAt (sends_on sender.now) pass.old }
-    requires rule { Pushes (IsQueue ROOM) (ruled_capacity (sends_on sender.now)) pass.old.id (view_of pass.old) arrival
-        (IsOneMore (view_of pass.old) arrival) }
+    requires rule { Pushes (IsQueue ROOM) (ruled_capacity (sends_on sender.now)) pass.old.id (view_of pass.old) message
+        (IsOneMore (view_of pass.old) message) }
     ensures channel { IsSeatAt (sends_on sender.now) pass.new × (pass.new.id ≡ pass.old.id) }
-    ensures sent { IsOneMore (view_of pass.old) arrival (view_of pass.new) }
+    ensures sent { IsOneMore (view_of pass.old) message (view_of pass.new) }
 {
     for _ in rt.forever() {
-        match sender.send_as::<Moves<EachItemOnce<ROOM>>, R>(rt, pass, arrival) {
+        match sender.send_as::<Moves<EachItemOnce<ROOM>>, R>(rt, pass, message) {
             Ok(()) => return,
-            Err(unsent) => arrival = unsent.into_inner(),
+            Err(unsent) => message = unsent.into_inner(),
         }
     }
     unreachable!()

@@ -45,7 +45,7 @@ pub enum EndView<I> {
 
 /// A rule of queues with this much room, which stays true whenever an end puts an item or tries to. Nothing here says
 /// that it is true of a new queue, nor that it stays so when an end is added. So only the queue itself can say that it
-/// was true of some arrivals at some moment.
+/// was true of some messages at some moment.
 pub trait PutRule<I: Drop>: Protocol<Message<I>, EndView<I>> {
     ghost use Rattle.handoff.specs.Queue.{IsKeptByPutting};
 
@@ -62,7 +62,7 @@ pub trait TakeRule<I: Drop>: Protocol<Message<I>, EndView<I>> {
     ghost kept: { IsKeptByTaking Self.holds };
 }
 
-/// The rule: at most `ROOM` arrivals wait; each item that was put was taken once, or waits; no other item was taken or
+/// The rule: at most `ROOM` messages wait; each item that was put was taken once, or waits; no other item was taken or
 /// waits; and no item waits once a closing was taken.
 pub struct EachItemOnce<const ROOM: usize>;
 
@@ -88,7 +88,7 @@ impl<I: Drop, const ROOM: usize> TakeRule<I> for EachItemOnce<ROOM> {
     ghost kept = { kept_by_taking ROOM };
 }
 
-/// An arrival joins the queue, or leaves it. No value of it is made.
+/// A message joins the queue, or leaves it. No value of it is made.
 pub struct Moves<P> {
     rule: PhantomData<P>,
 }
@@ -157,5 +157,5 @@ pub struct AllEndsBack;
 impl<I: Drop> Lesson<Message<I>, EndView<I>> for AllEndsBack {
     ghost use Rattle.handoff.specs.Queue.{KnowsAllTaken};
 
-    ghost fact = { λ view arrivals. KnowsAllTaken view };
+    ghost fact = { λ view messages. KnowsAllTaken view };
 }

@@ -11,12 +11,13 @@ use std::alloc::Global;
 use std::marker::Model;
 use std::sync::Wait;
 
-/// An end of a queue at which items are taken. Contracts see which queue; the items that were taken here, in order; and
-/// whether the queue was closed for this end.
+/// An end of a queue at which items are taken. Contracts see which queue; the items that were taken here, in order;
+/// whether it last asked for an item and none came; and whether the queue was closed for it.
 #[derive(Drop)]
 pub struct TakeEnd<I: Drop, P: TakeRule<I>> {
     pub(crate) receiver: RuledReceiver<Message<I>, EndView<I>, P, Global>,
     pub(crate) pass: Pass<Message<I>, EndView<I>>,
+    pub(crate) over: bool,
     pub(crate) closed: bool,
 }
 
@@ -30,6 +31,7 @@ impl<I: Drop, P: TakeRule<I>> Model for TakeEnd<I, P> {
     ghost view = { λ s. record {
       queue = (s.pass.table_id, s.pass.me.0.of);
       taken = items_of (view_of s.pass);
+      over = s.over;
       closed = s.closed;
     } };
 
@@ -40,6 +42,7 @@ impl<I: Drop, P: TakeRule<I>> Model for TakeEnd<I, P> {
 #[derive(Drop)]
 pub struct UsedTakeEnd<I: Drop> {
     known: GhostValue<Pass<Message<I>, EndView<I>>>,
+    over: bool,
     closed: bool,
 }
 
@@ -52,21 +55,28 @@ impl<I: Drop> Model for UsedTakeEnd<I> {
     ghost view = { λ s. record {
       queue = (s.known.value.table_id, s.known.value.me.0.of);
       taken = items_of (view_of s.known.value);
+      over = s.over;
       closed = s.closed;
     } };
 }
 
 impl<I: Drop> UsedTakeEnd<I> {
     // The end that knows this.
-    pub(crate) fn of(pass: &Pass<Message<I>, EndView<I>>, closed: bool) -> UsedTakeEnd<I>
+    pub(crate) fn of(
+        pass: &Pass<Message<I>, EndView<I>>,
+        over: bool,
+        closed: bool,
+    ) -> UsedTakeEnd<I>
         ensures { result ≡ record {
           queue = (pass.now.table_id, pass.now.me.0.of);
           taken = items_of (view_of pass.now);
+          over = over;
           closed = closed;
         } }
     {
         UsedTakeEnd {
             known: GhostValue::of(pass),
+            over,
             closed,
         }
     }
@@ -79,11 +89,15 @@ impl<I: Drop, P: TakeRule<I>> TakeEnd<I, P> {
     pub fn next<R: Wait>(&mut self, rt: &R) -> Option<I>
         ensures { TakesNext P.Protocol.holds self.old result self.new }
     {
+        self.over = true;
         if self.closed {
             return None;
         }
         match self.receiver.recv_as::<Moves<P>, R>(rt, &mut self.pass) {
-            Ok(Message::Item { item }) => Some(item),
+            Ok(Message::Item { item }) => {
+                self.over = false;
+                Some(item)
+            }
             Ok(Message::Closing) => {
                 self.closed = true;
                 None

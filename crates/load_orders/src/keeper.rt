@@ -1,6 +1,6 @@
 //! The end that keeps the queue of orders.
 
-ghost use Rattle.std.specs.Prelude.{◌≡◌, IfOk, IfSome, IsPermutation, MatchBool};
+ghost use Rattle.std.specs.Prelude.{◌≡◌, IfNone, IfOk, IfSome, IsPermutation, MatchBool, false};
 ghost use Rattle.handoff.specs.Ends.{SendsOut, unused_putter};
 ghost use Rattle.load_orders.specs.Answering.{nothing_taken};
 ghost use Rattle.load_orders.specs.Keeping.{OrderKeeperValue, closed_for_loader, nothing_ordered, with_one_out};
@@ -53,7 +53,6 @@ pub fn order_queue<N: Drop, V: Drop>(
     let loader = LoaderOrders {
         end,
         answered: GhostList::none(),
-        over: false,
         leave: GhostValue::of(&leave),
     };
     Ok((OrderKeeper { keeper }, loader))
@@ -92,12 +91,12 @@ impl<N: Drop> OrderKeeper<N> {
         requires back { self.out ≡ 0 }
         ensures same { IfSome result (λ used. used ≡ loader) }
         ensures all { IfSome result (λ used. IsPermutation self.put used.taken) }
+        ensures left { IfNone result (loader.closed ≡ false) }
     {
         let OrderKeeper { mut keeper } = self;
         let LoaderOrders {
             end,
             answered,
-            over,
             leave: _,
         } = loader;
         let closed = end.is_closed();
@@ -106,10 +105,6 @@ impl<N: Drop> OrderKeeper<N> {
             return None;
         }
         keeper.all_were_taken();
-        Some(UsedLoader {
-            end,
-            answered,
-            over,
-        })
+        Some(UsedLoader { end, answered })
     }
 }

@@ -34,7 +34,6 @@ impl<N: Drop> Model for OrderAnswer<N> {
 pub struct LoaderOrders<N: Drop, V, P: TakeRule<Order<N>> = EachItemOnce<4>> {
     pub(crate) end: TakeEnd<Order<N>, P>,
     pub(crate) answered: GhostList<OrderAnswer<N>>,
-    pub(crate) over: bool,
     pub(crate) leave: GhostValue<V>,
 }
 
@@ -47,7 +46,7 @@ impl<N: Drop, V, P: TakeRule<Order<N>>> Model for LoaderOrders<N, V, P> {
       queue = s.end.queue;
       taken = s.end.taken;
       answered = s.answered;
-      over = s.over;
+      over = s.end.over;
       closed = s.end.closed;
     } };
 }
@@ -57,7 +56,6 @@ impl<N: Drop, V, P: TakeRule<Order<N>>> Model for LoaderOrders<N, V, P> {
 pub struct UsedLoader<N: Drop> {
     pub(crate) end: UsedTakeEnd<Order<N>>,
     pub(crate) answered: GhostList<OrderAnswer<N>>,
-    pub(crate) over: bool,
 }
 
 impl<N: Drop> Model for UsedLoader<N> {
@@ -69,7 +67,7 @@ impl<N: Drop> Model for UsedLoader<N> {
       queue = s.end.queue;
       taken = s.end.taken;
       answered = s.answered;
-      over = s.over;
+      over = s.end.over;
       closed = s.end.closed;
     } };
 }
@@ -100,9 +98,7 @@ impl<N: Drop, V, P: TakeRule<Order<N>>> LoaderOrders<N, V, P> {
         requires { AllAnswered self.old }
         ensures { TakesOrder P.Protocol.holds result self.old self.new }
     {
-        let order = self.end.next(rt);
-        self.over = order.is_none();
-        match order {
+        match self.end.next(rt) {
             Some(order) => {
                 let permit = DrawPermit { leave: PhantomData };
                 Some((order, permit))

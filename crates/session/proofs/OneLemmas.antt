@@ -7,7 +7,7 @@ use Rattle.timetable.specs.Queries.{IsAskable, IsFirstFault as IsFirstFaultOne}
 use Rattle.timetable.specs.declared.query.Query.{Query}
 use Rattle.timetable.specs.declared.query.QueryFault.{QueryFault}
 use Rattle.image_layout.specs.Image.{ImageValue}
-use Rattle.profile_scan.specs.SetQuery.{SetQueryValue, IsAskableBetween, single_set_query}
+use Rattle.scan_state.specs.SetQuery.{SetQueryValue, IsAskableBetween, single_set_query}
 use Rattle.profile_scan.proofs.Single.{one_is_plain}
 use Rattle.journeys.specs.Questions.{Asks, IsNamed, IsRefused, NamesNone}
 use Rattle.journeys.specs.declared.question.Window.{Window}

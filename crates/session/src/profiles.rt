@@ -2,7 +2,7 @@
 
 ghost use Rattle.std.specs.Prelude.{◌≡◌, MatchResult, None};
 ghost use Rattle.std.specs.Arc.{arc_value};
-ghost use Rattle.profile_scan.specs.SetQuery.{IsAskableBetween, question};
+ghost use Rattle.scan_state.specs.SetQuery.{IsAskableBetween, question};
 ghost use Rattle.station_answers.specs.Naming.{AsksBetween, IsNoQuestion};
 ghost use Rattle.session_texts.specs.Requests.{ask_value, profile};
 ghost use Rattle.session.specs.Learning.{FitsAndLearns};
@@ -84,7 +84,6 @@ fn answer_from<G: Gate>(
     if form.excludes(ask.after, ask.by) {
         return SessionReply::query_fault(QueryFault::BadWindow);
     }
-    gate.enter();
     let (made, log) = reply_by_name(
         alloc,
         form.points,
@@ -92,7 +91,7 @@ fn answer_from<G: Gate>(
         ask.criterion,
         &query,
         edition.version,
-        ReplyLog::new(),
+        ReplyLog::behind(gate),
     );
     SessionReply::after_scan(made, log)
 }

@@ -36,11 +36,10 @@ impl ReplyLine {
     }
 }
 
-/// A reply, whether a scan was made for it, and the log of what the scan read. It can't be dropped, as its log.
+/// A reply, and the log of what its scan read, if one was made. It can't be dropped, as its log.
 pub(crate) struct SessionReply {
     pub(crate) line: ReplyLine,
-    pub(crate) has_scanned: bool,
-    pub(crate) log: ReplyLog,
+    pub(crate) log: Option<ReplyLog>,
 }
 
 impl SessionReply {
@@ -55,8 +54,7 @@ impl SessionReply {
         };
         SessionReply {
             line,
-            has_scanned: true,
-            log,
+            log: Some(log),
         }
     }
 
@@ -64,11 +62,7 @@ impl SessionReply {
     fn of(line: ReplyLine) -> SessionReply
         ensures { reply_value result ≡ plain (line_bytes line) }
     {
-        SessionReply {
-            line,
-            has_scanned: false,
-            log: ReplyLog::new(),
-        }
+        SessionReply { line, log: None }
     }
 
     pub(crate) fn fixed(line: &'static str) -> SessionReply

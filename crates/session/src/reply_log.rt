@@ -1,32 +1,38 @@
 //! The log of what is read for a reply.
 
+ghost use Rattle.std.specs.Prelude.{◌≡◌, []};
+ghost use Rattle.lines.specs.LineReads.{reads_of};
+ghost use Rattle.session.specs.Replies.{reads_for};
+
 use lines::LineReads;
+use orders::Gate;
 use profile_scan::ReadLog;
 
-/// The connections that a reply's scan asked for. It can't be dropped: it is noted as the reply is written.
+/// The connections that a reply's scan asked for. It is made where the gate is entered, so no scan that notes its reads
+/// begins before. It can't be dropped: it is noted as the reply is written.
 pub(crate) struct ReplyLog {
     reads: LineReads,
 }
 
 impl ReplyLog {
-    ghost use Rattle.std.specs.Prelude.{◌≡◌, []};
-    ghost use Rattle.lines.specs.LineReads.{reads_of};
-
-    /// A log in which nothing is noted.
-    pub(crate) fn new() -> ReplyLog
+    /// Enters the gate, for a scan that is about to begin. Nothing is noted yet.
+    pub(crate) fn behind<G: Gate>(gate: &G) -> ReplyLog
         ensures { reads_of result.reads ≡ [] }
     {
+        gate.enter();
         ReplyLog {
             reads: LineReads::new(),
         }
     }
+}
 
-    /// What was read.
-    pub(crate) fn into_reads(self) -> LineReads
-        ensures { result ≡ self.reads }
-    {
-        let ReplyLog { reads } = self;
-        reads
+/// What was read for a reply, which is nothing if no scan was made.
+pub(crate) fn into_reads(log: Option<ReplyLog>) -> LineReads
+    ensures { reads_of result ≡ reads_for log }
+{
+    match log {
+        Some(ReplyLog { reads }) => reads,
+        None => LineReads::new(),
     }
 }
 

@@ -13,6 +13,7 @@ ghost use Rattle.session.specs.Exchanges.{AgreeOnNotices, Exchange, ExchangeLead
 
 use crate::fault::{Ended, SessionFault};
 use crate::reply::SessionReply;
+use crate::reply_log::into_reads;
 use crate::session_server::{SessionServer, Streams};
 use lines::{Counted, Line, LineReader, NextLine, ReadStream, WriteFailed, WriteStream};
 use orders::{Gate, Orders};
@@ -172,12 +173,9 @@ impl<'a, N: Drop, T: Versions<Notice = N>, G: Gate> SessionServer<'a, T, G> {
             (λ _. (n : ℕ) × Appends (Out.words.bytes (inner_of writer.old)) (Out.words.bytes (inner_of writer.new))
             (take n t.reply.text)) }
     {
-        let SessionReply {
-            line: reply,
-            has_scanned,
-            log,
-        } = self.exchange(line, seat, orders);
-        let written = writer.write_line(reply.bytes(), log.into_reads(), seat);
+        let SessionReply { line: reply, log } = self.exchange(line, seat, orders);
+        let has_scanned = log.is_some();
+        let written = writer.write_line(reply.bytes(), into_reads(log), seat);
         if has_scanned {
             self.gate.leave();
         }

@@ -34,11 +34,12 @@ post_of place seat = record { place = place; seat = seat }
 abbrev pub route_at : {T C N F D : Type 0} → FeedWords F D → PlaceValue T C N F → OrderRoute N
 route_at feeds place = route_to (feeds.named place.feeds) place.orders
 
--- what a worker returns: its end of the queue of clients, its seat, which still fits the shelves, and the sessions of the clients that it
--- took there
+-- what a worker returns: its end of the queue of clients, from which it took clients until none came, its seat, which still fits the shelves, and
+-- the sessions of the clients that it took there
 pub record IsWorked {C R W T S N F D : Type 0} (words : SessionWords C R W T S N) (feeds : FeedWords F D) (post : PostValue T S C N F)
     (taker : TakerValue C) (share : ShareValue R W S N) : Type 0 where
   pub queue : taker.queue ≡ post.place.clients
+  pub over : taker.over ≡ true
   pub fits : words.seats.fits post.place.shelves share.seat
   pub served : IsShare words (worker_start post.seat (route_at feeds post.place)) taker.taken share
 
@@ -87,16 +88,16 @@ abbrev pub posts_of : {T S N : Type 0} → T → List (WorkerStart S N) → ℕ 
 posts_of shelves starts takers = record { shelves = shelves; starts = starts; takers = takers }
 
 -- the clients who came so far, and both queues
-pub record Arrivals (C N : Type 0) : Type 0 where
+pub record ServingState (C N : Type 0) : Type 0 where
   pub came : List C
   pub queues : QueuesValue C N
 
-abbrev pub arrivals_of : {C N : Type 0} → List C → QueuesValue C N → Arrivals C N
-arrivals_of came queues = record { came = came; queues = queues }
+abbrev pub serving_state_of : {C N : Type 0} → List C → QueuesValue C N → ServingState C N
+serving_state_of came queues = record { came = came; queues = queues }
 
 -- all clients by whom the list of those who came grew were put in their queue, which was closed for so many takers; workers at these posts took some
 -- of them and served them, and their ends of both queues are back
-pub record HaveServed {C R W T S N : Type 0} (words : SessionWords C R W T S N) (posts : Posts T S N) (a b : Arrivals C N) (work : WorkValue R W S N)
+pub record HaveServed {C R W T S N : Type 0} (words : SessionWords C R W T S N) (posts : Posts T S N) (a b : ServingState C N) (work : WorkValue R W S N)
     : Type 0 where
   pub clients : List C
   pub came : b.came ≡ a.came ++ clients

@@ -1,5 +1,5 @@
 -- What clients' sessions do.
-use Rattle.std.specs.Prelude.{◌≡◌, ◌++◌, ◌∷◌, Some, None, List, [], All, Result, Ok, Err, IsPermutation, MatchOption, flat_map, map}
+use Rattle.std.specs.Prelude.{◌≡◌, ◌++◌, ◌∷◌, true, Some, None, List, [], All, Result, Ok, Err, IsPermutation, MatchOption, flat_map, map}
 use Rattle.shelves.specs.Seats.{SeatValue}
 use Rattle.handoff.specs.Ends.{QueueId, TakerValue}
 use Rattle.lines.specs.Streams.{inner_of}
@@ -158,10 +158,11 @@ module _ {C R W T S N : Type 0} (words : SessionWords C R W T S N) where
     pub none_served : sessions ≡ []
     pub closes : MayCloseFrom start
 
-  -- the clients that were taken from this queue, all who came, were served at a seat of these shelves
+  -- clients were taken from this queue until none came, and each that was taken was served at a seat of these shelves
   pub record HaveBeenServed (shelves : T) (queue : QueueId C) (share : TakerValue C × List (Session R W S)) (a b : WorkerState S) : Type 0 where
     pub fits : words.seats.fits shelves b.seat
     pub queue_is : share.0.queue ≡ queue
+    pub over : share.0.over ≡ true
     pub served : AreServed share.0.taken share.1 a b
     pub exact : HoldsNothing a.seat → AreExact share.0.taken share.1 a b
 

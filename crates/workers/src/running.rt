@@ -6,7 +6,7 @@ ghost use Rattle.client_queue.specs.Dealing.{IsExhausted};
 ghost use Rattle.feed_loads.specs.Words.{loads_of, outcomes_of};
 ghost use Rattle.workers.specs.Headline.{SeatsAreReady, IsServerRun, IsUnserved, server_input_of};
 ghost use Rattle.workers.specs.Ordering.{route_to};
-ghost use Rattle.workers.specs.Posts.{AreUnused, HaveServed, arrivals_of, posts_of, queues_of};
+ghost use Rattle.workers.specs.Posts.{AreUnused, HaveServed, serving_state_of, posts_of, queues_of};
 ghost use Rattle.workers.specs.Sessions.{MayBegin, MayClose, work_of, worker_starts};
 ghost use Rattle.workers.specs.Words.{sessions_of};
 
@@ -174,7 +174,7 @@ fn run_in<
         return Err(WorkersFault::NotStarted { clients });
     };
     let takers = seats.len();
-    let (clients, work) = serve_at(
+    let (clients, work) = serve_at_seats(
         scope,
         workplace,
         &mut dealer,
@@ -201,7 +201,7 @@ fn run_in<
 // Has all clients served, by a worker at each of these seats: starts the worker of the last seat, calls itself for the
 // other seats, and joins that worker. Without a seat, it deals all clients and closes their queue for so many takers.
 // Returns the clients' source, and what these workers return.
-fn serve_at<
+fn serve_at_seats<
     's,
     A,
     C: Client<Reader = I, Writer = O> + Drop + Send + 's,
@@ -230,8 +230,8 @@ fn serve_at<
     ensures served { IfOk result (λ left. HaveServed
         (sessions_of workplace.now.form C.words I.words O.words T.words) (posts_of workplace.now.shelves.now
         (worker_starts seats.items (route_to (F.words.named workplace.now.feeds.now) asks.old.queue)) takers)
-        (arrivals_of (K.words.came clients) (queues_of dealer.old asks.old))
-        (arrivals_of (K.words.came left.0) (queues_of dealer.new asks.new))
+        (serving_state_of (K.words.came clients) (queues_of dealer.old asks.old))
+        (serving_state_of (K.words.came left.0) (queues_of dealer.new asks.new))
         (work_of left.1.served left.1.seats.items left.1.asked)) }
 {
     let Some(seat) = seats.pop() else {
@@ -246,7 +246,7 @@ fn serve_at<
     let Some(worker) = start_worker(scope, workplace, dealer, asks, seat) else {
         return Err(WorkersFault::NotStarted { clients });
     };
-    let (source, work) = serve_at(scope, workplace, dealer, asks, clients, seats, takers)?;
+    let (source, work) = serve_at_seats(scope, workplace, dealer, asks, clients, seats, takers)?;
     match join_worker(workplace.rt, worker, dealer, asks, work) {
         Some(work) => Ok((source, work)),
         None => Err(WorkersFault::Lost { clients: source }),

@@ -30,11 +30,11 @@ loop-preserved g c =
     g.F.Files.FeedFiles.words
     g.T.Loads.words g.T.Versions.words.version) in
     let feeds = c.args.self.now.feeds.now in
-    let one = c.load_feed.ensures.carried in
+    let one = c.carry_out.ensures.carried in
     let next = c.in-Some-next.ensures.1 in
     let at_queue = ap (λ (o : LoaderOrdersValue _). o.queue) next ∙ c.loop.invariant.queue in
     let handled = handled_order_of c.in-Some-next.order c.next-in-loop.new.self.taken one.files one.answer in
-    let added = subst (λ (queue : OrderQueueId _). IsCarriedOut (load_input_of words feeds queue) handled c.loop.seat c.load_feed.new.seat) at_queue
+    let added = subst (λ (queue : OrderQueueId _). IsCarriedOut (load_input_of words feeds queue) handled c.loop.seat c.carry_out.new.seat) at_queue
     one.carried in
     let taken = ap (λ (o : LoaderOrdersValue _). o.taken) next in
     let answered = ap (λ (o : LoaderOrdersValue _). record o { taken = handled.taken; answered = o.answered ++ one.answer ∷ [] }) next in
@@ -42,9 +42,9 @@ loop-preserved g c =
       next = tt;
       finite = tt;
       queue = ap (λ (o : LoaderOrdersValue _). o.queue) one.orders_are ∙ at_queue;
-      seat = loader_goes_on _ _ _ _ _ c.loop.invariant.seat c.load_feed.ensures.seat;
-      carried = carries_also _ c.args.seat c.loop.seat c.load_feed.new.seat
-          (loads_value c.loop.orders c.loop.used) (loads_value c.load_feed.new.orders c.load_feed.new.used) handled c.loop.invariant.carried
+      seat = loader_goes_on _ _ _ _ _ c.loop.invariant.seat c.carry_out.ensures.seat;
+      carried = carries_also _ c.args.seat c.loop.seat c.carry_out.new.seat
+          (loads_value c.loop.orders c.loop.used) (loads_value c.carry_out.new.orders c.carry_out.new.used) handled c.loop.invariant.carried
           taken (one.orders_are ∙ answered) one.files_are added;
     }
 

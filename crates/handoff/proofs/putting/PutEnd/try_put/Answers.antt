@@ -17,10 +17,10 @@ pub try_send_as-requires-clause-rule : goal.try_send_as-requires-clause-rule
 try_send_as-requires-clause-rule g c =
     let known = view_of c.self.inside.pass in
     let pass = c.another.new.pass in
-    let arrival = Message.Item c.args.item in
+    let message = Message.Item c.args.item in
     let is : view_of pass ≡ EndView.Putting (items_of known) (tries_of known + 1) = c.another.ensures.rule.0 ∙ ap tried c.self.invariant.2 in (
-      subst (λ n. Pushes g.P.Protocol.holds n pass.id (view_of pass) arrival (IsOneMore (view_of pass) arrival)) (sym c.self.invariant.1)
-          (subst (λ side. Pushes g.P.Protocol.holds _ pass.id side arrival (IsOneMore side arrival)) (sym is)
+      subst (λ n. Pushes g.P.Protocol.holds n pass.id (view_of pass) message (IsOneMore (view_of pass) message)) (sym c.self.invariant.1)
+          (subst (λ side. Pushes g.P.Protocol.holds _ pass.id side message (IsOneMore side message)) (sym is)
           (g.met.P.PutRule.kept.puts pass.id (items_of known) (tries_of known + 1) c.args.item)),
       λ items views holds at. (views, pass.id, holds, at),
     )

@@ -70,6 +70,7 @@ returns-in-None-next-clause-served g c =
     record {
       fits = c.loop.invariant.fits;
       queue_is = ap (λ (taker : TakerValue _). taker.queue) last ∙ c.loop.invariant.queue;
+      over = ap (λ (taker : TakerValue _). taker.over) last;
       served = served;
       exact = λ idle. exact words _ c.loop.served a b idle served;
     }

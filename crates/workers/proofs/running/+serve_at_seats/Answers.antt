@@ -10,7 +10,7 @@ use Rattle.workers.specs.Posts.{IsWorked, PostValue}
 use Rattle.workers.specs.Sessions.{HaveAllServed, MayBegin, worker_start, worker_starts, work_of}
 use Rattle.workers.specs.Words.{sessions_of}
 use Rattle.workers.proofs.Shared.{served_also, served_none}
-use Rattle.workers.proofs.running.+serve_at.Goals as goal
+use Rattle.workers.proofs.running.+serve_at_seats.Goals as goal
 
 -- a worker may begin at the last seat
 pub start_worker-requires-clause-begin : goal.start_worker-requires-clause-begin
@@ -19,8 +19,8 @@ start_worker-requires-clause-begin g t c κs within =
     (All-pop (MayBegin words c.args.workplace.now.shelves.now) _ _ (Some c.in-Some.seat) c.in-Some.ensures.items c.requires.begin).1
 
 -- and at the others
-pub serve_at-requires-clause-begin : goal.serve_at-requires-clause-begin
-serve_at-requires-clause-begin g t c κs within =
+pub serve_at_seats-requires-clause-begin : goal.serve_at_seats-requires-clause-begin
+serve_at_seats-requires-clause-begin g t c κs within =
     let words = sessions_of c.args.workplace.now.form g.C.Client.words g.I.ReadStream.words g.O.WriteStream.words g.T.Versions.words in
     (All-pop (MayBegin words c.args.workplace.now.shelves.now) _ _ (Some c.in-Some.seat) c.in-Some.ensures.items c.requires.begin).0
 
@@ -46,7 +46,7 @@ returns-in-Some-join_worker-clause-served g t c =
     let work = work_of others.work.served others.work.seats.items others.work.asked in
     let joined = c.in-Some-join_worker.work in
     let work_then = work_of joined.served joined.seats.items joined.asked in
-    let taken = c.serve_at.new.dealer.view.taken in
+    let taken = c.serve_at_seats.new.dealer.view.taken in
     let starts = ap (λ list. worker_starts list route) items ∙ map-append (λ s. worker_start s route) seats (seat ∷ []) in
     let queue = ap (λ asks. asks.queue) started.ends.1 in
     let at_route = subst (λ (q : OrderQueueId _). HaveAllServed words taken (worker_starts seats (route_to names q)) work) queue left.served in

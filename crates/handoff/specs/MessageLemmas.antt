@@ -1,4 +1,4 @@
--- How one more arrival changes what waits.
+-- How one more message changes what waits.
 use Rattle.std.proofs.Common.{◌≡◌, ◌∙◌, ◌+◌, ◌++◌, ◌∷◌, ℕ, List, [], refl, ap, arith}
 use Rattle.handoff.specs.Queue.{AreClosedLast, closings_in, waiting_in}
 use Rattle.handoff.specs.declared.queue.Message.{Message}
