@@ -21,6 +21,6 @@ pub use days::MAX_DAYS;
 pub use fault::{OutOfRange, RunsFault};
 pub use listing::runs_of;
 pub use report::Report;
-pub use runs::Run;
+pub use runs::{Run, makes_connections};
 pub use times::{RowTimes, TripTimes, trip_times};
 pub use trip_services::service_indices;

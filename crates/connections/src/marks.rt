@@ -10,7 +10,7 @@ use gtfs_tables::Frequency;
 use std::alloc::{AllocError, Global};
 
 // The greatest number of seconds that are marked. The times of a feed are below 360,000.
-const MOST_SECONDS: u32 = 400_000;
+const MAX_SECONDS: u32 = 400_000;
 
 // Returns the greatest end time of the rows, in seconds after the start of the service day.
 fn end_of(rows: &[Frequency]) -> u32
@@ -40,7 +40,7 @@ pub(crate) fn are_many(rows: &[Frequency]) -> bool {
         starts = starts.saturating_add(starts_at_most(*row));
     }
     let seconds = end_of(rows);
-    seconds <= MOST_SECONDS && starts.saturating_mul(rows.len() as u64) > seconds as u64
+    seconds <= MAX_SECONDS && starts.saturating_mul(rows.len() as u64) > seconds as u64
 }
 
 // Returns a sort key: headway and remainder, which rows with common starts share, then the start time.

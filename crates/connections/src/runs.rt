@@ -37,17 +37,15 @@ pub struct Run {
     pub start: Option<u32>,
 }
 
-// Returns whether a trip makes connections: it isn't a flex trip, and has at least two rows.
-pub(crate) fn makes_connections(trip: &Trip) -> bool
-    requires { trip.now.first ≤ trip.now.end }
+/// Returns whether a trip makes connections: it isn't a flex trip, and has at least two rows.
+pub fn makes_connections(trip: &Trip) -> bool
     ensures { result ≡ makes trip.now }
 {
-    !trip.flex && trip.end - trip.first >= 2
+    !trip.flex && trip.end.saturating_sub(trip.first) >= 2
 }
 
 // Returns whether a trip runs on a day: it makes connections, and its service (by index) is active on the day.
 fn is_running(active: &[bool], service: usize, trip: &Trip) -> bool
-    requires { trip.now.first ≤ trip.now.end }
     ensures { result ≡ (makes trip.now && get_or active.now service false) }
 {
     makes_connections(trip) && active.get(service).copied().unwrap_or(false)
@@ -60,8 +58,7 @@ fn running_on(
     indices: &[usize],
     trips: &[Trip],
 ) -> Result<Vec<bool>, AllocError>
-    requires rising { All (λ trip. trip.first ≤ trip.end) trips.now }
-    requires same { length indices.now ≡ length trips.now }
+    requires { length indices.now ≡ length trips.now }
     ensures len { IfOk result (λ running. length running.items ≡ length trips.now) }
     ensures marked { (feed : JoinedFeed) (day : RunDay) (names : List (List ℕ)) → AreNamed names trips.now indices.now
         → active.now ≡ active_among feed names day

@@ -10,7 +10,7 @@ use Rattle.gtfs_tables.specs.declared.tables.Feed.{Feed}
 use Rattle.service_days.specs.Days.{day_after}
 use Rattle.connections.specs.Days.{days_from}
 use Rattle.feed_days.specs.Days.{day_text, days_after, days_of, first_unlisted, listed_days, trips_text}
-use Rattle.feed_days.specs.Service.{day_number, trips_on}
+use Rattle.feed_days.specs.Service.{day_ordinal, trips_on}
 use Rattle.text_pieces.specs.declared.form.Form.{Form}
 use Rattle.feed_days.specs.declared.span.DaySpan.{DaySpan}
 
@@ -47,7 +47,7 @@ day_more first day n before new is was now =
     now ∙ ap (λ (days : List Day). days ++ day ∷ []) was ∙ ap (λ (d : Day). days_from first n ++ d ∷ []) is ∙ sym (days_more first n)
 
 -- all days are listed
-pub all_listed : (span : DaySpan) (n : ℕ) → day_number span.last ≡ day_number span.first + n → n < 366
+pub all_listed : (span : DaySpan) (n : ℕ) → day_ordinal span.last ≡ day_ordinal span.first + n → n < 366
     → (listed_days span ≡ days_from span.first (n + 1)) × (first_unlisted span ≡ None)
 unfolding listed_days first_unlisted
 all_listed span n is few =
@@ -59,7 +59,7 @@ all_listed span n is few =
     )
 
 -- or there are more
-pub more_listed : (span : DaySpan) → day_number span.first + 366 ≤ day_number span.last
+pub more_listed : (span : DaySpan) → day_ordinal span.first + 366 ≤ day_ordinal span.last
     → (listed_days span ≡ days_from span.first 366) × (first_unlisted span ≡ Some (days_after span.first 366))
 unfolding listed_days first_unlisted
 more_listed span many =

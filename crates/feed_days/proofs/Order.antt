@@ -12,7 +12,7 @@ use Rattle.gtfs_rows.specs.declared.values.Day.{Day}
 use Rattle.service_days.proofs.DayLemmas.{counted_on}
 use Rattle.service_days.specs.Days.{day_after}
 use Rattle.service_days.specs.Services.{is_not_after}
-use Rattle.feed_days.specs.Service.{day_number}
+use Rattle.feed_days.specs.Service.{day_ordinal}
 
 -- a day lies in its year and its month
 pub record IsInMonth (d : Day) : Type 0 where
@@ -68,18 +68,18 @@ pub same_parts : (a b : Day) → a.year ≡ b.year → a.month ≡ b.month → a
 same_parts a b year month day = λ i. record { year = year i; month = month i; day = day i }
 
 -- days that come one before the other have places so
-number_lt : (a b : Day) → IsInMonth a → IsInMonth b → IsBefore a b → day_number a < day_number b
+number_lt : (a b : Day) → IsInMonth a → IsInMonth b → IsBefore a b → day_ordinal a < day_ordinal b
 number_lt a b in_a in_b before =
     elim before.by [
       | inl year ↦ day_count-lt_year (pos a.year) a.month a.day (pos b.year) b.month b.day (civil_date_of a in_a) in_b.day_from (omega (arith, signed_arith))
-      | inr (year, inl month) ↦ (let same : day_count (pos a.year) b.month b.day ≡ day_number b = ap (λ (y : ℕ). day_count (pos y) b.month b.day) year in
+      | inr (year, inl month) ↦ (let same : day_count (pos a.year) b.month b.day ≡ day_ordinal b = ap (λ (y : ℕ). day_count (pos y) b.month b.day) year in
           let less = day_count-lt_month (pos a.year) a.month a.day b.month b.day (civil_date_of a in_a) in_b.day_from month in omega (arith, same, less))
-      | inr (year, inr (month, day)) ↦ (let same : day_count (pos a.year) a.month b.day ≡ day_number b =
+      | inr (year, inr (month, day)) ↦ (let same : day_count (pos a.year) a.month b.day ≡ day_ordinal b =
           ap (λ (y : ℕ). day_count (pos y) a.month b.day) year ∙ ap (λ (m : ℕ). day_count (pos b.year) m b.day) month in
           let e = day_count-day (pos a.year) a.month a.day b.day in_a.day_from in_b.day_from in omega (arith, same, e, day))
     ]
 
-pub not_after_by_number : (a b : Day) → is_civil a ≡ true → is_civil b ≡ true → day_number a ≤ day_number b → is_not_after a b ≡ true
+pub not_after_by_number : (a b : Day) → is_civil a ≡ true → is_civil b ≡ true → day_ordinal a ≤ day_ordinal b → is_not_after a b ≡ true
 not_after_by_number a b one other le =
     elim (cases_Bool (is_not_after a b)) [
       | inl is ↦ is
@@ -87,7 +87,7 @@ not_after_by_number a b one other le =
     ]
 
 -- two civil days with one place are the same
-pub same_number : (a b : Day) → is_civil a ≡ true → is_civil b ≡ true → day_number a ≡ day_number b → a ≡ b
+pub same_number : (a b : Day) → is_civil a ≡ true → is_civil b ≡ true → day_ordinal a ≡ day_ordinal b → a ≡ b
 same_number a b one other e =
     elim (cases_Bool (is_not_after a b)) [
       | inr late ↦ absurd (let lt = number_lt b a (in_month b other) (in_month a one) (before_of b a late) in omega (arith, e, lt))
@@ -97,12 +97,12 @@ same_number a b one other e =
       ]
     ]
 
-pub number_by_not_after : (a b : Day) → is_civil a ≡ true → is_civil b ≡ true → is_not_after a b ≡ true → day_number a ≤ day_number b
+pub number_by_not_after : (a b : Day) → is_civil a ≡ true → is_civil b ≡ true → is_not_after a b ≡ true → day_ordinal a ≤ day_ordinal b
 number_by_not_after a b one other is =
     elim (cases_Bool (is_not_after b a)) [
       | inr late ↦ (let lt = number_lt a b (in_month a one) (in_month b other) (before_of a b late) in omega (arith, lt))
       | inl back ↦ (let same = same_parts a b (grind (arith, nat_tests)) (grind (arith, nat_tests)) (grind (arith, nat_tests)) in
-          let e = ap day_number same in omega (arith, e))
+          let e = ap day_ordinal same in omega (arith, e))
     ]
 
 -- no civil day is before the first of the calendar or after its last
@@ -123,7 +123,7 @@ last_is_most d civil =
 
 -- a place more for a day number more
 pub number_of_number : (d e : Day) → days_from_civil (pos e.year) e.month e.day ≡ days_from_civil (pos d.year) d.month d.day +ℤ pos 1
-    → day_number e ≡ day_number d + 1
+    → day_ordinal e ≡ day_ordinal d + 1
 number_of_number d e more =
     let one = days_from_civil-day_count (pos d.year) d.month d.day in
     let other = days_from_civil-day_count (pos e.year) e.month e.day in
@@ -175,12 +175,12 @@ civil_after d civil other =
 
 -- a day before in the month
 pub before_in_month : (d e : Day) → is_civil d ≡ true → e.year ≡ d.year → e.month ≡ d.month → e.day + 1 ≡ d.day → 1 ≤ e.day
-    → (is_civil e ≡ true) × (day_number e + 1 ≡ day_number d)
+    → (is_civil e ≡ true) × (day_ordinal e + 1 ≡ day_ordinal d)
 before_in_month d e civil year month day some =
     let is = in_month d civil in
     let length : days_in_month (pos e.year) e.month ≡ days_in_month (pos d.year) d.month =
     ap (λ (y : ℕ). days_in_month (pos y) e.month) year ∙ ap (λ (m : ℕ). days_in_month (pos d.year) m) month in
-    let same : day_number e ≡ day_count (pos d.year) d.month e.day =
+    let same : day_ordinal e ≡ day_count (pos d.year) d.month e.day =
     ap (λ (y : ℕ). day_count (pos y) e.month e.day) year ∙ ap (λ (m : ℕ). day_count (pos d.year) m e.day) month in
     let more = day_count-day (pos d.year) d.month e.day d.day some is.day_from in (
       is_civil_in e (record {
@@ -208,7 +208,7 @@ civil_end e year_from year_to month_from month_to day =
       day_to = omega (arith, day);
     })
 
-end_number : (e : Day) → e.day ≡ days_in_month (pos e.year) e.month → day_number e + 1 ≡ day_count (pos e.year) e.month 1 + days_in_month (pos e.year) e.month
+end_number : (e : Day) → e.day ≡ days_in_month (pos e.year) e.month → day_ordinal e + 1 ≡ day_count (pos e.year) e.month 1 + days_in_month (pos e.year) e.month
 end_number e day =
     let bounds = days_in_month_bounds (pos e.year) e.month in
     let more = day_count-day (pos e.year) e.month e.day 1 (omega (arith, bounds, day)) (omega arith) in
@@ -216,25 +216,25 @@ end_number e day =
 
 -- the last day of the month before
 pub before_month : (d e : Day) → d.day ≡ 1 → e.year ≡ d.year → e.month + 1 ≡ d.month → 1 ≤ e.month → e.day ≡ days_in_month (pos e.year) e.month
-    → day_number e + 1 ≡ day_number d
+    → day_ordinal e + 1 ≡ day_ordinal d
 before_month d e first year month some day =
     let end = end_number e day in
     let next = day_count-next_month (pos e.year) e.month some in
-    let same : day_number d ≡ day_count (pos e.year) (e.month + 1) 1 =
+    let same : day_ordinal d ≡ day_count (pos e.year) (e.month + 1) 1 =
     sym (ap (λ (y : ℕ). day_count (pos y) (e.month + 1) 1) year ∙ ap (λ (m : ℕ). day_count (pos d.year) m 1) month
     ∙ ap (λ (n : ℕ). day_count (pos d.year) d.month n) (sym first)) in
     omega (arith, end, next, same)
 
 -- the last day of the year before
 pub before_year : (d e : Day) → d.day ≡ 1 → d.month ≡ 1 → e.year + 1 ≡ d.year → e.month ≡ 12 → e.day ≡ days_in_month (pos e.year) e.month
-    → day_number e + 1 ≡ day_number d
+    → day_ordinal e + 1 ≡ day_ordinal d
 before_year d e first january year month day =
     let long : e.day ≡ 31 = rw month at day in
-    let same : day_number e ≡ day_count (pos e.year) 12 31 =
+    let same : day_ordinal e ≡ day_count (pos e.year) 12 31 =
     ap (λ (m : ℕ). day_count (pos e.year) m e.day) month ∙ ap (λ (n : ℕ). day_count (pos e.year) 12 n) long in
     let end = day_count-last_of_year (pos e.year) in
     let next = day_count-next_year (pos e.year) (pos d.year) (omega (arith, signed_arith)) (omega (arith, signed_arith)) in
-    let is : day_number d ≡ day_count (pos d.year) 1 1 =
+    let is : day_ordinal d ≡ day_count (pos d.year) 1 1 =
     ap (λ (m : ℕ). day_count (pos d.year) m d.day) january ∙ ap (λ (n : ℕ). day_count (pos d.year) 1 n) first in
     omega (arith, same, end, next, is)
 
@@ -249,22 +249,22 @@ pub other_by_parts : (a b : Day) → false ≡ ((a.year == b.year) && ((a.month 
 other_by_parts a b e same =
     false≢true (e ∙ ap (λ (x : Day). (a.year == x.year) && ((a.month == x.month) && (a.day == x.day))) (sym same) ∙ tested_itself a)
 
-pub before_last : (d : Day) → is_civil d ≡ true → day_number d ≤ day_number last_day
+pub before_last : (d : Day) → is_civil d ≡ true → day_ordinal d ≤ day_ordinal last_day
 before_last d civil = number_by_not_after d last_day civil refl (last_is_most d civil)
 
-pub after_first : (d : Day) → is_civil d ≡ true → day_number first_day ≤ day_number d
+pub after_first : (d : Day) → is_civil d ≡ true → day_ordinal first_day ≤ day_ordinal d
 after_first d civil = number_by_not_after first_day d refl civil (first_is_least d civil)
 
 -- the place after that of a civil day
-pub next_number : (d : Day) → is_civil d ≡ true → day_number (day_after d) ≡ day_number d + 1
+pub next_number : (d : Day) → is_civil d ≡ true → day_ordinal (day_after d) ≡ day_ordinal d + 1
 next_number d civil = number_of_number d (day_after d) (counted_on d civil)
 
 -- a day that has another after it has a civil one after it
-pub civil_before : (d e : Day) → is_civil d ≡ true → is_civil e ≡ true → day_number d < day_number e → is_civil (day_after d) ≡ true
+pub civil_before : (d e : Day) → is_civil d ≡ true → is_civil e ≡ true → day_ordinal d < day_ordinal e → is_civil (day_after d) ≡ true
 civil_before d e civil other lt =
-    civil_after d civil (λ last. let most = before_last e other in let same = ap day_number last in omega (arith, lt, most, same))
+    civil_after d civil (λ last. let most = before_last e other in let same = ap day_ordinal last in omega (arith, lt, most, same))
 
-pub number_bound : (d : Day) → is_civil d ≡ true → day_number d ≤ 7_304_849
+pub number_bound : (d : Day) → is_civil d ≡ true → day_ordinal d ≤ 7_304_849
 number_bound d civil = (day_count_bounds (pos d.year) d.month d.day (civil_date_of d (in_month d civil))).1
 
 pub first_by_parts : (d : Day) → is_civil d ≡ true → d.day ≤ 1 → d.month ≤ 1 → d.year ≤ 1 → d ≡ first_day
@@ -272,9 +272,9 @@ first_by_parts d civil day month year =
     let is = in_month d civil in
     same_parts d first_day (omega (arith, is.year_from, year)) (omega (arith, is.month_from, month)) (omega (arith, is.day_from, day))
 
-pub number_below : (a b : Day) → is_civil a ≡ true → is_civil b ≡ true → day_number a ≤ day_number b → (a ≡ b → ⊥) → day_number a < day_number b
+pub number_below : (a b : Day) → is_civil a ≡ true → is_civil b ≡ true → day_ordinal a ≤ day_ordinal b → (a ≡ b → ⊥) → day_ordinal a < day_ordinal b
 number_below a b one other le differ =
-    elim (cases_order (day_number a) (day_number b)) [
+    elim (cases_order (day_ordinal a) (day_ordinal b)) [
       | inr (inl lt) ↦ lt
       | inl same ↦ absurd (differ (same_number a b one other same))
       | inr (inr gt) ↦ absurd (omega (arith, le, gt))

@@ -5,7 +5,7 @@ use Rattle.std.proofs.lemmas.Bool.{cases_Bool, cases_order, false≢true}
 use Rattle.gtfs_rows.specs.Values.{is_civil}
 use Rattle.gtfs_rows.specs.declared.values.Day.{Day}
 use Rattle.service_days.specs.Services.{is_not_after}
-use Rattle.feed_days.specs.Service.{day_number, HoldsOfNone, IsFirst, IsLast, IsSpan, SpansDays}
+use Rattle.feed_days.specs.Service.{day_ordinal, HoldsOfNone, IsFirst, IsLast, IsSpan, SpansDays}
 use Rattle.feed_days.specs.declared.span.DaySpan.{DaySpan}
 use Rattle.feed_days.proofs.Order.{not_after_by_number, not_after_joined, not_after_turned, same_number}
 
@@ -95,12 +95,12 @@ pub record IsOfCivil (test : Day → Bool) : Type 0 where
 
 -- it holds of no civil day before this one, or of none after it
 pub record HoldsFrom (test : Day → Bool) (day : Day) : Type 0 where
-  pub from : (d : Day) → test d ≡ true → day_number day ≤ day_number d
+  pub from : (d : Day) → test d ≡ true → day_ordinal day ≤ day_ordinal d
 
 pub record HoldsTo (test : Day → Bool) (day : Day) : Type 0 where
-  pub to : (d : Day) → test d ≡ true → day_number d ≤ day_number day
+  pub to : (d : Day) → test d ≡ true → day_ordinal d ≤ day_ordinal day
 
-other_number : (test : Day → Bool) (day d : Day) → IsOfCivil test → is_civil day ≡ true → test day ≡ false → test d ≡ true → day_number d ≡ day_number day → ⊥
+other_number : (test : Day → Bool) (day d : Day) → IsOfCivil test → is_civil day ≡ true → test day ≡ false → test d ≡ true → day_ordinal d ≡ day_ordinal day → ⊥
 other_number test day d of civil none is same =
     false≢true (sym none ∙ sym (ap test (same_number d day (of.civil d is) civil same)) ∙ is)
 
@@ -116,20 +116,20 @@ to_found test day of civil is to = record {
   most = λ d holds. not_after_by_number d day (of.civil d holds) civil (to.to d holds);
 }
 
-pub from_next : (test : Day → Bool) (day next : Day) → IsOfCivil test → is_civil day ≡ true → test day ≡ false → day_number next ≡ day_number day + 1
+pub from_next : (test : Day → Bool) (day next : Day) → IsOfCivil test → is_civil day ≡ true → test day ≡ false → day_ordinal next ≡ day_ordinal day + 1
     → HoldsFrom test day → HoldsFrom test next
 from_next test day next of civil none more from = record {
-  from = λ d holds. elim (cases_order (day_number d) (day_number day)) [
+  from = λ d holds. elim (cases_order (day_ordinal d) (day_ordinal day)) [
     | inl same ↦ absurd (other_number test day d of civil none holds same)
     | inr (inl lt) ↦ absurd (let le = from.from d holds in omega (arith, lt, le))
     | inr (inr gt) ↦ omega (arith, gt, more)
   ];
 }
 
-pub to_before : (test : Day → Bool) (day before : Day) → IsOfCivil test → is_civil day ≡ true → test day ≡ false → day_number before + 1 ≡ day_number day
+pub to_before : (test : Day → Bool) (day before : Day) → IsOfCivil test → is_civil day ≡ true → test day ≡ false → day_ordinal before + 1 ≡ day_ordinal day
     → HoldsTo test day → HoldsTo test before
 to_before test day before of civil none more to = record {
-  to = λ d holds. elim (cases_order (day_number d) (day_number day)) [
+  to = λ d holds. elim (cases_order (day_ordinal d) (day_ordinal day)) [
     | inl same ↦ absurd (other_number test day d of civil none holds same)
     | inr (inl lt) ↦ omega (arith, lt, more)
     | inr (inr gt) ↦ absurd (let le = to.to d holds in omega (arith, gt, le))
@@ -145,13 +145,13 @@ none_if test never d =
     ]
 
 pub none_from_last : (test : Day → Bool) (day : Day) → IsOfCivil test → is_civil day ≡ true → test day ≡ false → HoldsFrom test day
-    → ((d : Day) → is_civil d ≡ true → day_number d ≤ day_number day) → HoldsOfNone test
+    → ((d : Day) → is_civil d ≡ true → day_ordinal d ≤ day_ordinal day) → HoldsOfNone test
 none_from_last test day of civil none from last =
     none_if test (λ d is. other_number test day d of civil none is
     (let le = from.from d is in let ge = last d (of.civil d is) in omega (arith, le, ge)))
 
 pub none_to_first : (test : Day → Bool) (day : Day) → IsOfCivil test → is_civil day ≡ true → test day ≡ false → HoldsTo test day
-    → ((d : Day) → is_civil d ≡ true → day_number day ≤ day_number d) → HoldsOfNone test
+    → ((d : Day) → is_civil d ≡ true → day_ordinal day ≤ day_ordinal d) → HoldsOfNone test
 none_to_first test day of civil none to first =
     none_if test (λ d is. other_number test day d of civil none is
     (let le = to.to d is in let ge = first d (of.civil d is) in omega (arith, le, ge)))

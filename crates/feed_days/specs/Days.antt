@@ -8,7 +8,7 @@ use Rattle.service_days.specs.Days.{day_after}
 use Rattle.connections.specs.Days.{days_from}
 use Rattle.text_pieces.specs.declared.form.Form.{Form}
 use Rattle.feed_days.specs.declared.span.DaySpan.{DaySpan}
-use Rattle.feed_days.specs.Service.{HoldsOfNone, IsSpan, day_number, has_service, trips_on}
+use Rattle.feed_days.specs.Service.{HoldsOfNone, IsSpan, day_ordinal, has_service, trips_on}
 
 -- a day as YYYYMMDD
 unfoldable pub date_text : Day → List ℕ
@@ -48,7 +48,7 @@ days_after day (suc n) = day_after (days_after day n)
 
 -- how many days there are from the first to the last, both included
 abbrev pub days_of : DaySpan → ℕ
-days_of span = day_number span.last + 1 - day_number span.first
+days_of span = day_ordinal span.last + 1 - day_ordinal span.first
 
 -- the days that are listed: the first 366, or all if there are fewer
 unfoldable pub listed_days : DaySpan → List Day

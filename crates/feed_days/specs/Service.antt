@@ -58,5 +58,5 @@ abbrev pub trips_on : Feed → Day → ℕ
 trips_on feed day = count_by (runs_on feed day) feed.trips.items
 
 -- the number of a day in the calendar; the day after has the next number
-abbrev pub day_number : Day → ℕ
-day_number d = day_count (pos d.year) d.month d.day
+abbrev pub day_ordinal : Day → ℕ
+day_ordinal d = day_count (pos d.year) d.month d.day

@@ -12,7 +12,7 @@ ghost use Rattle.connections.specs.Runs.{runs_on};
 ghost use Rattle.feed_days.specs.Counting.{AreDated, rides_on};
 ghost use Rattle.feed_days.specs.Service.{trips_on};
 
-use connections::service_indices;
+use connections::{makes_connections, service_indices};
 use gtfs_tables::{Day, Feed, Trip};
 use service_days::{DatedDay, NamedServices, Service, Services};
 use std::alloc::{AllocError, Global};
@@ -60,13 +60,6 @@ fn ride(ridden: &mut Vec<usize>, service: usize, trip: &Trip) -> Result<(), Allo
         ridden.push(service)?;
     }
     Ok(())
-}
-
-// Returns whether a trip makes connections: it isn't a flex trip, and has at least two rows.
-fn makes_connections(trip: &Trip) -> bool
-    ensures { result ≡ makes trip.now }
-{
-    !trip.flex && trip.end.saturating_sub(trip.first) >= 2
 }
 
 fn dated_days(alloc: Global, days: &[Day]) -> Result<Vec<DatedDay>, AllocError>

@@ -3,14 +3,13 @@
 ghost use Rattle.std.specs.Prelude.{◌≡◌, ◌≤◌, ◌+◌, true, false, pos, IfSome, IfNone};
 ghost use Rattle.std.specs.Int.{IsInRange};
 ghost use Rattle.jiff_core.specs.Calendar.{days_in_month};
-ghost use Rattle.jiff_core.specs.Date.{IsYmd};
 ghost use Rattle.gtfs_rows.specs.Values.{is_civil};
 ghost use Rattle.gtfs_rows.specs.declared.values.Day.{Day as CivilDay};
 ghost use Rattle.service_days.specs.Services.{is_not_after};
-ghost use Rattle.feed_days.specs.Service.{day_number};
+ghost use Rattle.feed_days.specs.Service.{day_ordinal};
 
 use gtfs_tables::Day;
-use jiff_core::civil::{Date, days_in_month};
+use jiff_core::civil::days_in_month;
 use service_days::day_after;
 
 /// The first day of the calendar.
@@ -27,23 +26,11 @@ pub const LAST: Day = Day {
     day: 31,
 };
 
-// Returns the day as a date of jiff, if it is a civil day.
-pub fn civil_date(day: Day) -> Option<Date>
-    ensures some { IfSome result (λ date. (is_civil day ≡ true)
-        × IsYmd (pos day.year) (pos day.month) (pos day.day) date) }
-    ensures none { IfNone result (is_civil day ≡ false) }
-{
-    if day.year == 0 || day.year > 9999 || day.month > 12 || day.day > 31 {
-        return None;
-    }
-    Date::new(day.year as i16, day.month as i8, day.day as i8).ok()
-}
-
 // Returns the day after a civil day, unless it is the calendar's last.
 pub fn next_day(day: Day) -> Option<Day>
     requires { is_civil day ≡ true }
-    ensures some { IfSome result (λ next. (is_civil next ≡ true) × (day_number next ≡ day_number day + 1)) }
-    ensures none { IfNone result ((other : CivilDay) → is_civil other ≡ true → day_number other ≤ day_number day) }
+    ensures some { IfSome result (λ next. (is_civil next ≡ true) × (day_ordinal next ≡ day_ordinal day + 1)) }
+    ensures none { IfNone result ((other : CivilDay) → is_civil other ≡ true → day_ordinal other ≤ day_ordinal day) }
 {
     if day == LAST {
         return None;
@@ -54,8 +41,8 @@ pub fn next_day(day: Day) -> Option<Day>
 // Returns the day before a civil day, unless it is the calendar's first.
 pub fn day_before(day: Day) -> Option<Day>
     requires { is_civil day ≡ true }
-    ensures some { IfSome result (λ before. (is_civil before ≡ true) × (day_number before + 1 ≡ day_number day)) }
-    ensures none { IfNone result ((other : CivilDay) → is_civil other ≡ true → day_number day ≤ day_number other) }
+    ensures some { IfSome result (λ before. (is_civil before ≡ true) × (day_ordinal before + 1 ≡ day_ordinal day)) }
+    ensures none { IfNone result ((other : CivilDay) → is_civil other ≡ true → day_ordinal day ≤ day_ordinal other) }
 {
     if day.day > 1 {
         return Some(Day {

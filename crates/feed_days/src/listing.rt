@@ -17,10 +17,10 @@ use std::alloc::{AllocError, Global};
 use text_pieces::{Form, put_number, put_text};
 
 /// How many days are listed at most.
-pub const MOST_DAYS: u32 = 366;
+pub const MAX_LISTED_DAYS: u32 = 366;
 
 /// Returns the lines of a feed's service days: the first and the last day, or `none` for both; then how many trips
-/// run on each day from the first on, for at most `MOST_DAYS` days; and if there are more days up to the last, the
+/// run on each day from the first on, for at most `MAX_LISTED_DAYS`; and if there are more days up to the last, the
 /// first of these. Memory may run out.
 pub fn days_text(alloc: Global, feed: &Feed) -> Result<String, AllocError>
     ensures { IfOk result (λ lines. AreDayLines feed.now (string_bytes lines)) }
@@ -110,7 +110,7 @@ fn list_days(days: &mut Vec<Day>, span: DaySpan) -> Result<Option<Day>, AllocErr
 {
     let mut day = span.first;
     let mut listed = 0;
-    while listed < MOST_DAYS {
+    while listed < MAX_LISTED_DAYS {
         days.push(day)?;
         if day == span.last {
             return Ok(None);

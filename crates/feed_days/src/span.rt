@@ -8,8 +8,9 @@ ghost use Rattle.service_days.specs.Services.{is_added, is_not_after};
 ghost use Rattle.feed_days.specs.Service.{HoldsOfNone, IsFirst, IsLast, SpansDays, give_once, give_weekly};
 ghost use Rattle.feed_days.specs.Service.{gives_once, gives_weekly, has_service};
 
-use crate::dates::{FIRST, LAST, civil_date, day_before, next_day, not_after};
+use crate::dates::{FIRST, LAST, day_before, next_day, not_after};
 use gtfs_tables::{CalendarDateRow, CalendarRow, Day, Exception, Feed};
+use service_days::civil_date;
 
 /// A first and a last day.
 #[derive(Clone, Copy, Debug, PartialEq, Eq)]

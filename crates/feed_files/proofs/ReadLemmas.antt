@@ -3,7 +3,7 @@ use Rattle.std.proofs.Common.{◌≡◌, ◌∙◌, ◌++◌, ◌∷◌, [], ℕ
 use Rattle.std.proofs.Common.{map, take, length, refl, subst, sym, ap, arith, inl, inr}
 use Rattle.std.specs.declared.alloc.Global.{Global}
 use Rattle.std.specs.Prelude.{All, IfSome, option_map, OnOk, ⊤, if◌then◌else◌, ◌==◌, get_or}
-use Rattle.std.proofs.lemmas.List.{append-nil, append_assoc, append_cancel_left, map-append}
+use Rattle.std.proofs.lemmas.List.{length-append, append-nil, append_assoc, append_cancel_left, map-append}
 use Rattle.std.proofs.lemmas.List.Elements.{All-append, All-cons, All-head, All-map, All-nil, All-tail, All-weaker}
 use Rattle.gtfs_rows.specs.FaultNumber.{file_name}
 use Rattle.gtfs_rows.specs.declared.fault.Table.{Table}
@@ -104,16 +104,17 @@ module _ {D : Type 0} {words : FileWords D} where
       → ((before : List (List ℕ)) → failed_by before result ≡ before) → AreReadBy words (table ∷ []) old (Ok s) new
       → AreReadBy words (table ∷ []) old result new
   read_one {old = old} result none read =
-      record { asked = one_of result read.asked; failed = read.failed ∙ sym (none (words.failed old)); holds = read.holds; hash = read.hash }
+      record { asked = one_of result read.asked; failed = read.failed ∙ sym (none (words.failed old)); once = read.once; holds = read.holds; hash = read.hash }
 
   -- one list of files after another
   pub read_then : {S T : Type 0} {s : S} {result : Result T ReadFault} {xs ys : List Table} {old mid new : D}
       → AreReadBy words xs old (Ok s) mid → AreReadBy words ys mid result new → AreReadBy words (xs ++ ys) old result new
-  read_then {result = result} {ys = ys} {mid = mid} {new = new} first second =
+  read_then {result = result} {xs = xs} {ys = ys} {mid = mid} {new = new} first second =
       let later = subst (λ known. AskedFor known ys (words.reads mid) (words.reads new) result) first.holds second.asked in
       record {
         asked = asked_then ys (words.reads new) result first.asked later;
         failed = second.failed ∙ ap (λ names. failed_by names result) first.failed;
+        once = omega (arith, length-append xs ys, first.once, second.once);
         holds = second.holds ∙ first.holds;
         hash = second.hash ∙ first.hash;
       }
@@ -121,14 +122,26 @@ module _ {D : Type 0} {words : FileWords D} where
   -- no further files were read after a fault
   pub read_up_to : {S T : Type 0} {fault : ReadFault} {xs : List Table} {old new : D} (ys : List Table)
       → AreReadBy {T = S} words xs old (Err fault) new → AreReadBy {T = T} words (xs ++ ys) old (Err fault) new
-  read_up_to {fault = faults.Table fault} ys read =
-      record { asked = stopped_before ys read.asked; failed = read.failed; holds = read.holds; hash = read.hash }
-  read_up_to {fault = faults.FileFailed table} ys read =
-      record { asked = stopped_before ys read.asked; failed = read.failed; holds = read.holds; hash = read.hash }
+  read_up_to {fault = faults.Table fault} {xs = xs} ys read =
+      record {
+        asked = stopped_before ys read.asked;
+        failed = read.failed;
+        once = omega (arith, length-append xs ys, read.once);
+        holds = read.holds;
+        hash = read.hash;
+      }
+  read_up_to {fault = faults.FileFailed table} {xs = xs} ys read =
+      record {
+        asked = stopped_before ys read.asked;
+        failed = read.failed;
+        once = omega (arith, length-append xs ys, read.once);
+        holds = read.holds;
+        hash = read.hash;
+      }
 
   pub read_all : {S T : Type 0} {s : S} {t : T} {ts : List Table} {old new : D}
       → AreReadBy words ts old (Ok s) new → AreReadBy words ts old (Ok t) new
-  read_all read = record { asked = read.asked; failed = read.failed; holds = read.holds; hash = read.hash }
+  read_all read = record { asked = read.asked; failed = read.failed; once = read.once; holds = read.holds; hash = read.hash }
 
   -- what each read gave, in two parts
   pub gave_first : {S T : Type 0} {s : S} {result : Result T ReadFault} {xs ys : List Table} {old mid new : D} (content : Content)

@@ -40,6 +40,11 @@ Gives D = D → List ℕ → Option NodeState → MayGive
 abbrev pub Holds : Type 0
 Holds = List ℕ → Option (Option (List ℕ))
 
+-- a disk, and how often it was asked for a file
+pub record DiskUse (D : Type 0) : Type 0 where
+  pub now : D
+  pub asks : ℕ
+
 -- what contracts say of a feed's files
 pub record FileWords (D : Type 0) : Type 1 where
   -- the reads so far, in order, but for those that ended with a fault; an entry before the first read may say where the files are
@@ -47,6 +52,7 @@ pub record FileWords (D : Type 0) : Type 1 where
   pub failed : D → List (List ℕ)  -- the names of the files whose reads failed, in order
   pub holds : D → Holds
   pub may_give : D → MayGive
+  pub asks : D → ℕ  -- how often a disk was asked for a file: at most once by each read
   pub hash : D → Option IdHash  -- the hash by which ids in the files are looked up, if that is known
 
 -- the same of files that stand within others
@@ -56,6 +62,7 @@ words_within inner words = record {
   failed = λ files. words.failed (inner files);
   holds = λ files. words.holds (inner files);
   may_give = λ files. words.may_give (inner files);
+  asks = λ files. words.asks (inner files);
   hash = λ files. words.hash (inner files);
 }
 

@@ -1,5 +1,5 @@
 -- The reads of a feed's files between two moments.
-use Rattle.std.specs.Prelude.{◌≡◌, ◌⊎◌, ◌++◌, ◌∷◌, ℕ, List, [], Result, Ok, Err, All, IfSome, map, take}
+use Rattle.std.specs.Prelude.{◌≡◌, ◌⊎◌, ◌++◌, ◌∷◌, ◌+◌, ◌≤◌, ℕ, List, [], Result, Ok, Err, All, IfSome, length, map, take}
 use Rattle.gtfs_rows.specs.FaultNumber.{file_name}
 use Rattle.gtfs_rows.specs.declared.fault.Table.{Table}
 use Rattle.gtfs_rows.specs.declared.fault.Table.TheVariants as tables
@@ -66,9 +66,10 @@ abbrev pub AskedFor : {T : Type 0} → Holds → List Table → List FileRead �
 AskedFor holds ts old new (Ok t) = AreAsked holds ts old new
 AskedFor holds ts old new (Err fault) = AreSomeAsked holds ts old new
 
--- these files were asked for. Nothing else is known of the files than before, but that the read failed of the file that the result names, if it names one
+-- these files were asked for, each at most once. Nothing else is known of the files than before, but that the read of the file that the result names failed
 pub record AreReadBy {D T : Type 0} (words : FileWords D) (ts : List Table) (old : D) (result : Result T ReadFault) (new : D) : Type 0 where
   pub asked : AskedFor (words.holds old) ts (words.reads old) (words.reads new) result
   pub failed : words.failed new ≡ failed_by (words.failed old) result
+  pub once : words.asks new ≤ words.asks old + length ts
   pub holds : words.holds new ≡ words.holds old
   pub hash : words.hash new ≡ words.hash old

@@ -8,6 +8,7 @@ ghost use Rattle.std_io.specs.declared.io.kind.ErrorKind.TheVariants.{Interrupte
 ghost use Rattle.feed_files.specs.Seen.{DiskEvent, IsInState, found as was_found, found_after, linked, opened, unfound};
 ghost use Rattle.feed_files.specs.Seen.{WasRead, unread};
 
+use crate::folder::ReadPermit;
 use std::alloc::{AllocError, Global};
 use std::fs::{File, Metadata};
 use std::io::Read;
@@ -43,11 +44,26 @@ impl NodeState {
     }
 }
 
+/// What was found at a path. Only [`OpenDisk::find`] makes it, and opening takes it by value: so it is opened once.
+#[derive(Drop)]
+pub struct FoundNode {
+    state: NodeState,
+}
+
+impl FoundNode {
+    // Returns the state in which it was found.
+    pub(crate) fn state(&self) -> NodeState
+        ensures { result ≡ self.now.state }
+    {
+        self.state
+    }
+}
+
 /// Returns the state of what is at a path; none if nothing is found.
 pub fn state_at<D: OpenDisk>(disk: &D, path: &str) -> Option<NodeState>
     ensures { IsInState (D.seen disk.now) path.now result }
 {
-    match disk.find(path) {
+    match disk.look(path) {
         Ok(state) => Some(state),
         Err(_) => None,
     }
@@ -72,20 +88,26 @@ pub trait OpenDisk {
         ensures err { IfErr result (λ error. seen self.now (path_join folder.now name.now) (unfound OutOfMemory)) };
 
     /// Returns the state of what is at a path, or at the end of the link there.
-    fn find(&self, path: &str) -> io::Result<NodeState>
+    fn look(&self, path: &str) -> io::Result<NodeState>
         ensures ok { IfOk result (λ state. seen self.now path.now (was_found state)) }
+        ensures err { IfErr result (λ error. seen self.now path.now (unfound (error_kind error))) };
+
+    /// Returns what is at a path, or at the end of the link there.
+    fn find(&self, path: &str, permit: ReadPermit) -> io::Result<FoundNode>
+        ensures ok { IfOk result (λ found. seen self.now path.now (was_found found.state)) }
         ensures err { IfErr result (λ error. seen self.now path.now (unfound (error_kind error))) };
 
     /// Returns whether there is a link at a path.
     fn is_link(&self, path: &str) -> bool
         ensures { seen self.now path.now (linked result) };
 
-    /// Opens a plain file that was found, at its first byte. Nothing else is opened, so nobody waits for a pipe.
-    fn open_found(&self, path: &str, found: &NodeState) -> io::Result<Self::Opened>
-        requires found { seen self.now path.now (was_found found.now) }
-        requires plain { found.now.is_file ≡ true }
-        ensures ok { IfOk result (λ file. seen self.now path.now (opened found.now (Self.Opened.remaining file))) }
-        ensures err { IfErr result (λ error. seen self.now path.now (unread found.now (error_kind error))) };
+    /// Opens a plain file that was found, at its first byte. Nothing else is opened, so nobody waits for a pipe, unless
+    /// one was put in the file's place since the search.
+    fn open_found(&self, path: &str, found: FoundNode) -> io::Result<Self::Opened>
+        requires found { seen self.now path.now (was_found found.state) }
+        requires plain { found.state.is_file ≡ true }
+        ensures ok { IfOk result (λ file. seen self.now path.now (opened found.state (Self.Opened.remaining file))) }
+        ensures err { IfErr result (λ error. seen self.now path.now (unread found.state (error_kind error))) };
 
     /// Returns the bytes of an opened file, no more than `most` of them.
     fn read_opened(
@@ -134,15 +156,20 @@ impl<H: Files> OpenDisk for H {
         Path::new(folder).join(alloc, name)
     }
 
-    fn find(&self, path: &str) -> io::Result<NodeState> {
+    fn look(&self, path: &str) -> io::Result<NodeState> {
         node_at(self, path)
+    }
+
+    fn find(&self, path: &str, _permit: ReadPermit) -> io::Result<FoundNode> {
+        let state = node_at(self, path)?;
+        Ok(FoundNode { state })
     }
 
     fn is_link(&self, path: &str) -> bool {
         Path::new(path).is_symlink(self)
     }
 
-    fn open_found(&self, path: &str, _found: &NodeState) -> io::Result<H::File> {
+    fn open_found(&self, path: &str, _found: FoundNode) -> io::Result<H::File> {
         File::open(self, path)
     }
 

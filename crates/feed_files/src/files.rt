@@ -1,6 +1,6 @@
 //! The files of a feed, by name.
 
-ghost use Rattle.std.specs.Prelude.{◌≡◌, ℕ, List, Some, IfOk, IfSome, option_map};
+ghost use Rattle.std.specs.Prelude.{◌≡◌, ◌≤◌, ◌+◌, ℕ, List, Some, IfOk, IfSome, option_map};
 ghost use Rattle.gtfs_rows.specs.declared.id_hash.IdHash.{IdHash as Hash};
 ghost use Rattle.feed_files.specs.Files.{FileAnswer, FileWords, failed_also, read_also};
 
@@ -34,6 +34,7 @@ pub trait FeedFiles {
             → words.may_give self.new other answer → words.may_give self.old other answer }
         ensures reads { words.reads self.new ≡ read_also (words.reads self.old) name.now result }
         ensures failed { words.failed self.new ≡ failed_also (words.failed self.old) name.now result }
+        ensures asks { words.asks self.new ≤ words.asks self.old + 1 }
         ensures same { words.holds self.new ≡ words.holds self.old }
         ensures hash { words.hash self.new ≡ words.hash self.old };
 

@@ -58,6 +58,7 @@ impl<'a> FeedFiles for MemoryFiles<'a> {
       failed = λ files. [];
       holds = λ files name. Some (held files.files.now name);
       may_give = λ files name answer. Unit {0};
+      asks = λ files. 0;
       hash = λ files. None;
     } };
 

@@ -1,9 +1,9 @@
 //! Loads a feed: from files to tables, from tables to a feed, from a feed to its image.
 
-ghost use Rattle.std.specs.Prelude.{◌≡◌, ◌≤◌, IfOk, IfErr, OnOk};
+ghost use Rattle.std.specs.Prelude.{◌≡◌, ◌≤◌, ◌+◌, IfOk, IfErr, OnOk, length};
 ghost use Rattle.image_layout.specs.declared.layout.TheConstants.{LAYOUT};
 ghost use Rattle.feed_files.specs.Reading.{Content};
-ghost use Rattle.feed_files.specs.Reads.{AllWereRead, Shows, SomeWereRead};
+ghost use Rattle.feed_files.specs.Reads.{AllWereRead, Shows, SomeWereRead, all_tables};
 ghost use Rattle.connections.specs.declared.days.TheConstants.{MAX_DAYS};
 ghost use Rattle.feed_loader.specs.Faults.{failed_by};
 ghost use Rattle.feed_loader.specs.Refused.{IsLoadEnd, IsLoadRefusal, IsLoaded, IsWantOfMemory};
@@ -24,7 +24,8 @@ use std::alloc::Global;
 /// # Errors
 ///
 /// The first thing that is wrong, in that order. `FileFailed` comes exactly if the read of that file failed in this
-/// call, and then no other read failed. Memory may run out at any time.
+/// call, and then no other read failed. Memory may run out at any time. However it ends, each file is asked for once at
+/// most.
 pub fn load<F: FeedFiles>(
     alloc: Global,
     files: &mut F,
@@ -33,6 +34,7 @@ pub fn load<F: FeedFiles>(
     requires some { 1 ≤ plan.now.days }
     requires few { plan.now.days ≤ MAX_DAYS }
     ensures same { F.words.holds files.new ≡ F.words.holds files.old }
+    ensures once { F.words.asks files.new ≤ F.words.asks files.old + length all_tables }
     ensures failed { F.words.failed files.new ≡ failed_by (F.words.failed files.old) result }
     ensures layout { IfOk result (λ loaded. loaded.0.layout ≡ LAYOUT) }
     ensures all_read { OnOk result (AllWereRead (F.words.reads files.old) (F.words.reads files.new)) }

@@ -75,11 +75,7 @@ fn id_at(ids: &Ids, index: Option<u32>, id: &str) -> Option<u32>
 {
     let index = index?;
     let there = ids.get_index(index as usize)?;
-    if id == there.as_str() {
-        Some(index)
-    } else {
-        None
-    }
+    (id == there.as_str()).then_some(index)
 }
 
 // Returns the index of an id, if the set has it.

@@ -46,11 +46,9 @@ fn keep_new(kept: &mut Ids, text: String) -> Result<(), FaultKind>
         × (list_any (bytes_eq (string_bytes text)) (map string_bytes kept.old.keys) ≡ true)) }
     ensures hash { OnOk result (hasher_of kept.new ≡ hasher_of kept.old) }
 {
-    let (_, is_new) = add_key(kept, text)?;
-    if is_new {
-        Ok(())
-    } else {
-        Err(FaultKind::IdTwice)
+    match add_key(kept, text)? {
+        (_, true) => Ok(()),
+        (_, false) => Err(FaultKind::IdTwice),
     }
 }
 
@@ -72,18 +70,16 @@ fn keep(alloc: Global, kept: &mut Ids, key: Key, records: &Records<'_>) -> Resul
         Key::Column(column) => keep_new(kept, records.owned_text(alloc, column)?),
         Key::Columns(first, second) => {
             let mut text = records.owned_text(alloc, first)?;
-            if text.push_str(records.text(second)).is_err() {
-                return Err(FaultKind::OutOfMemory);
-            }
+            text.push_str(records.text(second))
+                .map_err(|_| FaultKind::OutOfMemory)?;
             keep_new(kept, text)
         }
         Key::Shared(column) => {
             add_key(kept, records.owned_text(alloc, column)?)?;
             if kept.len() > 1 {
-                Err(FaultKind::ZonesDiffer)
-            } else {
-                Ok(())
+                return Err(FaultKind::ZonesDiffer);
             }
+            Ok(())
         }
     }
 }

@@ -96,10 +96,7 @@ impl<'a> Records<'a> {
         if !found {
             return Ok(false);
         }
-        let Some(count) = self.count.checked_add(1) else {
-            return Err(AllocError);
-        };
-        self.count = count;
+        self.count = self.count.checked_add(1).ok_or(AllocError)?;
         Ok(true)
     }
 
@@ -198,10 +195,7 @@ impl<'a> Records<'a> {
     // and the byte order mark and the ends of lines there.
     fn begin(&self) -> usize {
         let bytes = self.lines.bytes;
-        let from = match self.record.position() {
-            Some(position) => position.byte as usize,
-            None => 0,
-        };
+        let from = self.record.position().map_or(0, |at| at.byte as usize);
         let rest = bytes.get(from..).unwrap_or(&[]);
         let text = match rest {
             [0xEF, 0xBB, 0xBF, text @ ..] if from == 0 => text,

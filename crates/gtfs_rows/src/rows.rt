@@ -165,9 +165,7 @@ pub(crate) fn weekly(records: &Records<'_>) -> Result<([bool; 7], Day, Day), Fau
     ensures end { IfOk result (λ v. day_of (shown records.now 9) ≡ Some v.2) }
     ensures fault { result_err result ≡ of_last calendar_fault records.now }
 {
-    let Some(weekdays) = weekdays(records) else {
-        return Err(FaultKind::BadNumber);
-    };
+    let weekdays = weekdays(records).ok_or(FaultKind::BadNumber)?;
     let start = day_in(records, 8)?;
     let end = day_in(records, 9)?;
     Ok((weekdays, start, end))

@@ -104,10 +104,9 @@ fn civil(day: Day) -> Option<Day>
     ensures { result ≡ checked_day day }
 {
     if day.year > 0 && Date::new(day.year as i16, day.month as i8, day.day as i8).is_ok() {
-        Some(day)
-    } else {
-        None
+        return Some(day);
     }
+    None
 }
 
 /// Returns the number of a text: one to nine decimal digits, after which a point and one or more zeros may follow.

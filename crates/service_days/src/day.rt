@@ -95,8 +95,8 @@ pub fn day_after(day: Day) -> Day
     }
 }
 
-// Returns the day as a date of jiff, if it is a civil date of the years 1 to 9999.
-pub(crate) fn civil_date(day: Day) -> Option<Date>
+/// Returns the day as a date of jiff, if it is a civil date of the years 1 to 9999.
+pub fn civil_date(day: Day) -> Option<Date>
     ensures some { IfSome result (λ date. (is_civil day ≡ true) × IsDate day date) }
     ensures none { IfNone result (is_civil day ≡ false) }
 {

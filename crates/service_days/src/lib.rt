@@ -11,7 +11,7 @@ mod named;
 mod services;
 mod zone;
 
-pub use day::{DatedDay, day_after, day_start};
+pub use day::{DatedDay, civil_date, day_after, day_start};
 pub use fault::DayFault;
 pub use named::NamedServices;
 pub use services::{Service, Services, active};

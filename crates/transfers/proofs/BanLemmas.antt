@@ -19,7 +19,7 @@ use Rattle.gtfs_tables.specs.declared.tables.Transfer.{Transfer}
 use Rattle.gtfs_tables.specs.declared.tables.TransferEnd.{TransferEnd}
 use Rattle.gtfs_tables.specs.declared.tables.TransferEnd.TheVariants.{Stop as TheStop, Station as TheStation}
 use Rattle.transfers.specs.declared.bans.Ban.{Ban}
-use Rattle.transfers.specs.Lookup.{station_named}
+use Rattle.transfers.specs.Lookup.{end_station}
 use Rattle.transfers.specs.Bans.{AreBans, HasBans, IsBan, IsVoid, ban_cmp, ban_between, bans_by, bans_in, listed_ban}
 use Rattle.transfers.specs.contracts.bans.BanOrd.TheImpl.{cmp-value}
 use Rattle.transfers.specs.contracts.bans.BanOrd.TheImpl.Laws.{total-law}
@@ -43,10 +43,10 @@ other_kind : (kind : TransferKind) (p q : TransferEnd) (from to : ℕ) → forbi
 other_kind kind p q from to e h = let one : forbids kind ≡ 1 = ap (λ (k : TransferKind). forbids k) h.0 in omega (arith, e, one)
 
 no_station : (stop station : ℕ) → TheStop stop ≡ TheStation station → ⊥
-no_station stop station e = none-some station (ap (λ (p : TransferEnd). station_named p) e)
+no_station stop station e = none-some station (ap (λ (p : TransferEnd). end_station p) e)
 
 same_station : (a b : ℕ) → TheStation a ≡ TheStation b → a ≡ b
-same_station a b e = same_Some a b (ap (λ (p : TransferEnd). station_named p) e)
+same_station a b e = same_Some a b (ap (λ (p : TransferEnd). end_station p) e)
 
 -- whether a transfer does
 decide_by : (kind : TransferKind) (p q : TransferEnd) (from to : ℕ) → IsBanBy kind p q from to ⊎ ¬ IsBanBy kind p q from to

@@ -17,7 +17,7 @@ use Rattle.transfers.specs.declared.claims.Verdict.TheVariants.{Takes}
 use Rattle.transfers.specs.declared.claims.Claim.{Claim}
 use Rattle.transfers.specs.Listed.{stands_for, station_of, station_in, is_station, is_child, is_of, verdict_of}
 use Rattle.transfers.specs.Groups.{IsGroup}
-use Rattle.transfers.specs.Lookup.{stop_named, station_named}
+use Rattle.transfers.specs.Lookup.{end_stop, end_station}
 use Rattle.transfers.specs.Claims.{Adds, ForOneOf, IsPairClaim, IsRowInto, IsNumberedClaim, IsClaimBy, IsSiblingPair, IsSiblingInto, IsRowClaim}
 use Rattle.transfers.specs.Claims.{IsLoopOf, IsStationClaim, IsStopClaim, IsClaimInto, AreStoodFor, AreChildren}
 use Rattle.transfers.specs.Bans.{Unbanned, IsBannedClaim}
@@ -51,11 +51,11 @@ children_are all station stops group = record {
     keyed stop (Some x) at is = at_map (λ (stop : Stop). stop.station) all stop x at ∙ ap (λ (o : Option ℕ). Some o) is
 
 -- a place that names a stop, or a station, is that one
-stop_is : (index : TransferEnd) (stop : ℕ) → stop_named index ≡ Some stop → index ≡ TheStop stop
+stop_is : (index : TransferEnd) (stop : ℕ) → end_stop index ≡ Some stop → index ≡ TheStop stop
 stop_is (TheStop named) stop e = ap (λ (n : ℕ). TheStop n) (same_Some named stop e)
 stop_is (TheStation named) stop e = absurd (none-some stop e)
 
-named_station : (index : TransferEnd) (station : ℕ) → station_named index ≡ Some station → index ≡ TheStation station
+named_station : (index : TransferEnd) (station : ℕ) → end_station index ≡ Some station → index ≡ TheStation station
 named_station (TheStop named) station e = absurd (none-some station e)
 named_station (TheStation named) station e = ap (λ (n : ℕ). TheStation n) (same_Some named station e)
 
@@ -106,17 +106,17 @@ module _ (all : List Stop) (rows : List Transfer) (to key : ℕ) (named : Transf
 
 -- those that lead to a stop itself, and those that lead to a station
 pub adds_to_stop : (all : List Stop) (rows : List Transfer) (to : ℕ) (numbers : List ℕ)
-    → IsGroup (map (λ (row : Transfer). stop_named row.to) rows) to numbers → (old new : List Claim)
+    → IsGroup (map (λ (row : Transfer). end_stop row.to) rows) to numbers → (old new : List Claim)
     → Adds old new (Unbanned all rows (ForOneOf numbers (IsNumberedClaim all rows to)))
     → Adds old new (Unbanned all rows (IsClaimBy all rows (TheStop to) to))
-adds_to_stop all rows to numbers group old new h = adds_group all rows to to (λ p. stop_named p) (TheStop to) numbers group
+adds_to_stop all rows to numbers group old new h = adds_group all rows to to (λ p. end_stop p) (TheStop to) numbers group
     (λ p e. stop_is p to e) refl old new h
 
 pub adds_to_station : (all : List Stop) (rows : List Transfer) (to station : ℕ) (numbers : List ℕ)
-    → IsGroup (map (λ (row : Transfer). station_named row.to) rows) station numbers → (old new : List Claim)
+    → IsGroup (map (λ (row : Transfer). end_station row.to) rows) station numbers → (old new : List Claim)
     → Adds old new (Unbanned all rows (ForOneOf numbers (IsNumberedClaim all rows to)))
     → Adds old new (Unbanned all rows (IsClaimBy all rows (TheStation station) to))
-adds_to_station all rows to station numbers group old new h = adds_group all rows to station (λ p. station_named p) (TheStation station) numbers group
+adds_to_station all rows to station numbers group old new h = adds_group all rows to station (λ p. end_station p) (TheStation station) numbers group
     (λ p e. named_station p station e) refl old new h
 
 module _ (all : List Stop) (station to : ℕ) (children : List ℕ) (they_are : AreChildren all station children) where

@@ -13,20 +13,20 @@ use Rattle.transfers.specs.Counting.{KeepsWhatCounts}
 use Rattle.transfers.specs.Listed.{NamesBelow}
 
 -- the stop, or the station, that an end is
-abbrev pub stop_named : TransferEnd → Option ℕ
-stop_named (TheStop stop) = Some stop
-stop_named (TheStation station) = None
+abbrev pub end_stop : TransferEnd → Option ℕ
+end_stop (TheStop stop) = Some stop
+end_stop (TheStation station) = None
 
-abbrev pub station_named : TransferEnd → Option ℕ
-station_named (TheStop stop) = None
-station_named (TheStation station) = Some station
+abbrev pub end_station : TransferEnd → Option ℕ
+end_station (TheStop stop) = None
+end_station (TheStation station) = Some station
 
 -- the lookup has the bans, the stops grouped by station, and the transfers grouped by the stop or the station that they lead to
 pub record IsLookup (stops : List Stop) (rows : List Transfer) (l : Lookup) : Type 0 where
   pub bans : AreBans rows l.bans.items
   pub children : AreGroups (map (λ stop. stop.station) stops) l.children.keys.items l.children.numbers.items
-  pub into_stops : AreGroups (map (λ row. stop_named row.to) rows) l.into_stops.keys.items l.into_stops.numbers.items
-  pub into_stations : AreGroups (map (λ row. station_named row.to) rows) l.into_stations.keys.items l.into_stations.numbers.items
+  pub into_stops : AreGroups (map (λ row. end_stop row.to) rows) l.into_stops.keys.items l.into_stops.numbers.items
+  pub into_stations : AreGroups (map (λ row. end_station row.to) rows) l.into_stations.keys.items l.into_stations.numbers.items
 
 -- the stops of the feed, and the transfers that are left of it; the lookup is made from these
 abbrev pub stops_in : FeedLookup → List Stop

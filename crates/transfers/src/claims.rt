@@ -17,7 +17,7 @@ use std::alloc::AllocError;
 pub const USUAL_SECS: u32 = 120;
 
 /// The longest time of a transfer, in seconds. A longer one counts as this.
-pub const MOST_SECS: u32 = 86_400;
+pub const MAX_SECS: u32 = 86_400;
 
 /// What in the feed makes a claim. If several sources make claims about an ordered pair of stops, the first of them
 /// in this order counts.
@@ -72,7 +72,7 @@ fn given_or(given: Option<u32>, secs: u32) -> u32
     ensures { result ≡ given_or given secs }
 {
     match given {
-        Some(given) => given.min(MOST_SECS),
+        Some(given) => given.min(MAX_SECS),
         None => secs,
     }
 }

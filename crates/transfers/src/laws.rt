@@ -2,10 +2,10 @@
 
 ghost use Rattle.std.specs.Prelude.{◌≡◌};
 
-use crate::claims::{MOST_SECS, USUAL_SECS};
+use crate::claims::{MAX_SECS, USUAL_SECS};
 
 /// The longest and the usual time of a transfer, in seconds.
 pub fn limits()
-    ensures longest { MOST_SECS ≡ 86400 }
+    ensures longest { MAX_SECS ≡ 86400 }
     ensures usual { USUAL_SECS ≡ 120 }
 {}

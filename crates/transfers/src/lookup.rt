@@ -7,7 +7,7 @@ ghost use Rattle.transfers.specs.Bans.{IsBannedRow, IsVoid, station_at};
 ghost use Rattle.transfers.specs.Claims.{AreStoodFor, AreChildren};
 ghost use Rattle.transfers.specs.Counting.{KeepsWhatCounts};
 ghost use Rattle.transfers.specs.Listed.{NamesBelow, is_station, stands_for, station_of};
-ghost use Rattle.transfers.specs.Lookup.{EndsBelow, IsKnown, IsLookup, stop_named, station_named, stops_in};
+ghost use Rattle.transfers.specs.Lookup.{EndsBelow, IsKnown, IsLookup, end_stop, end_station, stops_in};
 ghost use Rattle.transfers.specs.Lookup.{transfers_in};
 
 use crate::bans::{Ban, bans_of, is_ban};
@@ -52,8 +52,8 @@ fn stations(alloc: Global, stops: &[Stop]) -> Result<Vec<Option<u32>>, AllocErro
 }
 
 // Returns the stop, if the end is one.
-fn stop_named(transfer_end: &TransferEnd) -> Option<u32>
-    ensures { result ≡ stop_named transfer_end.now }
+fn end_stop(transfer_end: &TransferEnd) -> Option<u32>
+    ensures { result ≡ end_stop transfer_end.now }
 {
     match transfer_end {
         TransferEnd::Stop(stop) => Some(*stop),
@@ -62,8 +62,8 @@ fn stop_named(transfer_end: &TransferEnd) -> Option<u32>
 }
 
 // Returns the station, if the end is one.
-fn station_named(transfer_end: &TransferEnd) -> Option<u32>
-    ensures { result ≡ station_named transfer_end.now }
+fn end_station(transfer_end: &TransferEnd) -> Option<u32>
+    ensures { result ≡ end_station transfer_end.now }
 {
     match transfer_end {
         TransferEnd::Stop(_) => None,
@@ -76,14 +76,14 @@ fn ends_named(
     alloc: Global,
     transfers: &[Transfer],
 ) -> Result<(Vec<Option<u32>>, Vec<Option<u32>>), AllocError>
-    ensures stops { IfOk result (λ ends. ends.0.items ≡ map (λ row. stop_named row.to) transfers.now) }
-    ensures stations { IfOk result (λ ends. ends.1.items ≡ map (λ row. station_named row.to) transfers.now) }
+    ensures stops { IfOk result (λ ends. ends.0.items ≡ map (λ row. end_stop row.to) transfers.now) }
+    ensures stations { IfOk result (λ ends. ends.1.items ≡ map (λ row. end_station row.to) transfers.now) }
 {
     let mut stops = Vec::with_capacity(alloc, transfers.len())?;
     let mut stations = Vec::with_capacity(alloc, transfers.len())?;
     for row in transfers {
-        stops.push(stop_named(&row.to))?;
-        stations.push(station_named(&row.to))?;
+        stops.push(end_stop(&row.to))?;
+        stations.push(end_station(&row.to))?;
     }
     Ok((stops, stations))
 }

@@ -48,6 +48,7 @@ impl<'a> FeedFiles for Failing<'a> {
       failed = λ files. files.failed;
       holds = λ files name. None;
       may_give = λ files name answer. Unit {0};
+      asks = λ files. ⟦<MemoryFiles<'a> as FeedFiles>⟧.words.asks files.files;
       hash = λ files. None;
     } };
 

@@ -5,7 +5,7 @@ ghost use Rattle.std.specs.Prelude.{◌<◌};
 use super::failing::{Failing, ORDER};
 use feed_files::{
     Disk, FeedFiles, FileFault, FolderFiles, MemoryFiles, NodeState, ReadFault, file_up_to,
-    read_tables,
+    read_tables, state_at,
 };
 use gtfs_tables::{FaultKind, IdHash, Table, TableFault, Tables, join};
 use std::alloc::{AllocError, Global};
@@ -352,6 +352,71 @@ fn a_change_in_the_same_second_is_seen(rt: HostRuntime) -> Result<(), Fail> {
     fs::remove_file(&rt, "changed_again/agency.txt")?;
     fs::remove_file(&rt, "changed_again/stops.txt")?;
     fs::remove_dir(&rt, "changed_again")?;
+    assert!(rt; is_seen);
+    Ok(())
+}
+
+// Writes the same bytes into a file and restores the time of its last change, again and again. Returns whether this is
+// seen within a second.
+fn is_rewrite_seen(rt: &HostRuntime, path: &str) -> Result<bool, Fail> {
+    for _ in 0..100_000 {
+        let (metadata, state) = (fs::metadata(rt, path)?, state_at(rt, path));
+        fs::write(rt, path, STOPS)?;
+        let file = fs::OpenOptions::new().write(true).open(rt, path)?;
+        file.set_modified(metadata.modified()?)?;
+        let now = fs::metadata(rt, path)?;
+        let is_restored = (now.mtime(), now.mtime_nsec())
+            == (metadata.mtime(), metadata.mtime_nsec());
+        if is_restored && now.ctime() == metadata.ctime() && state_at(rt, path) != state {
+            return Ok(true);
+        }
+    }
+    Ok(false)
+}
+
+// Whether two files of equal length that changed at the same instant are told apart.
+fn are_told_apart(rt: &HostRuntime, first: &str, second: &str) -> Result<bool, Fail> {
+    for _ in 0..100_000 {
+        fs::write(rt, first, STOPS)?;
+        fs::write(rt, second, STOPS)?;
+        let (one, other) = (fs::metadata(rt, first)?, fs::metadata(rt, second)?);
+        if (one.ctime(), one.ctime_nsec()) == (other.ctime(), other.ctime_nsec()) {
+            return Ok(state_at(rt, first) != state_at(rt, second));
+        }
+    }
+    Ok(false)
+}
+
+// A file in another one's place isn't taken for it, though neither its length nor the time of its last change differs.
+#[test]
+fn files_of_one_instant_are_told_apart(rt: HostRuntime) -> Result<(), Fail> {
+    write_folder(&rt, "of_one_instant", &[("stops.txt", STOPS)])?;
+    let are_two = are_told_apart(&rt, "of_one_instant/stops.txt", "of_one_instant/next.txt")?;
+    fs::remove_file(&rt, "of_one_instant/stops.txt")?;
+    fs::remove_file(&rt, "of_one_instant/next.txt")?;
+    fs::remove_dir(&rt, "of_one_instant")?;
+    assert!(rt; are_two);
+    Ok(())
+}
+
+// Only an error that means that there is no file counts as that: here the path is too long for the system.
+#[test]
+fn a_path_that_is_too_long_is_no_missing_file(rt: HostRuntime) -> Result<(), Fail> {
+    let mut folder = String::new(rt.alloc());
+    for _ in 0..300 {
+        folder.push_str("x")?;
+    }
+    assert!(rt; length_of(&rt, &folder, "stops.txt") == Err(FileFault::Failed));
+    Ok(())
+}
+
+// A file that is written again isn't as it was, though its length and the time of its last change are.
+#[test]
+fn a_change_with_its_time_restored_is_seen(rt: HostRuntime) -> Result<(), Fail> {
+    write_folder(&rt, "written_again", &[("stops.txt", STOPS)])?;
+    let is_seen = is_rewrite_seen(&rt, "written_again/stops.txt")?;
+    fs::remove_file(&rt, "written_again/stops.txt")?;
+    fs::remove_dir(&rt, "written_again")?;
     assert!(rt; is_seen);
     Ok(())
 }

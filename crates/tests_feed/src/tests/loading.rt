@@ -116,6 +116,7 @@ impl<F: FeedFiles> FeedFiles for Hashed<F> {
       failed = λ hashed. F.words.failed hashed.files;
       holds = λ hashed. F.words.holds hashed.files;
       may_give = λ hashed. F.words.may_give hashed.files;
+      asks = λ hashed. F.words.asks hashed.files;
       hash = λ hashed. Some hashed.hash;
     } };
 

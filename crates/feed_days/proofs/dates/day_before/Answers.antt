@@ -1,6 +1,6 @@
 use Rattle.std.proofs.Common.{◌≡◌, ◌≤◌, ◌<◌, ◌+◌, ◌-◌, arith, refl, subst, sym}
 use Rattle.gtfs_rows.specs.declared.values.Day.{Day}
-use Rattle.feed_days.specs.Service.{day_number}
+use Rattle.feed_days.specs.Service.{day_ordinal}
 use Rattle.feed_days.proofs.Order.{after_first, before_in_month, before_month, before_year, civil_end, first_by_parts, in_month}
 use Rattle.feed_days.proofs.dates.day_before.Goals as goal
 
@@ -38,6 +38,6 @@ returns-then-day-gt1-3-clause-some c =
 
 pub returns-clause-none : goal.returns-clause-none
 returns-clause-none c other civil =
-    subst (λ (d : Day). day_number d ≤ day_number other)
+    subst (λ (d : Day). day_ordinal d ≤ day_ordinal other)
     (sym (first_by_parts c.args.day c.requires (omega (arith, c.if-day-gt1.false)) (omega (arith, c.if-day-gt1-2.false)) (omega (arith, c.if-day-gt1-3.false))))
     (after_first other civil)

@@ -1,7 +1,7 @@
 use Rattle.std.proofs.Common.{◌≡◌, ◌∙◌, ap, arith, sym}
 use Rattle.std.specs.Prelude.{Some}
 use Rattle.gtfs_rows.specs.declared.values.Day.{Day}
-use Rattle.feed_days.specs.Service.{day_number}
+use Rattle.feed_days.specs.Service.{day_ordinal}
 use Rattle.feed_days.proofs.Listed.{after_more, after_none, all_listed, day_more, more_listed, none_yet}
 use Rattle.feed_days.proofs.Order.{civil_before, next_number, number_below, number_by_not_after, other_by_parts, same_by_parts}
 use Rattle.feed_days.proofs.listing.list_days.Goals as goal
@@ -19,7 +19,7 @@ loop-listed-init c = record {
 pub returns-then-eq-clause-days : goal.returns-then-eq-clause-days
 returns-then-eq-clause-days c =
     let is = c.loop-listed.invariant in
-    let same = ap day_number (same_by_parts c.loop-listed.day c.args.span.last c.if-eq.ensures) in
+    let same = ap day_ordinal (same_by_parts c.loop-listed.day c.args.span.last c.if-eq.ensures) in
     let all = all_listed c.args.span c.loop-listed.listed (omega (arith, same, is.index)) c.loop-listed-test.true in
     day_more c.args.span.first c.loop-listed.day c.loop-listed.listed c.loop-listed.days.items c.push.new.self.items is.day is.days c.in_ok-push.ensures.items
     ∙ sym all.0
@@ -27,7 +27,7 @@ returns-then-eq-clause-days c =
 pub returns-then-eq-clause-unlisted : goal.returns-then-eq-clause-unlisted
 returns-then-eq-clause-unlisted c =
     let is = c.loop-listed.invariant in
-    let same = ap day_number (same_by_parts c.loop-listed.day c.args.span.last c.if-eq.ensures) in
+    let same = ap day_ordinal (same_by_parts c.loop-listed.day c.args.span.last c.if-eq.ensures) in
     sym (all_listed c.args.span c.loop-listed.listed (omega (arith, same, is.index)) c.loop-listed-test.true).1
 
 pub loop-listed-preserved : goal.loop-listed-preserved

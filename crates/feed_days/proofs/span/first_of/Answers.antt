@@ -1,5 +1,5 @@
 use Rattle.std.proofs.Common.{◌-◌, ◌<◌, arith, sym}
-use Rattle.feed_days.specs.Service.{HoldsOfNone, day_number, gives_weekly}
+use Rattle.feed_days.specs.Service.{HoldsOfNone, day_ordinal, gives_weekly}
 use Rattle.feed_days.proofs.Order.{number_bound}
 use Rattle.feed_days.proofs.Rows.{starts, weekly_civil, weekly_to}
 use Rattle.feed_days.proofs.Spans.{from_found, from_next, if_none, none_from_end, none_from_last}
@@ -25,7 +25,7 @@ pub loop-day-smaller : goal.loop-day-smaller
 loop-day-smaller c =
     let more = c.in_ok-day.ensures.some.1 in
     let bound = number_bound c.in_ok-day.day c.in_ok-day.ensures.some.0 in
-    let less : 7_304_850 - day_number c.in_ok-day.day < 7_304_850 - day_number c.loop-day.day = omega (arith, more, bound) in
+    let less : 7_304_850 - day_ordinal c.in_ok-day.day < 7_304_850 - day_ordinal c.loop-day.day = omega (arith, more, bound) in
     less
 
 pub loop-day-preserved : goal.loop-day-preserved

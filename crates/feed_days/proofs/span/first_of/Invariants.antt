@@ -1,6 +1,6 @@
 use Rattle.std.proofs.Common.{◌≡◌, ◌-◌, true}
 use Rattle.gtfs_rows.specs.Values.{is_civil}
-use Rattle.feed_days.specs.Service.{day_number, gives_weekly}
+use Rattle.feed_days.specs.Service.{day_ordinal, gives_weekly}
 use Rattle.feed_days.proofs.Spans.{HoldsFrom}
 use Rattle.feed_days.proofs.span.first_of.Given as goal
 
@@ -12,4 +12,4 @@ invariant-loop-day l = record {
 }
 
 abbrev pub decreases-loop-day : goal.decreases-loop-day
-decreases-loop-day l = 7_304_850 - day_number l.day
+decreases-loop-day l = 7_304_850 - day_ordinal l.day

@@ -45,7 +45,7 @@ returns-in_err-dates-clause-err g c content gave fine =
 
 pub returns-in-None-None-clause-read : goal.returns-in-None-None-clause-read
 returns-in-None-None-clause-read g c = let both = read_then c.in_ok-calendar.ensures.read c.in_ok-dates.ensures.read in
-    record { asked = (2, both.asked); failed = both.failed; holds = both.holds; hash = both.hash }
+    record { asked = (2, both.asked); failed = both.failed; once = both.once; holds = both.holds; hash = both.hash }
 
 pub returns-in-None-Some-clause-ok : goal.returns-in-None-Some-clause-ok
 returns-in-None-Some-clause-ok g c content gave =

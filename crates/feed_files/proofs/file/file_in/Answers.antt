@@ -1,7 +1,7 @@
 -- The fault of the file at the path is that of the file in the folder.
 use Rattle.std.proofs.Common.{◌∙◌, inl, subst}
 use Rattle.feed_files.specs.Seen.{IsFaultAt}
-use Rattle.feed_files.proofs.folder.file_up_to.Goals as goal
+use Rattle.feed_files.proofs.file.file_in.Goals as goal
 
 pub returns : goal.returns
 returns g c =
