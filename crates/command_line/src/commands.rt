@@ -214,7 +214,7 @@ const STATIONS_OF_FEED: [Argument; 2] = [
     Argument::MaybeWord(
         "text",
         "TEXT",
-        "A part of an id or a name, in any case and without accents; without it all stations are listed",
+        "A part of an id or a name; case and accents do not matter; without it all stations are listed",
     ),
     Argument::Flag("json", "Print an array of JSON"),
 ];
@@ -225,13 +225,22 @@ const OUT: [Argument; 1] = [Argument::Positional(
     "The file to which the image is written (- is a file name here)",
 )];
 
-/// The service days of a feed, and its zone.
-const DAYS: [Argument; 3] = [
-    Argument::Option(
-        "first",
-        "DAY",
-        "The first service day: YYYYMMDD, or today, by the clock in --zone at each load, or today-1 for the day before",
-    ),
+/// The first service day of a feed that is built.
+const FIRST: [Argument; 1] = [Argument::Option(
+    "first",
+    "DAY",
+    "The first service day: YYYYMMDD, or today, by the clock in --zone, or today-1 for the day before",
+)];
+
+/// The first service day of feeds that are loaded.
+const FIRST_OF_LOADS: [Argument; 1] = [Argument::Option(
+    "first",
+    "DAY",
+    "The first service day: YYYYMMDD, or today, by the clock in --zone at each load, or today-1 for the day before",
+)];
+
+/// How many service days there are, and a feed's zone.
+const DAYS: [Argument; 2] = [
     Argument::Option("days", "N", "How many service days, 1 to 14"),
     Argument::Option(
         "zone",
@@ -399,7 +408,9 @@ const OTHER_TASKS: [Task; 6] = [
         name: "build",
         about: "Builds the image of a GTFS feed, and prints its counts",
         notes: texts::BUILD,
-        arguments: &[&FOLDER, &OUT, &DAYS, &BUILD, &FAULTS, &JSON, &WARNINGS],
+        arguments: &[
+            &FOLDER, &OUT, &FIRST, &DAYS, &BUILD, &FAULTS, &JSON, &WARNINGS,
+        ],
     },
     Task {
         name: "upgrade",
@@ -411,7 +422,7 @@ const OTHER_TASKS: [Task; 6] = [
         name: "serve",
         about: "Serves sessions over TCP at 127.0.0.1, and loads feeds while it does",
         notes: texts::SERVE,
-        arguments: &[&SERVER, &DAYS],
+        arguments: &[&SERVER, &FIRST_OF_LOADS, &DAYS],
     },
 ];
 

@@ -1,7 +1,7 @@
 //! What the help prints below the arguments of each command.
 
 /// The program's version, as `--version` prints it.
-pub(crate) const VERSION: &str = "1.20.0";
+pub(crate) const VERSION: &str = "1.21.0";
 
 pub(crate) const STATUSES: &str = "Exit status:\n\
 \x20 0   accepted\n\
@@ -41,6 +41,7 @@ With --json: {\"base\":1705276800,\"bytes\":188,\"connections\":3,\"footpaths\":
 pub(crate) const STOPS: &str =
     "Each line is the number of a stop in the image, from 0 on, and its stop_id: 0 A\n\
 With --json: [{\"id\":\"A\",\"number\":0},{\"id\":\"B\",\"number\":1},{\"id\":\"C\",\"number\":2}]\n\
+An image has no names: csa stations finds the stop_ids of a feed by name.\n\
 \n\
 Example: csa stops examples/base.csa";
 
@@ -160,7 +161,8 @@ between them, trips, walked (blank if the criterion does not count them); a pair
 Standard output has one line, `targets N sources N`, or the table if OUT is -.\n\
 If a line of a FILE has what is not a stop_id of the image, standard error has its number and that text, and the\n\
 status is 2; if a FILE has no line, a line twice, or a stop_id twice in a line, it is 64.\n\
-A line of --to takes a scan, or two if --until is not --by; --by with the value of --until takes one.\n\
+A line of --to takes a scan from all stops, or two if --until is not --by; a line of --from takes none.\n\
+Each thread has the answers of one scan in memory; the criterion arrival takes least, for the same means.\n\
 Warnings are those of `csa departures`.\n\
 \n\
 Example: csa matrix examples/base.csa - --to targets --after 08:00:00 --until 08:12:00 --by 10:00:00 \
@@ -204,7 +206,8 @@ Standard error has a line for each load, and what is wrong with a feed that is r
 with the instant in UTC and the seconds that it took:\n\
 \x20 2024-01-15T06:00:00Z session 1 began\n\
 \x20 2024-01-15T06:00:00Z session 1 ended requests 4 seconds 0.250 slowest seconds 0.020\n\
-\x20     (ended: every request was answered; failed: a read or a write failed; spent: it sent too many requests)\n\
+\x20     (ended: every request was answered; spent: it sent too many requests; failed: its connection broke,\n\
+\x20     a line was longer than 16 MiB, or --idle ended it)\n\
 \x20 2024-01-15T06:00:00Z load slow version 2 runs 2 connections 3 seconds 0.015\n\
 \x20 2024-01-15T06:00:00Z load slow refused 8 seconds 0.001\n\
 With --idle SECS a session also ends if the first byte that its client sends is a capital letter, as in HTTP\n\

@@ -1,5 +1,5 @@
 -- Stops shown one by one.
-use Rattle.std.proofs.Common.{◌≡◌, ◌<◌, ◌+◌, ℕ, zero, suc, true, false, List, [], ◌∷◌, ◌++◌, Contains, length}
+use Rattle.std.proofs.Common.{◌≡◌, ◌<◌, ◌+◌, ℕ, zero, suc, true, false, List, [], ◌∷◌, ◌++◌, Option, Contains, length}
 use Rattle.std.proofs.Common.{map, filter, refl, sym, ◌∙◌, ap, subst, append_assoc, arith}
 use Rattle.std.specs.List.{AllZip, flat_map, range_with_len}
 use Rattle.std.proofs.lemmas.Grind.{flat_map-append}
@@ -10,21 +10,25 @@ use Rattle.std.proofs.lemmas.Slice.Zip.{all_zipped_more}
 use Rattle.criteria.specs.Laws.{Rules}
 use Rattle.criteria.specs.declared.figures.Figures.{Figures}
 use Rattle.image_layout.specs.Image.{ImageValue}
-use Rattle.profile_scan.specs.SetQuery.{SetQueryValue, IsAnswerBetween, secs_of}
+use Rattle.scan_state.specs.SetQuery.{SetQueryValue, IsAnswerBetween, secs_of}
 use Rattle.profile_scan.specs.Everywhere.{AnswerToAny, asked_to_any, criterion_to_any, listed_to_any, walk_to_any}
-use Rattle.profile_scan.specs.Origins.{from_stop}
-use Rattle.profile_scan.specs.ScanRecords.{KeptValue}
+use Rattle.scan_state.specs.Origins.{from_stop}
+use Rattle.scan_state.specs.ScanRecords.{KeptValue}
 use Rattle.profile_scan.specs.declared.to_any.ProfilesToAny.{ProfilesToAny}
 use Rattle.bags.specs.declared.point.Point.{Point}
 use Rattle.timetable.specs.TimetableValue.{TimetableValue}
 use Rattle.journeys.specs.Answer.{point_of}
 use Rattle.journeys.specs.Extracted.{AttainsBetween}
 use Rattle.journeys.specs.declared.answering.Departure.{Departure}
+use Rattle.image_facts.specs.Naming.{stop_bytes}
+use Rattle.text_pieces.specs.declared.form.Form.{Form}
+use Rattle.departure_lines.specs.Lines.{ArePoints, journeys_text}
 use Rattle.departure_lines.specs.Showing.{AddsStops, HasJourneys, IsInForm, IsShownFrom, ShowsStop}
-use Rattle.departure_lines.specs.Showing.{is_shown, one_if_some, shown_stops}
+use Rattle.departure_lines.specs.Showing.{is_shown, journeys_form, one_if_some, points_form, shown_stops}
 use Rattle.command_requests.specs.declared.requests.DeparturesForm.{DeparturesForm}
 use Rattle.departure_lines.specs.declared.stop_lines.StopCounts.{StopCounts}
 use Rattle.departure_lines.specs.declared.stop_lists.WantedStops.{WantedStops}
+use Rattle.departure_lines.specs.declared.stop_words.PointsForm.{PointsForm}
 
 -- numbers counted up, and the next
 counted_more : (a n j : ℕ) → a + n ≡ j → range_with_len a (suc n) ≡ range_with_len a n ++ j ∷ []
@@ -108,6 +112,24 @@ module _ {V : Type 0} (figures : V → Figures) (rules : Rules V) (form : Depart
     where
       regroup : (a b c : List ℕ) → (a ++ b) ++ c ≡ a ++ (b ++ c)
       regroup a b c = append_assoc a b c
+
+module _ {V : Type 0} (figures : V → Figures) (rules : Rules V) where
+  -- texts in each form are what the form of the command asks for
+  pub points_in_form : (form : PointsForm) (image : ImageValue) (b : SetQueryValue) (stop : ℕ) (points : List (Point V)) (walk : Option ℕ)
+      (text : List ℕ) → ArePoints figures form (stop_bytes image.names stop) points walk text
+      → IsInForm figures rules (points_form form) image b stop points walk text
+  points_in_form (PointsForm.Each Form.Lines) image b stop points walk text are = are
+  points_in_form (PointsForm.Each Form.Json) image b stop points walk text are = are
+  points_in_form (PointsForm.Summary Form.Lines) image b stop points walk text are = are
+  points_in_form (PointsForm.Summary Form.Json) image b stop points walk text are = are
+
+  pub journeys_in_form : (form : Form) (image : ImageValue) (b : SetQueryValue) (stop : ℕ) (points : List (Point V)) (walk : Option ℕ)
+      (text : List ℕ)
+      → HasJourneys rules image.timetable (from_stop b stop) points
+      (λ departures. text ≡ journeys_text figures form (stop_bytes image.names stop) departures walk)
+      → IsInForm figures rules (journeys_form form) image b stop points walk text
+  journeys_in_form Form.Lines image b stop points walk text has = has
+  journeys_in_form Form.Json image b stop points walk text has = has
 
 -- the text of a stop's points, without journeys
 pub points_shown : {K L V : Type 0} {c : _} {value : L → KeptValue V} (rules_of : K → Rules V) (figures : V → Figures) (form : DeparturesForm)

@@ -2,14 +2,8 @@
 use Rattle.std.proofs.Common.{◌≡◌, ◌<◌, ◌-◌, ℕ, List, Option, length, map, get_or, refl, ◌∙◌, ap, arith}
 use Rattle.std.proofs.lemmas.Option.{slice_get_read}
 use Rattle.bags.specs.declared.point.Point.{Point}
-use Rattle.criteria.specs.Laws.{Rules}
 use Rattle.criteria.specs.declared.figures.Figures.{Figures}
-use Rattle.image_layout.specs.Image.{ImageValue}
-use Rattle.profile_scan.specs.SetQuery.{SetQueryValue}
-use Rattle.image_facts.specs.Naming.{stop_bytes}
-use Rattle.text_pieces.specs.declared.form.Form.{Form}
-use Rattle.departure_lines.specs.Lines.{IsLeast, IsSummary, IsSummaryOf, travel}
-use Rattle.departure_lines.specs.Showing.{IsInForm, summary_form}
+use Rattle.departure_lines.specs.Lines.{IsLeast, IsSummaryOf, travel}
 use Rattle.departure_lines.specs.declared.stop_words.StopSummary.{StopSummary}
 
 pub summed : {V : Type 0} (figures : V → Figures) (points : List (Point V)) (walk : Option ℕ) (first last : Point V) (from to least : ℕ)
@@ -26,10 +20,3 @@ summed figures points walk first last from to least some begins ends is from_is 
       least_is = is;
       is = ap (λ n. made n to) from_is ∙ ap (λ n. made first.departure n) to_is;
     }
-
--- a summary is in the form of summaries
-pub summary_in_form : {V : Type 0} (figures : V → Figures) (rules : Rules V) (form : Form) (image : ImageValue) (b : SetQueryValue) (stop : ℕ)
-    (points : List (Point V)) (walk : Option ℕ) (text : List ℕ) → IsSummary figures form (stop_bytes image.names stop) points walk text
-    → IsInForm figures rules (summary_form form) image b stop points walk text
-summary_in_form figures rules Form.Lines image b stop points walk text is = is
-summary_in_form figures rules Form.Json image b stop points walk text is = is

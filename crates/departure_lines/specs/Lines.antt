@@ -1,13 +1,15 @@
 -- The lines of the best departures from a stop.
 use Rattle.std.specs.Prelude.{◌≡◌, ◌-◌, ◌≤◌, ℕ, List, [], ◌++◌, Option, None, Some, MatchOption, Contains, codes, decimal, length, map}
 use Rattle.std.specs.Prelude.{slice_get}
+use Rattle.std.specs.List.{flat_map}
 use Rattle.bags.specs.declared.point.Point.{Point}
 use Rattle.criteria.specs.declared.figures.Figures.{Figures}
 use Rattle.timetable.specs.Clocks.{clock_bytes}
 use Rattle.journeys.specs.declared.answering.Departure.{Departure}
 use Rattle.text_pieces.specs.declared.form.Form.{Form}
-use Rattle.departure_lines.specs.Json.{sum_json}
+use Rattle.departure_lines.specs.Json.{journey_json, json_if_some, point_json, sum_json}
 use Rattle.departure_lines.specs.Words.{departure_line, numbered_text, values_text, walk_word}
+use Rattle.departure_lines.specs.declared.stop_words.PointsForm.{PointsForm}
 use Rattle.departure_lines.specs.declared.stop_words.StopSummary.{StopSummary}
 
 -- the line of a best departure from a stop, after the stop_id
@@ -57,6 +59,17 @@ SumsUp figures points walk summary = MatchOption summary (length points ≡ 0) (
 abbrev pub IsSummary : {V : Type 0} → (V → Figures) → Form → List ℕ → List (Point V) → Option ℕ → List ℕ → Type 0
 IsSummary figures form name points walk text =
     (summary : Option StopSummary) × SumsUp figures points walk summary × (text ≡ summary_text form name summary)
+
+-- departures from a stop, with their journeys: lines, or a line of JSON, which has the seconds of the direct footpath too
+abbrev pub journeys_text : {V : Type 0} → (V → Figures) → Form → List ℕ → List (Departure V) → Option ℕ → List ℕ
+journeys_text figures Form.Lines name departures walk = flat_map (line_from figures name) departures
+journeys_text figures Form.Json name departures walk = json_if_some name (map (journey_json figures) departures) walk
+
+-- the text is that of a stop's points, without journeys
+abbrev pub ArePoints : {V : Type 0} → (V → Figures) → PointsForm → List ℕ → List (Point V) → Option ℕ → List ℕ → Type 0
+ArePoints figures (PointsForm.Each Form.Lines) name points walk text = text ≡ flat_map (point_line figures name) points
+ArePoints figures (PointsForm.Each Form.Json) name points walk text = text ≡ json_if_some name (map (point_json figures) points) walk
+ArePoints figures (PointsForm.Summary form) name points walk text = IsSummary figures form name points walk text
 
 -- the last line: how many stops have a line, how many points, and how many connections were read
 unfoldable pub counts_line : ℕ → ℕ → ℕ → List ℕ

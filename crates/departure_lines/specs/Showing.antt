@@ -9,19 +9,20 @@ use Rattle.timetable.specs.declared.network.Footpath.{Footpath}
 use Rattle.image_layout.specs.Image.{ImageValue}
 use Rattle.image_facts.specs.Naming.{stop_bytes}
 use Rattle.text_pieces.specs.declared.form.Form.{Form}
-use Rattle.profile_scan.specs.SetQuery.{SetQueryValue, IsAnswerBetween, IsDirectWalk, secs_of}
-use Rattle.profile_scan.specs.Origins.{from_stop}
+use Rattle.scan_state.specs.SetQuery.{SetQueryValue, IsAnswerBetween, IsDirectWalk, secs_of}
+use Rattle.scan_state.specs.Origins.{from_stop}
 use Rattle.profile_scan.specs.Window.{window_of}
 use Rattle.journeys.specs.Answer.{point_of}
 use Rattle.journeys.specs.Extracted.{AttainsBetween}
 use Rattle.journeys.specs.declared.answering.Departure.{Departure}
-use Rattle.departure_lines.specs.Json.{counts_json_line, journey_json, json_if_some, point_json}
-use Rattle.departure_lines.specs.Lines.{IsSummary, counts_line, line_from, point_line}
+use Rattle.departure_lines.specs.Json.{counts_json_line}
+use Rattle.departure_lines.specs.Lines.{ArePoints, counts_line, journeys_text}
 use Rattle.departure_lines.specs.Naming.{is_wanted}
 use Rattle.command_requests.specs.declared.requests.DeparturesForm.{DeparturesForm}
 use Rattle.image_files.specs.declared.names.NameForm.{NameForm}
 use Rattle.departure_lines.specs.declared.stop_lines.StopCounts.{StopCounts}
 use Rattle.departure_lines.specs.declared.stop_lists.WantedStops.{WantedStops}
+use Rattle.departure_lines.specs.declared.stop_words.PointsForm.{PointsForm}
 
 -- points with journeys: there are departures, one for each point in order, each with a journey that attains it, of which `said` holds
 pub record HasJourneys {V : Type 0} (rules : Rules V) (t : TimetableValue) (b : SetQueryValue) (points : List (Point V))
@@ -31,9 +32,15 @@ pub record HasJourneys {V : Type 0} (rules : Rules V) (t : TimetableValue) (b : 
   pub attained : (departure : Departure V) → Contains departures departure → AttainsBetween rules t b (point_of departure) departure.journey
   pub holds : said departures
 
-abbrev pub summary_form : Form → DeparturesForm
-summary_form Form.Lines = DeparturesForm.Summary
-summary_form Form.Json = DeparturesForm.JsonSummary
+abbrev pub journeys_form : Form → DeparturesForm
+journeys_form Form.Lines = DeparturesForm.Journeys
+journeys_form Form.Json = DeparturesForm.Json
+
+abbrev pub points_form : PointsForm → DeparturesForm
+points_form (PointsForm.Each Form.Lines) = DeparturesForm.Points
+points_form (PointsForm.Each Form.Json) = DeparturesForm.JsonPoints
+points_form (PointsForm.Summary Form.Lines) = DeparturesForm.Summary
+points_form (PointsForm.Summary Form.Json) = DeparturesForm.JsonSummary
 
 -- how names are written in a form, to where they are written so in lines: JSON escapes them itself
 abbrev pub names_of : DeparturesForm → NameForm → NameForm
@@ -48,15 +55,18 @@ names_of DeparturesForm.JsonSummary names = NameForm.Raw
 abbrev pub IsInForm : {V : Type 0} → (V → Figures) → Rules V → DeparturesForm → ImageValue → SetQueryValue → ℕ → List (Point V) → Option ℕ → List ℕ → Type 0
 IsInForm figures rules DeparturesForm.Journeys image b stop points walk text =
     HasJourneys rules image.timetable (from_stop b stop) points
-    (λ departures. text ≡ flat_map (line_from figures (stop_bytes image.names stop)) departures)
-IsInForm figures rules DeparturesForm.Points image b stop points walk text = text ≡ flat_map (point_line figures (stop_bytes image.names stop)) points
-IsInForm figures rules DeparturesForm.Summary image b stop points walk text = IsSummary figures Form.Lines (stop_bytes image.names stop) points walk text
-IsInForm figures rules DeparturesForm.JsonSummary image b stop points walk text = IsSummary figures Form.Json (stop_bytes image.names stop) points walk text
+    (λ departures. text ≡ journeys_text figures Form.Lines (stop_bytes image.names stop) departures walk)
 IsInForm figures rules DeparturesForm.Json image b stop points walk text =
     HasJourneys rules image.timetable (from_stop b stop) points
-    (λ departures. text ≡ json_if_some (stop_bytes image.names stop) (map (journey_json figures) departures) walk)
+    (λ departures. text ≡ journeys_text figures Form.Json (stop_bytes image.names stop) departures walk)
+IsInForm figures rules DeparturesForm.Points image b stop points walk text =
+    ArePoints figures (PointsForm.Each Form.Lines) (stop_bytes image.names stop) points walk text
 IsInForm figures rules DeparturesForm.JsonPoints image b stop points walk text =
-    text ≡ json_if_some (stop_bytes image.names stop) (map (point_json figures) points) walk
+    ArePoints figures (PointsForm.Each Form.Json) (stop_bytes image.names stop) points walk text
+IsInForm figures rules DeparturesForm.Summary image b stop points walk text =
+    ArePoints figures (PointsForm.Summary Form.Lines) (stop_bytes image.names stop) points walk text
+IsInForm figures rules DeparturesForm.JsonSummary image b stop points walk text =
+    ArePoints figures (PointsForm.Summary Form.Json) (stop_bytes image.names stop) points walk text
 
 -- the answer of the query from a stop has `count` points, and the text shows them
 pub record IsShownFrom {V : Type 0} (figures : V → Figures) (rules : Rules V) (form : DeparturesForm) (image : ImageValue) (b : SetQueryValue)

@@ -1,20 +1,20 @@
 //! The lines of all stops' best departures.
 
 ghost use Rattle.std.specs.Prelude.{◌≡◌, ◌<◌, ◌+◌, ℕ, List, true, Contains, IfOk, map, string_bytes};
-ghost use Rattle.profile_scan.specs.SetQuery.{IsAnswerBetween, secs_of};
+ghost use Rattle.scan_state.specs.SetQuery.{IsAnswerBetween, secs_of};
 ghost use Rattle.journeys.specs.Answer.{point_of};
 ghost use Rattle.journeys.specs.Extracted.{AttainsBetween};
 ghost use Rattle.command_requests.specs.declared.requests.DeparturesForm.{DeparturesForm};
 ghost use Rattle.profile_scan.specs.Everywhere.{AnswerToAny, asked_to_any, criterion_to_any, walk_to_any};
-ghost use Rattle.profile_scan.specs.Origins.{from_stop};
+ghost use Rattle.scan_state.specs.Origins.{from_stop};
 ghost use Rattle.image_facts.specs.Naming.{stop_bytes};
 ghost use Rattle.image_files.specs.Naming.{printed};
-ghost use Rattle.departure_lines.specs.Showing.{AddsStops, ShowsStop, is_shown, one_if_some, summary_form};
+ghost use Rattle.departure_lines.specs.Showing.{AddsStops, ShowsStop, is_shown, journeys_form, one_if_some};
+ghost use Rattle.departure_lines.specs.Showing.{points_form};
 
 use crate::names::printed_stop_name;
-use crate::stop_json::{append_json, append_json_points};
 use crate::stop_lists::WantedStops;
-use crate::stop_words::{append_lines, append_points, append_summary, summary_of};
+use crate::stop_words::{PointsForm, put_journeys, put_points};
 use command_requests::DeparturesForm;
 use criteria::ShowsFigures;
 use droppable_sources::in_place;
@@ -140,12 +140,27 @@ fn append_stop<C: ShowsFigures + Scanned>(
         (asked_to_any shown.now.profiles.now) stop (string_bytes lines.old) (string_bytes lines.new)) }
 {
     match form {
-        DeparturesForm::Journeys => append_journeys(lines, shown, stop),
-        DeparturesForm::Points => append_bare(lines, shown, stop),
-        DeparturesForm::Summary => append_summed(lines, shown, Form::Lines, stop),
-        DeparturesForm::Json => append_as_json(lines, shown, stop),
-        DeparturesForm::JsonPoints => append_bare_json(lines, shown, stop),
-        DeparturesForm::JsonSummary => append_summed(lines, shown, Form::Json, stop),
+        DeparturesForm::Journeys => append_journeys(lines, shown, Form::Lines, stop),
+        DeparturesForm::Json => append_journeys(lines, shown, Form::Json, stop),
+        DeparturesForm::Points => append_points(lines, shown, PointsForm::Each(Form::Lines), stop),
+        DeparturesForm::JsonPoints => append_points(
+            lines,
+            shown,
+            PointsForm::Each(Form::Json),
+            stop,
+        ),
+        DeparturesForm::Summary => append_points(
+            lines,
+            shown,
+            PointsForm::Summary(Form::Lines),
+            stop,
+        ),
+        DeparturesForm::JsonSummary => append_points(
+            lines,
+            shown,
+            PointsForm::Summary(Form::Json),
+            stop,
+        ),
     }
 }
 
@@ -160,51 +175,8 @@ fn printed_stop<C: ShowsFigures + Scanned>(
     printed_stop_name(shown.alloc, shown.image, stop, shown.names)
 }
 
+// Adds the text of a stop's departures with their journeys, and returns how many there are.
 fn append_journeys<C: ShowsFigures + Scanned>(
-    lines: &mut String,
-    shown: &AnswersToPrint<'_, C>,
-    stop: u32,
-) -> Result<usize, AllocError>
-    requires stop { stop < shown.now.image.now.timetable.stops }
-    requires differ { Contains (asked_to_any shown.now.profiles.now).targets stop → ⊥ }
-    requires same { criterion_to_any shown.now.profiles.now ≡ shown.now.criterion.now }
-    requires answered { AnswerToAny C.rules C.Kept.value shown.now.image.now.timetable shown.now.profiles.now }
-    ensures { IfOk result (ShowsStop C.figures (C.rules shown.now.criterion.now) DeparturesForm.Journeys
-        (printed shown.now.names shown.now.image.now)
-        (asked_to_any shown.now.profiles.now) stop (string_bytes lines.old) (string_bytes lines.new)) }
-{
-    let name = printed_stop(shown, stop)?;
-    let departures = journeys_from(shown, stop)?;
-    append_lines(
-        lines,
-        shown.alloc,
-        shown.criterion,
-        name.as_str(),
-        &departures,
-    )?;
-    Ok(departures.len())
-}
-
-fn append_bare<C: ShowsFigures + Scanned>(
-    lines: &mut String,
-    shown: &AnswersToPrint<'_, C>,
-    stop: u32,
-) -> Result<usize, AllocError>
-    requires stop { stop < shown.now.image.now.timetable.stops }
-    requires differ { Contains (asked_to_any shown.now.profiles.now).targets stop → ⊥ }
-    requires same { criterion_to_any shown.now.profiles.now ≡ shown.now.criterion.now }
-    requires answered { AnswerToAny C.rules C.Kept.value shown.now.image.now.timetable shown.now.profiles.now }
-    ensures { IfOk result (ShowsStop C.figures (C.rules shown.now.criterion.now) DeparturesForm.Points
-        (printed shown.now.names shown.now.image.now)
-        (asked_to_any shown.now.profiles.now) stop (string_bytes lines.old) (string_bytes lines.new)) }
-{
-    let name = printed_stop(shown, stop)?;
-    let points = shown.profiles.points(stop);
-    append_points(lines, shown.criterion, name.as_str(), points)?;
-    Ok(points.len())
-}
-
-fn append_summed<C: ShowsFigures + Scanned>(
     lines: &mut String,
     shown: &AnswersToPrint<'_, C>,
     form: Form,
@@ -214,37 +186,18 @@ fn append_summed<C: ShowsFigures + Scanned>(
     requires differ { Contains (asked_to_any shown.now.profiles.now).targets stop → ⊥ }
     requires same { criterion_to_any shown.now.profiles.now ≡ shown.now.criterion.now }
     requires answered { AnswerToAny C.rules C.Kept.value shown.now.image.now.timetable shown.now.profiles.now }
-    ensures { IfOk result (ShowsStop C.figures (C.rules shown.now.criterion.now) (summary_form form)
-        (printed shown.now.names shown.now.image.now)
-        (asked_to_any shown.now.profiles.now) stop (string_bytes lines.old) (string_bytes lines.new)) }
-{
-    let name = printed_stop(shown, stop)?;
-    let points = shown.profiles.points(stop);
-    let summary = summary_of(shown.criterion, points, direct_secs(shown, stop));
-    append_summary(lines, shown.alloc, form, name.as_str(), summary)?;
-    Ok(points.len())
-}
-
-fn append_as_json<C: ShowsFigures + Scanned>(
-    lines: &mut String,
-    shown: &AnswersToPrint<'_, C>,
-    stop: u32,
-) -> Result<usize, AllocError>
-    requires stop { stop < shown.now.image.now.timetable.stops }
-    requires differ { Contains (asked_to_any shown.now.profiles.now).targets stop → ⊥ }
-    requires same { criterion_to_any shown.now.profiles.now ≡ shown.now.criterion.now }
-    requires answered { AnswerToAny C.rules C.Kept.value shown.now.image.now.timetable shown.now.profiles.now }
-    ensures { IfOk result (ShowsStop C.figures (C.rules shown.now.criterion.now) DeparturesForm.Json
+    ensures { IfOk result (ShowsStop C.figures (C.rules shown.now.criterion.now) (journeys_form form)
         (printed shown.now.names shown.now.image.now)
         (asked_to_any shown.now.profiles.now) stop (string_bytes lines.old) (string_bytes lines.new)) }
 {
     let name = printed_stop(shown, stop)?;
     let departures = journeys_from(shown, stop)?;
     let walk = direct_secs(shown, stop);
-    append_json(
+    put_journeys(
         lines,
         shown.alloc,
         shown.criterion,
+        form,
         name.as_str(),
         &departures,
         walk,
@@ -252,26 +205,29 @@ fn append_as_json<C: ShowsFigures + Scanned>(
     Ok(departures.len())
 }
 
-fn append_bare_json<C: ShowsFigures + Scanned>(
+// Adds the text of a stop's departures without journeys, and returns how many there are.
+fn append_points<C: ShowsFigures + Scanned>(
     lines: &mut String,
     shown: &AnswersToPrint<'_, C>,
+    form: PointsForm,
     stop: u32,
 ) -> Result<usize, AllocError>
     requires stop { stop < shown.now.image.now.timetable.stops }
     requires differ { Contains (asked_to_any shown.now.profiles.now).targets stop → ⊥ }
     requires same { criterion_to_any shown.now.profiles.now ≡ shown.now.criterion.now }
     requires answered { AnswerToAny C.rules C.Kept.value shown.now.image.now.timetable shown.now.profiles.now }
-    ensures { IfOk result (ShowsStop C.figures (C.rules shown.now.criterion.now) DeparturesForm.JsonPoints
+    ensures { IfOk result (ShowsStop C.figures (C.rules shown.now.criterion.now) (points_form form)
         (printed shown.now.names shown.now.image.now)
         (asked_to_any shown.now.profiles.now) stop (string_bytes lines.old) (string_bytes lines.new)) }
 {
     let name = printed_stop(shown, stop)?;
     let points = shown.profiles.points(stop);
     let walk = direct_secs(shown, stop);
-    append_json_points(
+    put_points(
         lines,
         shown.alloc,
         shown.criterion,
+        form,
         name.as_str(),
         points,
         walk,

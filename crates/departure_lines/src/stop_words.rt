@@ -1,20 +1,75 @@
 //! The words of a stop's best departures, as `csa departures` prints them.
 
-ghost use Rattle.std.specs.Prelude.{◌≡◌, ◌<◌, ◌++◌, OnOk, length, map, string_bytes};
+ghost use Rattle.std.specs.Prelude.{◌≡◌, ◌<◌, ◌++◌, ℕ, List, OnOk, length, map, string_bytes};
 ghost use Rattle.std.specs.List.{flat_map};
-ghost use Rattle.departure_lines.specs.Lines.{IsLeast, SumsUp, counts_line, line_from, point_line, sum_line};
-ghost use Rattle.departure_lines.specs.Lines.{sum_words, summary_text, travel};
+ghost use Rattle.departure_lines.specs.Lines.{ArePoints, IsLeast, IsSummary, SumsUp, counts_line, journeys_text};
+ghost use Rattle.departure_lines.specs.Lines.{line_from, point_line, sum_line, sum_words, summary_text, travel};
 
 use crate::listing::{append_by_numbers, append_direct, append_values};
-use crate::stop_json::append_sum_json;
+use crate::stop_json::{append_json, append_json_points, append_sum_json};
 use bags::Point;
 use criteria::ShowsFigures;
 use journeys::Departure;
 use std::alloc::{AllocError, Global};
 use text_pieces::{Form, put_clock, put_number, put_text};
 
-/// Adds the line of each departure from the stop called `name`, with its journey.
-pub fn append_lines<C: ShowsFigures>(
+/// What is added of a stop's departures without journeys.
+#[derive(Clone, Copy)]
+pub enum PointsForm {
+    /// The times of each, and what else the criterion counts.
+    Each(Form),
+    /// What they come to.
+    Summary(Form),
+}
+
+/// Adds the departures from the stop called `name`, with their journeys. Only JSON has the seconds of the direct
+/// footpath.
+pub fn put_journeys<C: ShowsFigures>(
+    lines: &mut String,
+    alloc: Global,
+    criterion: &C,
+    form: Form,
+    name: &str,
+    departures: &[Departure<C::V>],
+    walk: Option<u32>,
+) -> Result<(), AllocError>
+    ensures { OnOk result (string_bytes lines.new ≡ string_bytes lines.old
+        ++ journeys_text C.figures form name.now departures.now walk) }
+{
+    match form {
+        Form::Lines => append_lines(lines, alloc, criterion, name, departures),
+        Form::Json => append_json(lines, alloc, criterion, name, departures, walk),
+    }
+}
+
+/// Adds the departures from the stop called `name`, without journeys. Lines of each one don't have the seconds of the
+/// direct footpath.
+pub fn put_points<C: ShowsFigures>(
+    lines: &mut String,
+    alloc: Global,
+    criterion: &C,
+    form: PointsForm,
+    name: &str,
+    points: &[Point<C::V>],
+    walk: Option<u32>,
+) -> Result<(), AllocError>
+    ensures { OnOk result ((text : List ℕ) × (string_bytes lines.new ≡ string_bytes lines.old ++ text)
+        × ArePoints C.figures form name.now points.now walk text) }
+{
+    match form {
+        PointsForm::Each(Form::Lines) => append_points(lines, criterion, name, points),
+        PointsForm::Each(Form::Json) => {
+            append_json_points(lines, alloc, criterion, name, points, walk)
+        }
+        PointsForm::Summary(form) => {
+            let summary = summary_of(criterion, points, walk);
+            append_summary(lines, alloc, form, name, summary)
+        }
+    }
+}
+
+// Adds the line of each departure from the stop called `name`, with its journey.
+fn append_lines<C: ShowsFigures>(
     lines: &mut String,
     alloc: Global,
     criterion: &C,
@@ -46,8 +101,8 @@ fn append_line<C: ShowsFigures>(
     Ok(())
 }
 
-/// Adds the line of each departure, without a journey.
-pub fn append_points<C: ShowsFigures>(
+// Adds the line of each departure, without a journey.
+fn append_points<C: ShowsFigures>(
     lines: &mut String,
     criterion: &C,
     name: &str,
@@ -90,8 +145,8 @@ pub struct StopSummary {
     pub walk: Option<u32>,
 }
 
-/// What the best departures from a stop come to, if there are any.
-pub fn summary_of<C: ShowsFigures>(
+// What the best departures from a stop come to, if there are any.
+fn summary_of<C: ShowsFigures>(
     criterion: &C,
     points: &[Point<C::V>],
     walk: Option<u32>,
@@ -110,8 +165,8 @@ pub fn summary_of<C: ShowsFigures>(
     })
 }
 
-/// Adds one line for all departures, or one of JSON, if there are any.
-pub fn append_summary(
+// Adds one line for all departures, or one of JSON, if there are any.
+fn append_summary(
     lines: &mut String,
     alloc: Global,
     form: Form,

@@ -1,7 +1,7 @@
 //! The text of the best departures from all stops.
 
 ghost use Rattle.std.specs.Prelude.{◌≡◌, ◌++◌, IfOk, OnOk, length, string_bytes};
-ghost use Rattle.profile_scan.specs.SetQuery.{IsAskableBetween};
+ghost use Rattle.scan_state.specs.SetQuery.{IsAskableBetween};
 ghost use Rattle.profile_scan.specs.Destinations.{question_to_any};
 ghost use Rattle.profile_scan.specs.Window.{window_of};
 ghost use Rattle.image_files.specs.Naming.{printed};

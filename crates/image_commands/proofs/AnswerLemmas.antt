@@ -5,7 +5,7 @@ use Rattle.criteria.specs.declared.figures.Figures.{Figures}
 use Rattle.timetable.specs.TimetableValue.{TimetableValue}
 use Rattle.image_files.specs.declared.names.NameForm.{NameForm}
 use Rattle.image_layout.specs.Image.{ImageValue}
-use Rattle.profile_scan.specs.SetQuery.{SetQueryValue, IsAnswerBetween}
+use Rattle.scan_state.specs.SetQuery.{SetQueryValue, IsAnswerBetween}
 use Rattle.journeys.specs.Answer.{point_of}
 use Rattle.journeys.specs.Extracted.{AttainsBetween}
 use Rattle.journeys.specs.declared.answering.Departure.{Departure}

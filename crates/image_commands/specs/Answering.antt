@@ -14,7 +14,7 @@ use Rattle.journeys.specs.Answer.{point_of}
 use Rattle.journeys.specs.Extracted.{AttainsBetween}
 use Rattle.journeys.specs.declared.answering.Departure.{Departure}
 use Rattle.journeys.specs.declared.question.Window.{Window}
-use Rattle.profile_scan.specs.SetQuery.{SetQueryValue, IsAnswerBetween, IsAskableBetween}
+use Rattle.scan_state.specs.SetQuery.{SetQueryValue, IsAnswerBetween, IsAskableBetween}
 use Rattle.answer_replies.specs.Valuing.{arrival_figures, by_arrival, by_trips, by_walking, trips_figures, walking_figures}
 use Rattle.station_answers.specs.Naming.{AsksBetween, IsFaultBetween}
 use Rattle.station_answers.specs.Reading.{window_between}

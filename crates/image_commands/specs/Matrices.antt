@@ -10,7 +10,7 @@ use Rattle.image_files.specs.Out.{OutFiles}
 use Rattle.image_files.specs.declared.names.NameForm.{NameForm}
 use Rattle.image_files.specs.Writing.{IsPut, IsUnwritable}
 use Rattle.image_layout.specs.Image.{ImageValue}
-use Rattle.profile_scan.specs.SetQuery.{SetQueryValue}
+use Rattle.scan_state.specs.SetQuery.{SetQueryValue}
 use Rattle.station_answers.specs.Asking.{HasBadTimes}
 use Rattle.timetable.specs.declared.limits.TheConstants.{TIME_END}
 use Rattle.timetable.specs.declared.query.QueryFault.TheVariants.{BadWindow}

@@ -7,7 +7,7 @@ use Rattle.criteria.specs.declared.name.CriterionName.{CriterionName}
 use Rattle.criteria.specs.declared.figures.Figures.{Figures}
 use Rattle.timetable.specs.NamesValue.{NamesValue}
 use Rattle.image_layout.specs.Image.{ImageValue}
-use Rattle.profile_scan.specs.SetQuery.{SetQueryValue, pair_of}
+use Rattle.scan_state.specs.SetQuery.{SetQueryValue, pair_of}
 use Rattle.answer_pictures.specs.declared.axis.Axis.{Axis}
 use Rattle.answer_pictures.specs.LineValue.{HeadingValue, LineValue}
 use Rattle.answer_pictures.specs.Pictures.{IsPicture, LiesOn}

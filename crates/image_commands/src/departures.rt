@@ -2,7 +2,7 @@
 //! [--summary | --no-journeys] [--json]`.
 
 ghost use Rattle.std.specs.Prelude.{◌≡◌, ℕ, [], IfOk, MatchResult, string_bytes};
-ghost use Rattle.profile_scan.specs.SetQuery.{IsAskableBetween, question};
+ghost use Rattle.scan_state.specs.SetQuery.{IsAskableBetween, question};
 ghost use Rattle.profile_scan.specs.Destinations.{question_to_any};
 ghost use Rattle.station_answers.specs.Naming.{IsNoQuestion};
 ghost use Rattle.command_requests.specs.declared.statuses.TheConstants.{REFUSED};

@@ -2,7 +2,7 @@
 
 ghost use Rattle.std.specs.Prelude.{◌≡◌, ◌-◌, ◌++◌, IfOk, OnOk, length, take, string_bytes};
 ghost use Rattle.std.specs.List.{AllZip};
-ghost use Rattle.profile_scan.specs.SetQuery.{question};
+ghost use Rattle.scan_state.specs.SetQuery.{question};
 ghost use Rattle.image_commands.specs.Picturing.{IsDrawn, IsDrawnAs, IsHeadingBetween, IsPictureOf};
 ghost use Rattle.image_commands.specs.Picturing.{first_stop, others_text};
 

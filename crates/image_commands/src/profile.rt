@@ -2,7 +2,7 @@
 //! [--names | --json [--legs]] [--picture FILE [--rows N]]`.
 
 ghost use Rattle.std.specs.Prelude.{◌≡◌, IfOk, OnErr, OnOk, string_bytes, true};
-ghost use Rattle.profile_scan.specs.SetQuery.{IsAskableBetween, question};
+ghost use Rattle.scan_state.specs.SetQuery.{IsAskableBetween, question};
 ghost use Rattle.image_commands.specs.Answering.{IsPicturePut, IsPictureUnwritable, IsProfile, IsShown, IsShownBy};
 ghost use Rattle.image_commands.specs.Answering.{IsOverFile, IsPictureUnwritten, LacksPicture};
 ghost use Rattle.image_commands.specs.Commands.{PrintsProfile};

@@ -12,3 +12,7 @@ pub record HoldsOfBytes (may_hold : List ℕ → Option (List ℕ) → Type 0) (
 -- what is at the path may not be opened or read; or a read of the input may fail, for the path `-`
 abbrev pub IsUnreadable : (List ℕ → Type 0) → List ℕ → Type 0 → Type 0
 IsUnreadable may_fail path may_input_fail = ((path ≡ codes "-") × may_input_fail) ⊎ ((path ≢ codes "-") × may_fail path)
+
+-- the input is as it was, unless its path is the one that is read
+abbrev pub IsLeftAlone : {I : Type 0} → List ℕ → I → I → Type 0
+IsLeftAlone path before after = path ≢ codes "-" → after ≡ before

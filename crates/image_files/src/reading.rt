@@ -4,7 +4,7 @@ ghost use Rattle.std.specs.Prelude.{◌≡◌, ◌≢◌, ◌<◌, ◌≤◌, �
 ghost use Rattle.std.specs.Prelude.{IfErr, IfOk, OnOk, IfSome};
 ghost use Rattle.std.specs.Io.KnownBytes.{Consumes, IsAtEnd};
 ghost use Rattle.image_layout.specs.Text.{bytes_of};
-ghost use Rattle.image_files.specs.Held.{HoldsOfBytes, IsUnreadable};
+ghost use Rattle.image_files.specs.Held.{HoldsOfBytes, IsLeftAlone, IsUnreadable};
 
 use crate::disk::ImageDisk;
 use crate::fault::ImageFileFault;
@@ -28,6 +28,7 @@ pub fn image_words<H: ImageDisk + AllocGlobal, I: WatchedRead>(
         → HoldsOfBytes (H.may_hold rt.now) path.now (I.remaining input.old) (λ bytes. length bytes % 4 ≢ 0) }
     ensures failed { result ≡ Err ImageFileFault.Unreadable
         → IsUnreadable (H.may_fail rt.now) path.now (I.may_fail input.old) }
+    ensures input { IsLeftAlone path.now input.old input.new }
 {
     let mut piece = new_piece(rt.alloc(), PIECE_WORDS)?;
     if path == "-" {

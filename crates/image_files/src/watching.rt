@@ -145,12 +145,21 @@ impl<W: HeardWrite> Watched for WatchedWriter<W> {
         self.names
     }
 
-    fn put(&mut self, bytes: &[u8]) -> io::Result<usize> {
-        self.write(bytes)
+    fn put(&mut self, bytes: &[u8]) -> io::Result<usize>
+        ensures bound { WritesAtMost result bytes.now }
+        ensures bytes { WriteAppends (W.contents self.old.writer) (W.contents self.new.writer) result bytes.now }
+        ensures fault { self.new.fault ≡ first_fault self.old.fault bytes.now result }
+        ensures given { W.gave self.new.writer bytes.now result }
+    {
+        Write::write(self, bytes)
     }
 
-    fn finish(&mut self) -> io::Result<()> {
-        self.flush()
+    fn finish(&mut self) -> io::Result<()>
+        ensures bytes { Keeps (W.contents self.old.writer) (W.contents self.new.writer) }
+        ensures fault { self.new.fault ≡ flush_fault self.old.fault result }
+        ensures given { W.flushed self.new.writer result }
+    {
+        Write::flush(self)
     }
 }
 

@@ -161,24 +161,30 @@ run profile --help
 helps Usage: csa profile [OPTIONS] --from <STOP_ID> | Example: csa profile examples/base.csa --from A
 run departures --help
 helps Usage: csa departures [OPTIONS] --to <STOP_ID> | Example: csa departures examples/base.csa --to C
+run matrix --help
+helps Usage: csa matrix [OPTIONS] --after <CLOCK> | A line of --to takes a scan from all stops | Example: csa matrix
 run tables --help
 helps Usage: csa tables [OPTIONS] <FOLDER> | Example: csa tables examples/base --all-faults
 run days --help
 helps Usage: csa days [OPTIONS] <FOLDER> | Example: csa days examples/base
 run stations --help
-helps Usage: csa stations [OPTIONS] <FOLDER> [TEXT] | Example: csa stations examples/base c
+helps Usage: csa stations [OPTIONS] <FOLDER> [TEXT] | case and accents do not matter | \
+Example: csa stations examples/base c
 run build --help
-helps Usage: csa build [OPTIONS] --first <DAY> | Example: csa build examples/base base.csa --first 20240115
+helps Usage: csa build [OPTIONS] --first <DAY> | by the clock in --zone, or today-1 | \
+Example: csa build examples/base base.csa --first 20240115
 run stops --help
-helps Usage: csa stops [OPTIONS] <IMAGE> [TEXT] | Example: csa stops examples/base.csa
+helps Usage: csa stops [OPTIONS] <IMAGE> [TEXT] | csa stations finds the stop_ids of a feed by name | \
+Example: csa stops examples/base.csa
 run upgrade --help
 helps Usage: csa upgrade <IMAGE> <OUT> | Example: csa upgrade examples/base.csa base.csa
 run serve --help
-helps Usage: csa serve [OPTIONS] --image <IMAGE> | Example: csa serve --image examples/base.csa --port 7077
+helps Usage: csa serve [OPTIONS] --image <IMAGE> | --zone at each load | or --idle ended it | \
+Example: csa serve --image examples/base.csa --port 7077
 run help verify
 helps Usage: csa verify <IMAGE> | Example: csa verify examples/base.csa
 run --version
-answers csa 1.20.0
+answers csa 1.21.0
 
 # Days, dates and zones of a wrong form.
 run build no_such_feed none.csa --first 20240115 --days 0 --zone fixed:0

@@ -3,7 +3,7 @@ use Rattle.timetable.specs.TimetableValue.{TimetableValue}
 use Rattle.journeys.specs.Answer.{point_of}
 use Rattle.journeys.specs.Extracted.{AttainsBetween}
 use Rattle.profile_scan.specs.Everywhere.{asked_to_any, criterion_to_any}
-use Rattle.profile_scan.specs.Origins.{from_stop}
+use Rattle.scan_state.specs.Origins.{from_stop}
 use Rattle.departure_lines.proofs.stop_lines.journeys_from.Goals as goal
 
 pub returns-clause-journeys : goal.returns-clause-journeys

@@ -7,7 +7,7 @@ use Rattle.image_files.specs.Naming.{printed}
 use Rattle.image_files.specs.declared.names.NameForm.{NameForm}
 use Rattle.image_layout.specs.Image.{ImageValue}
 use Rattle.profile_scan.specs.Destinations.{question_to_any}
-use Rattle.profile_scan.specs.SetQuery.{SetQueryValue}
+use Rattle.scan_state.specs.SetQuery.{SetQueryValue}
 use Rattle.station_answers.specs.Naming.{IsFaultBetween}
 use Rattle.command_requests.specs.declared.requests.DeparturesRequest.{DeparturesRequest}
 use Rattle.image_commands.specs.Commands.{PrintsDepartures}

@@ -1,4 +1,4 @@
-use Rattle.profile_scan.specs.SetQuery.{question}
+use Rattle.scan_state.specs.SetQuery.{question}
 use Rattle.image_commands.proofs.AnswerLemmas.{answer_shown}
 use Rattle.image_commands.proofs.profile.profile_by.Goals as goal
 
