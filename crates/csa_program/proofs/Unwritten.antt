@@ -74,7 +74,7 @@ module _ (fault : Option ErrorKind) (has : HasFault fault) where
     cut_unwritten : (status : ℕ) → IsSettled status → IsTableEnd may_hold may_fail disk names input input_failed request fault status before after
         → IsTableCut may_hold may_fail disk names input input_failed request fault before after
     cut_unwritten status (inl done) ended =
-        let (image, held, (window, (table, of, shown))) = ended.printed done in
+        let (image, held, (window, apart, (table, of, shown))) = ended.printed done in
         inr (inr (image, held, inr (window, inr (inr (table, of, inr (has, shown_in_part disk table request.out.now before after shown))))))
     cut_unwritten status (inr done) ended = refused_unwritten (ended.refused done)
 

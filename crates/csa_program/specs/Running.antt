@@ -1,5 +1,5 @@
 -- What `csa` prints and writes, and with which status it ends.
-use Rattle.std.specs.Prelude.{◌≡◌, ◌≢◌, ◌⊎◌, ◌<◌, ℕ, ℤ, List, Option, Result, Ok, Err, string_bytes}
+use Rattle.std.specs.Prelude.{◌≡◌, ◌≢◌, ◌⊎◌, ◌<◌, ℕ, ℤ, List, Option, Result, Ok, Err, codes, string_bytes}
 use Rattle.std.specs.Io.KnownBytes.{Appends}
 use Rattle.std.specs.declared.io.ErrorKind.{ErrorKind}
 use Rattle.feed_files.specs.Files.{Gives}
@@ -143,3 +143,18 @@ module _ {D : Type 0} (may_hold : List ℕ → Option (List ℕ) → Type 0) (ma
   IsEndOf (Err (Help text)) = IsTextEnd (string_bytes text) fault
   IsEndOf (Err (Mistake text)) = λ status before after. (status ≡ COMMAND_LINE) × (after ≡ before)
   IsEndOf (Err OutOfMemory) = λ status before after. (status ≡ OUT_OF_MEMORY) × (after ≡ before)
+
+-- the request is of an image on standard input
+abbrev pub IsOfInput : CommandRequest → Type 0
+IsOfInput (requests.OverImage asked) = path_of asked ≡ codes "-"
+IsOfInput (requests.Matrix request) = request.image.now ≡ codes "-"
+IsOfInput (requests.Tables request) = ⊥
+IsOfInput (requests.Days request) = ⊥
+IsOfInput (requests.Stations request) = ⊥
+IsOfInput (requests.Build request) = ⊥
+IsOfInput (requests.Serve request) = request.image.now ≡ codes "-"
+
+-- the words make such a request
+abbrev pub IsOfInputOf : Result CommandRequest NoCommand → Type 0
+IsOfInputOf (Ok request) = IsOfInput request
+IsOfInputOf (Err none) = ⊥

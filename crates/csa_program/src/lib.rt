@@ -4,9 +4,12 @@
 ghost use Rattle.std.specs.Prelude.{◌≡◌, ◌++◌, ◌⊎◌, None, Result, codes, map};
 ghost use Rattle.command_line.specs.declared.reading.NoCommand.{NoCommand};
 ghost use Rattle.command_requests.specs.declared.requests.CommandRequest.{CommandRequest};
+ghost use Rattle.command_requests.specs.Paths.{path_of};
 ghost use Rattle.command_requests.specs.declared.statuses.TheConstants.{ACCEPTED, INPUT_OUTPUT, REFUSED};
+ghost use Rattle.image_files.specs.Held.{IsLeftAlone};
 ghost use Rattle.image_files.specs.Watching.{HasFault};
-ghost use Rattle.csa_program.specs.Running.{IsEnd, IsEndOf, IsEndOver, IsTableEnd, IsTextEnd};
+ghost use Rattle.csa_program.specs.Running.{IsEnd, IsEndOf, IsEndOver, IsOfInput, IsOfInputOf, IsTableEnd};
+ghost use Rattle.csa_program.specs.Running.{IsTextEnd};
 
 mod accepting;
 mod asking;
@@ -66,7 +69,8 @@ pub fn run<
         × IsEndOf (H.ImageDisk.may_hold rt.now) (H.ImageDisk.may_fail rt.now) H.Disk.gives (H.OutDisk.files rt.now)
         (O.form output.old) (H.WallClock.may_show rt.now) (⟦<H as Hosts>⟧.may_host rt.now)
         (I.Read.remaining input.old) (I.may_fail input.old) (O.noted output.new) asked
-        result (O.Write.contents output.old) (O.Write.contents output.new) }
+        result (O.Write.contents output.old) (O.Write.contents output.new)
+        × (¬ (IsOfInputOf asked) → input.new ≡ input.old) }
     ensures clean { (result ≡ ACCEPTED) ⊎ (result ≡ REFUSED) → O.noted output.new ≡ None }
 {
     let notes = TableNotes {
@@ -164,10 +168,12 @@ fn run_read<
     errors: &mut E,
     notes: TableNotes,
 ) -> u8
-    ensures { IsEndOf (H.ImageDisk.may_hold rt.now) (H.ImageDisk.may_fail rt.now) H.Disk.gives (H.OutDisk.files rt.now)
+    ensures ended { IsEndOf (H.ImageDisk.may_hold rt.now) (H.ImageDisk.may_fail rt.now) H.Disk.gives
+        (H.OutDisk.files rt.now)
         (O.form output.old) (H.WallClock.may_show rt.now) (⟦<H as Hosts>⟧.may_host rt.now)
         (I.remaining input.old) (I.may_fail input.old) (O.noted output.new) asked.entry
         result (O.contents output.old) (O.contents output.new) }
+    ensures input { ¬ (IsOfInputOf asked.entry) → input.new ≡ input.old }
 {
     match asked {
         Ok(request) => run_request(rt, request, input, output, errors, notes),
@@ -195,10 +201,12 @@ fn run_request<
     errors: &mut E,
     notes: TableNotes,
 ) -> u8
-    ensures { IsEnd (H.ImageDisk.may_hold rt.now) (H.ImageDisk.may_fail rt.now) H.Disk.gives (H.OutDisk.files rt.now)
+    ensures ended { IsEnd (H.ImageDisk.may_hold rt.now) (H.ImageDisk.may_fail rt.now) H.Disk.gives
+        (H.OutDisk.files rt.now)
         (O.form output.old) (H.WallClock.may_show rt.now) (⟦<H as Hosts>⟧.may_host rt.now)
         (I.remaining input.old) (I.may_fail input.old) (O.noted output.new)
         request.entry result (O.contents output.old) (O.contents output.new) }
+    ensures input { ¬ (IsOfInput request.entry) → input.new ≡ input.old }
 {
     match request {
         CommandRequest::OverImage(asked) => {
@@ -237,9 +245,10 @@ fn matrix_over<
     errors: &mut E,
     notes: TableNotes,
 ) -> u8
-    ensures { IsTableEnd (H.ImageDisk.may_hold rt.now) (H.ImageDisk.may_fail rt.now) (H.OutDisk.files rt.now)
+    ensures ended { IsTableEnd (H.ImageDisk.may_hold rt.now) (H.ImageDisk.may_fail rt.now) (H.OutDisk.files rt.now)
         (O.form output.old) (I.remaining input.old) (I.may_fail input.old) request.entry (O.noted output.new)
         result (O.contents output.old) (O.contents output.new) }
+    ensures input { IsLeftAlone request.entry.image.now input.old input.new }
 {
     let names = output.name_form();
     match open_image(rt, request.image, input, output, errors) {
@@ -262,9 +271,10 @@ fn answer_over<
     errors: &mut E,
     warnings: bool,
 ) -> u8
-    ensures { IsEndOver (H.ImageDisk.may_hold rt.now) (H.ImageDisk.may_fail rt.now) (H.OutDisk.files rt.now)
+    ensures ended { IsEndOver (H.ImageDisk.may_hold rt.now) (H.ImageDisk.may_fail rt.now) (H.OutDisk.files rt.now)
         (O.form output.old) (I.remaining input.old) (I.may_fail input.old) (O.noted output.new) asked.now result
         (O.contents output.old) (O.contents output.new) }
+    ensures input { IsLeftAlone (path_of asked.now) input.old input.new }
 {
     let names = output.name_form();
     match open_image(rt, asked.path(), input, output, errors) {

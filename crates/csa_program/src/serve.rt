@@ -13,6 +13,7 @@ ghost use Rattle.workers.specs.Sessions.{MayClose};
 ghost use Rattle.shelves.specs.ShelfLoads.{shelf_loader};
 ghost use Rattle.feed_loads.specs.Words.{loads_of, outcomes_of};
 ghost use Rattle.workers.specs.Words.{sessions_of};
+ghost use Rattle.image_files.specs.Held.{IsLeftAlone};
 ghost use Rattle.csa_program.specs.Acceptor.{AreCountedOff};
 ghost use Rattle.csa_program.specs.Hosting.{IsHosted, IsRunTo, first_loader, form_asked};
 ghost use Rattle.csa_program.specs.Running.{IsServeEnd};
@@ -226,10 +227,11 @@ pub fn run<
     O: Watched,
     E: Write + Send,
 >(rt: &H, request: ServeRequest<'_>, input: &mut I, output: &mut O, errors: &mut E) -> u8
-    ensures { IsServeEnd (H.ImageDisk.may_hold rt.now) (H.ImageDisk.may_fail rt.now) (H.WallClock.may_show rt.now)
+    ensures ended { IsServeEnd (H.ImageDisk.may_hold rt.now) (H.ImageDisk.may_fail rt.now) (H.WallClock.may_show rt.now)
         (I.remaining input.old)
         (I.may_fail input.old) request.entry (⟦<H as Hosts>⟧.may_host rt.now) (O.noted output.new) result
         (O.contents output.old) (O.contents output.new) }
+    ensures input { IsLeftAlone request.entry.image.now input.old input.new }
 {
     let alloc = rt.alloc();
     let (zone_bytes, first) = match zone_and_plan(rt, &request.plan) {

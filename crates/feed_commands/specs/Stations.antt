@@ -20,9 +20,10 @@ use Rattle.feed_stations.specs.Labels.{AreLabels}
 use Rattle.feed_stations.specs.declared.stop_table.StopTable.{StopTable}
 use Rattle.command_requests.specs.declared.requests.StationsRequest.{StationsRequest}
 
--- the bytes of stops.txt have no fault, and these are their rows, the labels of these, and the rows by which they are listed
+-- the bytes of stops.txt have no fault, and each parent is a station; these are their rows, the labels of these, and the rows by which they are listed
 pub record IsStopTableOf (bytes : List ℕ) (stop_table : StopTable) : Type 0 where
   pub rows : HoldsStopsWithin MAX_STOPS bytes stop_table.rows.items
+  pub fine : first_fault_of Stops (orphan_fault (station_named stop_table.rows.items)) stop_table.rows.items ≡ None
   pub homes : AreHomes stop_table.rows.items stop_table.homes.items
   pub labels : AreLabels bytes stop_table.labels.items
 

@@ -74,22 +74,24 @@ and 400000000 bytes of names: try fewer days"
     format!(in alloc; "{name}: {most}").ok()
 }
 
-/// The message about the first record with a field that isn't UTF-8.
+/// The message about the first bytes that aren't UTF-8: those between two commas or ends of lines.
 fn not_utf8(alloc: Global, file: &str, bytes: &[u8]) -> Option<String> {
-    let mut records = Records::open(alloc, bytes);
-    for _ in 0..u64::MAX {
-        advance(&mut records)?;
-        if let Some(value) = records
-            .last()
-            .iter()
-            .find(|field| str::from_utf8(field).is_err())
-        {
-            let shown = quoted(alloc, value).ok()?;
-            let line = records.position().line;
+    let mut begin = 0usize;
+    for piece in bytes.split(|byte| is_between(*byte)) {
+        let end = begin.saturating_add(piece.len());
+        if str::from_utf8(piece).is_err() {
+            let shown = quoted(alloc, piece).ok()?;
+            let line = lines_of(bytes.get(..end)?);
             return format!(in alloc; "{file}, line {line}: {shown} isn't UTF-8").ok();
         }
+        begin = end.saturating_add(1);
     }
     None
+}
+
+/// Whether a byte stands between two fields or two lines.
+fn is_between(byte: u8) -> bool {
+    byte == b',' || byte == b'\n' || byte == b'\r'
 }
 
 /// The message about the required columns that the header lacks; it shows the header.

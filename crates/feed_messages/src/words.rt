@@ -38,6 +38,7 @@ pub fn reason_of(kind: ErrorKind) -> &'static str {
         ErrorKind::FileTooLarge => "the file would be too large",
         ErrorKind::InvalidFilename => "the name is too long",
         ErrorKind::AddrInUse => "it is in use",
+        ErrorKind::ResourceBusy => "it is standard output, or is in use",
         ErrorKind::AlreadyExists => {
             "files of other runs are beside it, from .part to .part9: remove those of runs that have ended"
         }

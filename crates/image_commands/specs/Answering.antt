@@ -1,5 +1,6 @@
 -- What `csa profile` prints.
-use Rattle.std.specs.Prelude.{◌≡◌, ◌⊎◌, ℕ, List, Option, None, Some, Result, Ok, Err, Contains, String, length, map, string_bytes}
+use Rattle.std.specs.Prelude.{◌≡◌, ◌≢◌, ◌⊎◌, ℕ, List, Option, None, Some, Result, Ok, Err, Contains, String, codes, length, map}
+use Rattle.std.specs.Prelude.{string_bytes}
 use Rattle.std.specs.Borrow.{Bor}
 use Rattle.std.specs.declared.alloc.Global.{Global}
 use Rattle.criteria.specs.Laws.{Rules}
@@ -92,8 +93,21 @@ abbrev pub IsOverFile : OutFiles → List ℕ → Option (Bor (List ℕ)) → Ty
 IsOverFile disk other None = ⊥
 IsOverFile disk other (Some path) = disk.may_be_one path.now other
 
+-- at a path, if one is given, may not be the file that is at the other path
+abbrev pub IsApart : OutFiles → List ℕ → Option (Bor (List ℕ)) → Type 0
+IsApart disk other None = Unit {0}
+IsApart disk other (Some path) = disk.may_be_apart path.now other
+
+-- the image is no input, and its file may be the one at a path
+abbrev pub IsOverImage : OutFiles → List ℕ → Option (Bor (List ℕ)) → Type 0
+IsOverImage disk image path = (image ≢ codes "-") × IsOverFile disk image path
+
+-- a picture that is asked for was put into its file, which isn't that of the image
+abbrev pub IsPictureAt : OutFiles → List ℕ → Option (Bor (List ℕ)) → Option (String Global) → Type 0
+IsPictureAt disk image path picture = (image ≢ codes "-" → IsApart disk image path) × IsPicturePut disk path picture
+
 abbrev pub IsPictureUnwritable : OutFiles → List ℕ → Option (Bor (List ℕ)) → Type 0
-IsPictureUnwritable disk image picture = IsPictureUnwritten disk picture ⊎ IsOverFile disk image picture
+IsPictureUnwritable disk image picture = IsPictureUnwritten disk picture ⊎ IsOverImage disk image picture
 
 -- the question is answered, and its picture may not be written
 abbrev pub LacksPicture : OutFiles → ImageValue → ProfileRequest → Type 0
@@ -103,7 +117,8 @@ LacksPicture disk image request =
 -- the text is that of an answer, whose picture, if one is asked for, is in its file
 abbrev pub IsAnswered : OutFiles → NameForm → ImageValue → ProfileRequest → List ℕ → Type 0
 IsAnswered disk names image request text =
-    (profile : Profile) × AnswersRequest names image request profile × IsPicturePut disk request.picture profile.picture × (text ≡ string_bytes profile.text)
+    (profile : Profile) × AnswersRequest names image request profile × IsPictureAt disk request.image.now request.picture profile.picture
+    × (text ≡ string_bytes profile.text)
 
 -- the request makes no question of the image: this is the line of its fault
 abbrev pub IsNoRequest : ImageValue → ProfileRequest → List ℕ → Type 0

@@ -24,7 +24,7 @@ use Rattle.command_requests.specs.declared.statuses.TheConstants.{ACCEPTED, COMM
 use Rattle.command_endings.specs.Ending.{Ends, EndsUndone}
 use Rattle.image_files.specs.Texts.{HoldsOfText, IsNoTextAt}
 use Rattle.image_files.specs.Watching.{HasFault, IsBegun}
-use Rattle.image_commands.specs.Answering.{IsOverFile}
+use Rattle.image_commands.specs.Answering.{IsApart, IsOverFile}
 use Rattle.image_commands.specs.Departing.{IsListUnreadable}
 use Rattle.image_commands.specs.Refusing.{refusal_line}
 use Rattle.image_commands.specs.declared.refusal.CommandRefusal.TheVariants.{Query as OfQuery}
@@ -159,11 +159,18 @@ pub record IsShownInPart (disk : OutFiles) (table : TravelTable) (out : List ℕ
   pub put : out ≢ codes "-" → (text : List ℕ) × IsTable table text × IsPut disk out text
   pub counted : out ≢ codes "-" → IsBegun before after (counts_of table)
 
--- a table is asked for whose times make a window, and it was printed, or put at its path
+-- the file of a table may be none of those that are read
+abbrev pub IsOverNone : OutFiles → MatrixRequest → Type 0
+IsOverNone disk request =
+    (request.image.now ≢ codes "-" → disk.may_be_apart request.image.now request.out.now)
+    × disk.may_be_apart request.to.now request.out.now × IsApart disk request.out.now request.from
+
+-- a table is asked for whose times make a window, and it was printed, or put at its path, where none of the files that are read may be
 abbrev pub IsTablePrinted : (List ℕ → Option (List ℕ) → Type 0) → OutFiles → NameForm → ImageValue → MatrixRequest → Option (List ℕ) → Option (List ℕ)
     → Type 0
 IsTablePrinted may_hold disk names image request before after =
-    HasWindow request × ((table : TravelTable) × IsTableOf may_hold names image request table × IsTableShown disk table request.out.now before after)
+    HasWindow request × (request.out.now ≢ codes "-" → IsOverNone disk request)
+    × ((table : TravelTable) × IsTableOf may_hold names image request table × IsTableShown disk table request.out.now before after)
 
 -- a table is refused for its times, whose line was printed; or these make a window, a line of a list has what is no stop_id, and nothing was printed
 abbrev pub IsTableRefused : (List ℕ → Option (List ℕ) → Type 0) → ImageValue → MatrixRequest → Option (List ℕ) → Option (List ℕ) → Type 0
@@ -178,7 +185,8 @@ IsTableUnlisted may_hold image request before after = HasWindow request × Holds
 -- the file of a table may be one that is read: the image's, or that of a list
 abbrev pub IsOverRead : OutFiles → MatrixRequest → Type 0
 IsOverRead disk request =
-    disk.may_be_one request.image.now request.out.now ⊎ disk.may_be_one request.to.now request.out.now ⊎ IsOverFile disk request.out.now request.from
+    ((request.image.now ≢ codes "-") × disk.may_be_one request.image.now request.out.now)
+    ⊎ disk.may_be_one request.to.now request.out.now ⊎ IsOverFile disk request.out.now request.from
 
 abbrev pub IsTableUnwritable : OutFiles → MatrixRequest → Type 0
 IsTableUnwritable disk request = (request.out.now ≢ codes "-") × (IsOverRead disk request ⊎ IsUnwritable disk request.out.now)

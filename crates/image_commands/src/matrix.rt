@@ -1,8 +1,8 @@
 //! `csa matrix IMAGE OUT --to FILE [--from FILE] --after .. --until .. --by .. --criterion NAME [--each] [--workers N]
 //! [--progress] [--no-warnings]`.
 
-ghost use Rattle.std.specs.Prelude.{◌≡◌, ◌≢◌, ℕ, List, Contains, IfErr, IfOk, IfSome, OnErr, OnOk};
-ghost use Rattle.std.specs.Prelude.{MatchBool, MatchResult, codes, string_bytes};
+ghost use Rattle.std.specs.Prelude.{◌≡◌, ◌≢◌, ℕ, List, Contains, IfErr, IfOk, OnErr, OnOk};
+ghost use Rattle.std.specs.Prelude.{MatchBool, MatchOption, MatchResult, codes, string_bytes};
 ghost use Rattle.std.specs.Global.{Vec};
 ghost use Rattle.std.specs.Io.KnownBytes.{Appends};
 ghost use Rattle.command_requests.specs.declared.statuses.TheConstants.{ACCEPTED, COMMAND_LINE, INPUT_OUTPUT};
@@ -13,7 +13,7 @@ ghost use Rattle.std.specs.IoError.{error_kind};
 ghost use Rattle.std.specs.declared.io.ErrorKind.TheVariants.{OutOfMemory as WasOutOfMemory};
 ghost use Rattle.matrix_rows.specs.Tables.{CanBeMade, IsTable, IsTableBegun};
 ghost use Rattle.image_commands.specs.Matrices.{AreNoSources, AreOfList, AreSources, EndsTable, EndsWritten};
-ghost use Rattle.image_commands.specs.Matrices.{HasNoWindow, HasWindow, IsCutShort, IsOverRead};
+ghost use Rattle.image_commands.specs.Matrices.{HasNoWindow, HasWindow, IsCutShort, IsOverNone, IsOverRead};
 ghost use Rattle.image_commands.specs.Matrices.{IsSpent, IsTableCutShort, IsTablePrinted, IsTableSpent};
 ghost use Rattle.image_commands.specs.Matrices.{IsTableRefused, IsTableShown, IsTableUnlisted, IsUnasked, IsUnlisted};
 ghost use Rattle.image_commands.specs.Matrices.{IsWrittenAt, counts_of, counts_text};
@@ -25,7 +25,7 @@ use crate::refusal::{CommandRefusal, print_refusal};
 use crate::windows::{DepartureRange, warn_of_window};
 use command_endings::status;
 use command_requests::{MatrixRequest, TableWorkers};
-use feed_messages::{explain, is_file, shown_path};
+use feed_messages::{explain, shown_path};
 use image_files::{ImageDisk, NameForm, OutDisk, Watched, new_file, settle};
 use image_verifier::Verified;
 use matrix_rows::{TravelTable, write_table};
@@ -157,6 +157,8 @@ fn write_unread<H: OutDisk + AllocGlobal + Clock + Threads + Sync, O: Watched, E
     ensures shown { result ≡ ACCEPTED
         → IsTableShown (H.files rt.now) table.now request.entry.out.now (O.contents output.old)
         (O.contents output.new) }
+    ensures apart { result ≡ ACCEPTED → request.entry.out.now ≢ codes "-"
+        → IsOverNone (H.files rt.now) request.entry }
     ensures cut { result ≡ INPUT_OUTPUT → IsCutShort (H.files rt.now) request.entry table.now (O.noted output.new)
         (O.contents output.old) (O.contents output.new) }
     ensures spent { result ≡ OUT_OF_MEMORY → IsSpent table.now request.entry.out.now (O.contents output.old)
@@ -179,9 +181,10 @@ fn explain_over<'a, E: Write>(errors: &mut E, path: &'a str, reason: &'a str) {
 
 // Why the table isn't written, if what is at its path is a file that is read.
 fn read_at_out<H: OutDisk>(rt: &H, request: MatrixRequest<'_>) -> Option<&'static str>
-    ensures { IfSome result (λ _. (request.entry.out.now ≢ codes "-") × IsOverRead (H.files rt.now) request.entry) }
+    ensures { MatchOption result (request.entry.out.now ≢ codes "-" → IsOverNone (H.files rt.now) request.entry)
+        (λ _. (request.entry.out.now ≢ codes "-") × IsOverRead (H.files rt.now) request.entry) }
 {
-    if request.out == "-" || !is_file(rt, request.out) {
+    if request.out == "-" {
         return None;
     }
     if request.image != "-" && rt.is_one(request.image, request.out) {
@@ -191,8 +194,12 @@ fn read_at_out<H: OutDisk>(rt: &H, request: MatrixRequest<'_>) -> Option<&'stati
         return Some("it is the list of --to");
     }
     match request.from {
-        Some(from) if rt.is_one(from, request.out) => Some("it is the list of --from"),
-        _ => None,
+        Some(from) => if rt.is_one(from, request.out) {
+            Some("it is the list of --from")
+        } else {
+            None
+        },
+        None => None,
     }
 }
 

@@ -3,7 +3,7 @@
 ghost use Rattle.std.specs.Prelude.{◌≡◌, ◌≢◌, IfErr, IfOk, OnOk};
 ghost use Rattle.command_requests.specs.declared.statuses.TheConstants.{INPUT_OUTPUT};
 ghost use Rattle.image_verifier.specs.declared.fault.ImageFault.TheVariants.{OutOfMemory as WasOutOfMemory};
-ghost use Rattle.image_files.specs.Held.{HoldsOfBytes, IsUnreadable};
+ghost use Rattle.image_files.specs.Held.{HoldsOfBytes, IsLeftAlone, IsUnreadable};
 ghost use Rattle.command_endings.specs.Ending.{IsOutcome, PrintsRefusal};
 ghost use Rattle.image_commands.specs.Opening.{HaveWordBits, IsRefusedImage, SpellsImage};
 ghost use Rattle.image_commands.specs.Refusing.{refusal_line};
@@ -59,6 +59,7 @@ pub fn open_image<
         (PrintsRefusal (IsRefusedImage (H.may_hold rt.now) path.now (I.remaining input.old)))
         (IsUnreadable (H.may_fail rt.now) path.now (I.may_fail input.old)) (O.noted output.new) status
         (O.contents output.old) (O.contents output.new)) }
+    ensures input { IsLeftAlone path.now input.old input.new }
 {
     let words = match image_words(rt, path, input) {
         Ok(words) => words,

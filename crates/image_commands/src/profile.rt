@@ -1,10 +1,10 @@
 //! `csa profile IMAGE --from STOP_ID.. --to STOP_ID.. --after .. --until .. --by .. --criterion NAME
 //! [--names | --json [--legs]] [--picture FILE [--rows N]]`.
 
-ghost use Rattle.std.specs.Prelude.{◌≡◌, IfOk, OnErr, OnOk, string_bytes, true};
+ghost use Rattle.std.specs.Prelude.{◌≡◌, ◌≢◌, IfOk, OnErr, OnOk, codes, false, string_bytes, true};
 ghost use Rattle.scan_state.specs.SetQuery.{IsAskableBetween, question};
 ghost use Rattle.image_commands.specs.Answering.{IsPicturePut, IsPictureUnwritable, IsProfile, IsShown, IsShownBy};
-ghost use Rattle.image_commands.specs.Answering.{IsOverFile, IsPictureUnwritten, LacksPicture};
+ghost use Rattle.image_commands.specs.Answering.{IsApart, IsOverImage, IsPictureAt, IsPictureUnwritten, LacksPicture};
 ghost use Rattle.image_commands.specs.Commands.{PrintsProfile};
 ghost use Rattle.command_endings.specs.Ending.{IsOutcome, PrintsOnly};
 ghost use Rattle.image_commands.specs.Listing.{IsInForm};
@@ -73,8 +73,8 @@ fn print_profile<H: OutDisk + AllocGlobal, O: Watched, E: Write>(
     output: &mut O,
     errors: &mut E,
 ) -> u8
-    ensures { IsOutcome (PrintsOnly (λ text. IsPicturePut (H.files rt.now) request.now.picture profile.now.picture
-        × (text ≡ string_bytes profile.now.text)))
+    ensures { IsOutcome (PrintsOnly (λ text. IsPictureAt (H.files rt.now) request.now.image.now request.now.picture
+        profile.now.picture × (text ≡ string_bytes profile.now.text)))
         (IsPictureUnwritable (H.files rt.now) request.now.image.now request.now.picture)
         (O.noted output.new) result
         (O.contents output.old) (O.contents output.new) }
@@ -98,7 +98,8 @@ fn print_profile<H: OutDisk + AllocGlobal, O: Watched, E: Write>(
 
 /// Whether the path of a picture, if one is asked for, leads to the file of the image.
 fn is_over_image<H: OutDisk>(rt: &H, path: Option<&str>, image: &str) -> bool
-    ensures { result ≡ true → IsOverFile (H.files rt.now) image.now path.entry }
+    ensures over { result ≡ true → IsOverImage (H.files rt.now) image.now path.entry }
+    ensures apart { result ≡ false → image.now ≢ codes "-" → IsApart (H.files rt.now) image.now path.entry }
 {
     match path {
         Some(path) => image != "-" && rt.is_one(path, image),

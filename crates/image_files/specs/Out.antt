@@ -17,8 +17,10 @@ pub record OutFiles : Type 1 where
   pub may_not_open : List ℕ → Type 0
   -- a file may not be moved to this path
   pub may_not_move : List ℕ → Type 0
-  -- at these two paths may be one and the same file
+  -- at these two paths may be one and the same plain file
   pub may_be_one : List ℕ → List ℕ → Type 0
+  -- at these two paths may be no such file
+  pub may_be_apart : List ℕ → List ℕ → Type 0
 
 -- nothing is known
 abbrev pub any_files : OutFiles
@@ -31,4 +33,5 @@ any_files = record {
   may_not_open = λ path. Unit {0};
   may_not_move = λ path. Unit {0};
   may_be_one = λ path other. Unit {0};
+  may_be_apart = λ path other. Unit {0};
 }

@@ -43,19 +43,27 @@ path_beside path (Some beside) = string_bytes beside
 abbrev pub write_path_of : {F : Type 0} → NewFile F → List ℕ
 write_path_of file = path_beside file.path.now file.beside
 
--- a file that is to be at the path is made beside it, if at the path is a plain file or nothing; what else is there is opened
+-- where a machine has the standard output of a program
+abbrev pub standard_output : List ℕ
+standard_output = codes "/dev/stdout"
+
+-- a file that is to be at the path is made beside it, if at the path is a plain file or nothing; what else is there is opened, but for a file that standard
+-- output is written to
 abbrev pub IsWritePath : OutFiles → List ℕ → List ℕ → Type 0
-IsWritePath disk path write_path = (IsBeside path write_path × disk.plain path) ⊎ ((write_path ≡ path) × disk.special path)
+IsWritePath disk path write_path =
+    disk.may_be_apart path standard_output
+    × ((IsBeside path write_path × disk.plain path) ⊎ ((write_path ≡ path) × disk.special path))
 
 -- a file that is to be at the path may not be made or written beside it, if at the path is a plain file or nothing; what else is there may not be opened or
--- written; or a file may not be moved to the path
+-- written; or a file may not be moved to the path; or it may be the file that standard output is written to
 abbrev pub IsUnwritable : OutFiles → List ℕ → Type 0
 IsUnwritable disk path =
     (disk.plain path × MayNotMakeBeside disk path) ⊎ disk.may_not_move path ⊎ (disk.special path × disk.may_not_open path)
+    ⊎ disk.may_be_one path standard_output
 
--- what is at the path may not be opened or written
+-- what is at the path may not be opened or written, or may be the file that standard output is written to
 abbrev pub IsUnwritableInto : OutFiles → List ℕ → Type 0
-IsUnwritableInto disk path = disk.may_not_open path ⊎ disk.may_not_move path
+IsUnwritableInto disk path = disk.may_not_open path ⊎ disk.may_not_move path ⊎ disk.may_be_one path standard_output
 
 -- a file was made or opened so that it will be at the path
 pub record IsNew {F : Type 0} (contents : F → Option (List ℕ)) (disk : OutFiles) (path : List ℕ) (made : NewFile F) : Type 0 where
@@ -75,9 +83,9 @@ pub record IsFileAt (disk : OutFiles) (write_path path bytes : List ℕ) : Type 
 abbrev pub IsPut : OutFiles → List ℕ → List ℕ → Type 0
 IsPut disk path bytes = (write_path : List ℕ) × IsWritePath disk path write_path × IsFileAt disk write_path path bytes
 
--- the bytes were put into the file at the path, which was emptied, or into what else is there
+-- the bytes were put into the file at the path, which was emptied, or into what else is there, but for a file that standard output is written to
 abbrev pub IsPutInto : OutFiles → List ℕ → List ℕ → Type 0
-IsPutInto disk path bytes = IsFileAt disk path path bytes
+IsPutInto disk path bytes = disk.may_be_apart path standard_output × IsFileAt disk path path bytes
 
 -- the image of a timetable and its names, in the current layout, was put at the path
 abbrev pub IsImagePut : OutFiles → List ℕ → TimetableValue → NamesValue → Type 0

@@ -38,9 +38,10 @@ pub trait OutDisk: Files {
             → (files self.now).may_not_open path.now) }
         ensures failed { IfErr result (λ _. (files self.now).may_not_open path.now) };
 
-    /// Whether there is one and the same file at two paths, which links may lead to.
+    /// Whether there is one and the same plain file at two paths, which links may lead to.
     fn is_one(&self, path: &str, other: &str) -> bool
-        ensures { result ≡ true → (files self.now).may_be_one path.now other.now };
+        ensures one { result ≡ true → (files self.now).may_be_one path.now other.now }
+        ensures apart { result ≡ false → (files self.now).may_be_apart path.now other.now };
 
     /// Moves a file from the path at which it was made or opened to another. It stays if that is the same.
     fn brought(&self, file: &WatchedWriter<Self::File>, from: &str, to: &str) -> io::Result<()>
@@ -73,7 +74,7 @@ impl<H: Files> OutDisk for H {
     fn is_one(&self, path: &str, other: &str) -> bool {
         match (fs::metadata(self, path), fs::metadata(self, other)) {
             (Ok(one), Ok(two)) => {
-                one.ino() != 0 && one.ino() == two.ino() && one.dev() == two.dev()
+                one.is_file() && one.ino() != 0 && one.ino() == two.ino() && one.dev() == two.dev()
             }
             _ => false,
         }

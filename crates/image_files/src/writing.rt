@@ -15,7 +15,7 @@ use crate::reading::PIECE_WORDS;
 use crate::watching::{Watched, WatchedWriter, write_all};
 use image_layout::Words;
 use std::alloc::{AllocError, Global};
-use std::io::Write;
+use std::io::{ErrorKind, Write};
 use std::{fs, io};
 
 /// A file that is to be at a path.
@@ -28,9 +28,13 @@ pub struct NewFile<'a, F> {
     beside: Option<String>,
 }
 
+/// Where standard output is. If that is a file, no other is written there: lines would go over its beginning.
+const STANDARD_OUTPUT: &str = "/dev/stdout";
+
 /// Makes the file that is to be at a path, empty. If there is a plain file or nothing, that is `PATH.part`, or one with
 /// a number behind that, which `settle` renames: so the file is never half written, not even if it is the one that was
-/// read. If there is anything else, such as a pipe, it is written into that.
+/// read. If there is anything else, such as a pipe, it is written into that, but not into the file of standard output:
+/// then the error's kind is `ResourceBusy`.
 pub fn new_file<'a, H: OutDisk + AllocGlobal>(
     rt: &H,
     path: &'a str,
@@ -41,6 +45,9 @@ pub fn new_file<'a, H: OutDisk + AllocGlobal>(
     ensures failed { IfErr result (λ error. error_kind error ≢ OutOfMemory
         → IsUnwritable (H.files rt.now) path.now) }
 {
+    if rt.is_one(path, STANDARD_OUTPUT) {
+        return Err(io::Error::from(ErrorKind::ResourceBusy));
+    }
     if rt.is_special(path) {
         let file = rt.opened(path)?;
         return Ok(NewFile {
@@ -94,7 +101,7 @@ fn made_beside<H: OutDisk + AllocGlobal>(
 fn is_taken<F>(made: &io::Result<F>) -> bool {
     match made {
         Ok(_) => false,
-        Err(error) => error.kind() == io::ErrorKind::AlreadyExists,
+        Err(error) => error.kind() == ErrorKind::AlreadyExists,
     }
 }
 
@@ -188,11 +195,15 @@ fn brought<H: OutDisk>(
     }
 }
 
-/// Writes a text into the file at a path, which is made or emptied first, or into what else is there.
+/// Writes a text into the file at a path, which is made or emptied first, or into what else is there, but not into the
+/// file of standard output: then the error's kind is `ResourceBusy`.
 pub fn put_text_into<H: OutDisk>(rt: &H, path: &str, text: &str) -> io::Result<()>
     ensures put { OnOk result (IsPutInto (H.files rt.now) path.now text.now) }
     ensures failed { OnErr result (IsUnwritableInto (H.files rt.now) path.now) }
 {
+    if rt.is_one(path, STANDARD_OUTPUT) {
+        return Err(io::Error::from(ErrorKind::ResourceBusy));
+    }
     let mut file = rt.opened(path)?;
     write_text(&mut file, text)?;
     rt.brought(&file, path, path)

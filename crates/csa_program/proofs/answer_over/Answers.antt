@@ -8,8 +8,8 @@ use Rattle.image_commands.specs.Opening.{IsRefusedImage, SpellsImage}
 use Rattle.csa_program.proofs.OverImages.{over_image, over_none}
 use Rattle.csa_program.proofs.answer_over.Goals as goal
 
-pub returns-in-Ok : goal.returns-in-Ok
-returns-in-Ok g c =
+pub returns-in-Ok-clause-ended : goal.returns-in-Ok-clause-ended
+returns-in-Ok-clause-ended g c =
     let may_hold = g.H.ImageDisk.may_hold c.args.rt.now in
     let disk = g.H.OutDisk.files c.args.rt.now in
     let asked = c.args.asked.now in
@@ -28,8 +28,8 @@ returns-in-Ok g c =
     in
     over_image may_hold (path_of asked) input (λ i. PrintsAsked may_hold disk names i asked) _ _ _ _ _ image _ _ held c.in-Ok.ensures.silent answered
 
-pub returns-in-Err : goal.returns-in-Err
-returns-in-Err g c =
+pub returns-in-Err-clause-ended : goal.returns-in-Err-clause-ended
+returns-in-Err-clause-ended g c =
     let may_hold = g.H.ImageDisk.may_hold c.args.rt.now in
     let disk = g.H.OutDisk.files c.args.rt.now in
     let asked = c.args.asked.now in

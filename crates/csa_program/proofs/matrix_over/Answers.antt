@@ -4,8 +4,8 @@ use Rattle.csa_program.specs.Running.{IsTableEnd}
 use Rattle.csa_program.proofs.OverImages.{table_over, no_table}
 use Rattle.csa_program.proofs.matrix_over.Goals as goal
 
-pub returns-in-Ok : goal.returns-in-Ok
-returns-in-Ok g c =
+pub returns-in-Ok-clause-ended : goal.returns-in-Ok-clause-ended
+returns-in-Ok-clause-ended g c =
     let may_hold = g.H.ImageDisk.may_hold c.args.rt.now in
     let may_fail = g.H.ImageDisk.may_fail c.args.rt.now in
     let disk = g.H.OutDisk.files c.args.rt.now in
@@ -21,8 +21,8 @@ returns-in-Ok g c =
     c.in-Ok.ensures.image c.in-Ok.ensures.silent
     run_result.status run_result.printed run_result.refused run_result.unlisted run_result.cut run_result.spent)
 
-pub returns-in-Err : goal.returns-in-Err
-returns-in-Err g c =
+pub returns-in-Err-clause-ended : goal.returns-in-Err-clause-ended
+returns-in-Err-clause-ended g c =
     no_table (g.H.ImageDisk.may_hold c.args.rt.now) (g.H.ImageDisk.may_fail c.args.rt.now) (g.H.OutDisk.files c.args.rt.now)
     (g.O.Watched.form c.args.output.now)
     (g.I.Read.remaining c.args.input.now) _ c.args.request _ _ _ _ c.in-Err.ensures.refused

@@ -18,5 +18,6 @@ returns-clause-ended g c =
       unwritten_as {D = g.row.H.Denot} (g.H.ImageDisk.may_hold c.args.rt.now) (g.H.ImageDisk.may_fail c.args.rt.now) g.H.Disk.gives
           (g.H.OutDisk.files c.args.rt.now) (g.O.Watched.form c.args.output.now) (g.H.WallClock.may_show c.args.rt.now) _ (g.I.Read.remaining c.args.input.now)
           (g.I.WatchedRead.may_fail c.args.input.now) (g.O.Watched.noted ran.new.output) ended status.result
-          (g.O.Write.contents c.args.output.now) (g.O.Write.contents ran.new.output) c.asked-asked.result kept ran.ensures,
+          (g.O.Write.contents c.args.output.now) (g.O.Write.contents ran.new.output) c.asked-asked.result kept ran.ensures.ended,
+      ran.ensures.input,
     )

@@ -4,8 +4,8 @@ use Rattle.csa_program.proofs.TextEnds.{text_told}
 use Rattle.csa_program.proofs.run_read.Goals as goal
 
 -- the help is written
-pub returns-in-Err-Help : goal.returns-in-Err-Help
-returns-in-Err-Help g c =
+pub returns-in-Err-Help-clause-ended : goal.returns-in-Err-Help-clause-ended
+returns-in-Err-Help-clause-ended g c =
     let text = c.in-Err-Help.text in
     let asks : c.args.asked ≡ Err (Help text) = search rules in
     let same : c.as_str.result.now ≡ string_bytes text = search rules in

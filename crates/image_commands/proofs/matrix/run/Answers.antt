@@ -24,6 +24,7 @@ write_unread-requires g c = (
 pub returns-in-Ok-clause-printed : goal.returns-in-Ok-clause-printed
 returns-in-Ok-clause-printed g c = λ is. (
   c.if-not-has_window.ensures,
+  c.write_unread.ensures.apart is,
   (c.table_of-table.result, asked g (goal.at.returns-in-Ok-clause-printed g c).After-table_of-table, c.write_unread.ensures.shown is),
 )
 

@@ -1,5 +1,5 @@
 use Rattle.std.proofs.Common.{◌≡◌, inl, refl, rules, string_bytes}
-use Rattle.image_commands.specs.Answering.{HasFault, IsAnswered, IsNoRequest, IsPicturePut}
+use Rattle.image_commands.specs.Answering.{HasFault, IsAnswered, IsNoRequest, IsPictureAt}
 use Rattle.image_commands.specs.Commands.{PrintsProfile}
 use Rattle.command_endings.specs.Ending.{PrintsOnly}
 use Rattle.image_commands.specs.Refusing.{refusal_line}
@@ -14,7 +14,7 @@ returns-in-Ok g c =
     let request = c.args.request.now in
     let profile = c.in-Ok.profile in
     let names = c.args.names in
-    outcome_of (PrintsOnly (λ text. IsPicturePut disk request.picture profile.picture × (text ≡ string_bytes profile.text)))
+    outcome_of (PrintsOnly (λ text. IsPictureAt disk request.image.now request.picture profile.picture × (text ≡ string_bytes profile.text)))
     (PrintsProfile disk names image request) _ _ _ _ _ _
     (λ s text is. inl (is.0, (profile, c.in-Ok.ensures, is.1.0, is.1.1))) (λ can. (can, (names, profile, c.in-Ok.ensures))) c.print_profile.ensures
 

@@ -5,7 +5,7 @@ use Rattle.image_files.proofs.writing.new_file.Goals as goal
 pub returns-then-is_special-clause-written : goal.returns-then-is_special-clause-written
 returns-then-is_special-clause-written g c =
     let special : (g.H.OutDisk.files c.args.rt.now).special c.args.path.now = search rules in
-    λ file has. inr (inr (special, c.in_ok-file.ensures.written file has))
+    λ file has. inr (inr (inl (special, c.in_ok-file.ensures.written file has)))
 
 pub returns-clause-written : goal.returns-clause-written
 returns-clause-written g c =
